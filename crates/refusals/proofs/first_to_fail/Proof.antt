@@ -1,0 +1,24 @@
+-- `refusals::first_to_fail` meets its contract: the arm that is taken is the clause of `answerOf`, and the answer of one test is the test.
+use mathlib.Core.Path.{sym}
+use borrow.Author.Needs.{needs}
+use Rattle.refusals.specs.Order.{answerOf}
+use Rattle.refusals.proofs.Answers.{answer-of-one}
+use Rattle.refusals.proofs.first_to_fail.Statement.{statement}
+use Rattle.refusals.proofs.first_to_fail.Tie as tie
+
+enum-told : tie.Need-enum-told
+enum-told c = search needs
+
+enum-told-2 : tie.Need-enum-told-2
+enum-told-2 c = search needs
+
+returns : tie.Need-returns
+unfolding answerOf
+returns c = search needs
+
+returns-2 : tie.Need-returns-2
+unfolding answerOf
+returns-2 c = rw (c .enum-told2 .given .1) (sym (answer-of-one (c .before .before .args .later)))
+
+pub first-to-fail-spec : {M : Type 1} → statement M
+first-to-fail-spec = tie.close (tie.spec enum-told enum-told-2 returns returns-2)

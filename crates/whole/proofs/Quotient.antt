@@ -1,0 +1,199 @@
+-- Laws of the rounded quotient, by which other crates know it.
+-- Only what stands under "The half", and the worked values, say which way a half goes: the rest is so of every rounding to the nearest.
+use mathlib.Core.Path.{_≡_, refl, sym, ap, _∙_}
+use mathlib.Core.List.{List, [], _∷_, _++_, map}
+use Prim.Native.Nat.{ℕ, zero, suc, _+_, _-_, _*_, _/_, _%_, _^_, _≤_, _<_, zero-le}
+use native.Mathlib.Nat.{div-zero, zero-mul, div-mul-le-self, lt-div-mul-add, div-add-mod', mod-lt, div-eq-of-lt-le, lt-of-mul-lt-mul-right, le-mul-of-pos-right}
+use native.Mathlib.Omega.{arith}
+use lib.IntN.{ℤ, pos, negsuc, negℤ, natAbs, negℤ-negℤ, negℤ-+ℤ, +ℤ-invr, _-ℤ_, _*ℤ_}
+use mir.Syntax.{Width}
+use mir.Val.{SFits}
+use Rattle.whole.specs.Quotient.{nearest, withSign, roundedQuotient}
+use Rattle.whole.proofs.Magnitudes.{natAbs-neg, natAbs-withSign, natAbs-distance, withSign-fits}
+
+-- ---- Magnitudes
+
+pub nearest-none : (n : ℕ) → nearest n 0 ≡ 0
+unfolding nearest
+nearest-none n = div-zero (2 * n + 0)
+
+-- twice the distance from the exact value is at most the denominator, on either side
+nearest-at-most : (n d : ℕ) → 2 * (nearest n d * d) ≤ 2 * n + d
+unfolding nearest
+nearest-at-most n d = omega (arith, div-mul-le-self (2 * n + d) (2 * d))
+
+nearest-at-least : (n d : ℕ) → 0 < d → 2 * n ≤ 2 * (nearest n d * d) + d
+unfolding nearest
+nearest-at-least n d h = omega (arith, lt-div-mul-add {a = 2 * n + d} {b = 2 * d} (omega arith))
+
+-- what is nearer than a half is the nearest
+pub nearest-only : (n d k : ℕ) → 2 * (k * d) < 2 * n + d → 2 * n < 2 * (k * d) + d → nearest n d ≡ k
+nearest-only n d k low high =
+    let q = nearest n d in
+    let over : 0 < d = omega arith in
+    let up : q < suc k = lt-of-mul-lt-mul-right d (omega (arith, nearest-at-most n d)) in
+    let down : k < suc q = lt-of-mul-lt-mul-right d (omega (arith, nearest-at-least n d over)) in
+    omega arith
+
+pub nearest-within : (n d : ℕ) → nearest n d ≤ n
+nearest-within n zero = rw nearest-none zero-le
+nearest-within n (suc d) =
+    let over : 0 < suc d = omega arith in
+    let within : nearest n (suc d) < suc n = lt-of-mul-lt-mul-right (suc d) (omega (arith, nearest-at-most n (suc d), le-mul-of-pos-right n over)) in
+    omega arith
+
+-- a remainder that is nearer to 0 than to the denominator is left out
+pub nearest-down : (n d : ℕ) → 0 < d → n % d < d - n % d → nearest n d ≡ n / d
+nearest-down n d h low = nearest-only n d (n / d) (omega (arith, div-add-mod' n d)) (omega (arith, div-add-mod' n d))
+
+-- ---- Signs
+
+-- the magnitude of a rounded quotient
+rounded-magnitude : (z : ℤ) (d : ℕ) → natAbs (roundedQuotient z d) ≡ nearest (natAbs z) d
+unfolding roundedQuotient
+rounded-magnitude z d = natAbs-withSign z (nearest (natAbs z) d)
+
+-- odd in its first argument
+pub rounded-odd : (z : ℤ) (d : ℕ) → roundedQuotient (negℤ z) d ≡ negℤ (roundedQuotient z d)
+unfolding roundedQuotient
+rounded-odd (pos zero) d = rw nothing
+  where
+    nothing : nearest 0 d ≡ 0
+    nothing = omega (arith, nearest-within 0 d)
+rounded-odd (pos (suc n)) d = refl
+rounded-odd (negsuc n) d = sym (negℤ-negℤ (pos (nearest (suc n) d)))
+
+-- what holds of every n, and passes from n to −n, holds of every whole number
+by-sign : (P : ℤ → Type 0) → ((n : ℕ) → P (pos n)) → ((z : ℤ) → P z → P (negℤ z)) → (z : ℤ) → P z
+by-sign P f g (pos n) = f n
+by-sign P f g (negsuc n) = g (pos (suc n)) (f (suc n))
+
+-- how far the numerator z lies from k times the denominator: the same for −z and −k
+abbrev apart : ℤ → ℤ → ℕ → ℕ
+apart z k d = natAbs (z -ℤ (k *ℤ pos d))
+
+product-odd : (k : ℤ) (d : ℕ) → negℤ k *ℤ pos d ≡ negℤ (k *ℤ pos d)
+product-odd (pos zero) d = rw (zero-mul d)
+product-odd (pos (suc k)) d = refl
+product-odd (negsuc k) d = sym (negℤ-negℤ (pos (suc k * d)))
+
+apart-odd : (z k : ℤ) (d : ℕ) → apart (negℤ z) (negℤ k) d ≡ apart z k d
+apart-odd z k d =
+    ap (λ (x : ℤ). natAbs (negℤ z -ℤ x)) (product-odd k d)
+    ∙ ap natAbs (sym (negℤ-+ℤ z (negℤ (k *ℤ pos d))))
+    ∙ natAbs-neg (z -ℤ (k *ℤ pos d))
+
+-- ---- The laws
+
+-- a denominator of 0 gives 0
+pub rounded-none : (z : ℤ) → roundedQuotient z 0 ≡ pos 0
+unfolding roundedQuotient
+rounded-none (pos n) = ap pos (nearest-none n)
+rounded-none (negsuc n) = ap (λ (m : ℕ). negℤ (pos m)) (nearest-none (suc n))
+
+-- twice the distance from the exact value is at most the denominator
+pub rounded-near : (z : ℤ) (d : ℕ) → 0 < d → 2 * natAbs (z -ℤ (roundedQuotient z d *ℤ pos d)) ≤ d
+unfolding roundedQuotient
+rounded-near z d h = by-sign Near counted turned z
+  where
+    Near : ℤ → Type 0
+    Near z = 2 * apart z (roundedQuotient z d) d ≤ d
+
+    counted : (n : ℕ) → Near (pos n)
+    counted n = omega (arith, natAbs-distance n (nearest n d * d), nearest-at-most n d, nearest-at-least n d h)
+
+    turned : (z : ℤ) → Near z → Near (negℤ z)
+    turned z near = rw (rounded-odd z d, apart-odd z (roundedQuotient z d) d) near
+
+-- a whole number that is nearer than a half is the rounded quotient
+pub rounded-only : (z k : ℤ) (d : ℕ) → 2 * natAbs (z -ℤ (k *ℤ pos d)) < d → roundedQuotient z d ≡ k
+unfolding roundedQuotient
+rounded-only z k d = by-sign Only counted turned z k
+  where
+    Only : ℤ → Type 0
+    Only z = (k : ℤ) → 2 * apart z k d < d → roundedQuotient z d ≡ k
+
+    counted : (n : ℕ) → Only (pos n)
+    counted n (pos k) h =
+        ap pos (nearest-only n d k (omega (arith, natAbs-distance n (k * d))) (omega (arith, natAbs-distance n (k * d))))
+    counted n (negsuc k) h =
+        let across : 2 * (n + suc k * d) < d = rw (negℤ-negℤ (pos (suc k * d))) at h in
+        absurd (omega arith)
+
+    turned : (z : ℤ) → Only z → Only (negℤ z)
+    turned z only k h =
+        rounded-odd z d ∙ ap negℤ (only (negℤ k) (rw (← apart-odd z (negℤ k) d, negℤ-negℤ k) h)) ∙ negℤ-negℤ k
+
+-- a whole value stays
+pub rounded-whole : (k : ℤ) (d : ℕ) → 0 < d → roundedQuotient (k *ℤ pos d) d ≡ k
+rounded-whole k d h = rounded-only (k *ℤ pos d) k d (rw (+ℤ-invr (k *ℤ pos d)) h)
+
+-- never past the numerator, for any denominator
+pub rounded-within : (z : ℤ) (d : ℕ) → natAbs (roundedQuotient z d) ≤ natAbs z
+rounded-within z d = rw (rounded-magnitude z d) (nearest-within (natAbs z) d)
+
+-- so a rounded quotient is in range wherever its numerator is
+pub rounded-fits : (w : Width) (z : ℤ) (d : ℕ) → SFits w z → SFits w (roundedQuotient z d)
+unfolding roundedQuotient
+rounded-fits w z d f = withSign-fits w z (nearest (natAbs z) d) (nearest-within (natAbs z) d) f
+
+-- and never past the exact value by more than a half
+pub rounded-reach : (z : ℤ) (d : ℕ) → 2 * (natAbs (roundedQuotient z d) * d) ≤ 2 * natAbs z + d
+rounded-reach z d = rw (rounded-magnitude z d) (nearest-at-most (natAbs z) d)
+
+-- ---- The half
+
+nearest-from-half : (n d k : ℕ) → (2 * k + 1) * d ≤ 2 * n → 2 * n < (2 * k + 3) * d → nearest n d ≡ k + 1
+unfolding nearest
+nearest-from-half n d k low high = div-eq-of-lt-le (2 * d) (omega arith) (omega arith)
+
+-- a remainder that is as near to the denominator as to 0, or nearer, counts as one more
+pub nearest-up : (n d : ℕ) → 0 < d → d - n % d ≤ n % d → nearest n d ≡ n / d + 1
+nearest-up n d h high = nearest-from-half n d (n / d) (omega (arith, div-add-mod' n d)) (omega (arith, div-add-mod' n d, mod-lt n h))
+
+-- at exactly a half, k + 1/2, the rounded quotient goes away from zero
+pub rounded-half : (z : ℤ) (d k : ℕ) → 0 < d → 2 * natAbs z ≡ (2 * k + 1) * d → roundedQuotient z d ≡ withSign z (k + 1)
+unfolding roundedQuotient
+rounded-half z d k h half = ap (withSign z) (nearest-from-half (natAbs z) d k (omega arith) (omega arith))
+
+-- ---- Worked values
+
+-- a numerator, a denominator, and what they give
+pub record Row : Type 0 where
+  pub numerator : ℤ
+  pub denominator : ℕ
+  pub rounded : ℤ
+
+abbrev row : ℤ → ℕ → ℤ → Row
+row n d r = record { numerator = n; denominator = d; rounded = r }
+
+-- document 01, "Sheets worked through", case 5
+abbrev pub case-5 : List Row
+case-5 =
+    row (negℤ (pos 12)) 8 (negℤ (pos 2))
+    ∷ row (pos 4) 8 (pos 1)
+    ∷ row (negℤ (pos 42)) 18 (negℤ (pos 2))
+    ∷ []
+
+-- the smallest and the largest number of 64 bits, over the least and the greatest denominators
+abbrev smallest : ℤ
+smallest = negℤ (pos (2 ^ 63))
+
+abbrev largest : ℤ
+largest = pos (2 ^ 63 - 1)
+
+abbrev pub edges : List Row
+edges =
+    row smallest 0 (pos 0)
+    ∷ row smallest 1 smallest
+    ∷ row smallest 2 (negℤ (pos (2 ^ 62)))
+    ∷ row smallest (2 ^ 64 - 1) (negℤ (pos 1))
+    ∷ row largest 0 (pos 0)
+    ∷ row largest 1 largest
+    ∷ row largest 2 (pos (2 ^ 62))
+    ∷ row largest (2 ^ 64 - 1) (pos 0)
+    ∷ []
+
+pub worked : map (λ (r : Row). roundedQuotient (r .numerator) (r .denominator)) (case-5 ++ edges) ≡ map (λ (r : Row). r .rounded) (case-5 ++ edges)
+unfolding roundedQuotient nearest
+worked = refl

@@ -1,0 +1,47 @@
+// Whole numbers: the magnitude of a signed number, and the rounded quotient of document 01.
+ghost use mathlib.Core.Path.{_≡_};
+ghost use Prim.Native.Nat.{_≤_};
+ghost use lib.IntN.{natAbs};
+ghost use Rattle.whole.specs.Quotient.{withSign, roundedQuotient};
+ghost use Rattle.whole.specs.Quotient.{nearest as Quotient·nearest};
+
+// How far z is from zero. An i64 cannot hold the negation of its smallest number; −1 − z it holds for every z.
+pub fn magnitude(z: i64) -> u64
+    ensures { λ r. ⌜ r ≡ natAbs z ⌝ }
+{
+    if z < 0 { (-1 - z) as u64 + 1 } else { z as u64 }
+}
+
+// The whole number nearest to numerator / denominator, halves away from zero; 0 where the denominator is 0.
+pub fn rounded_quotient(numerator: i64, denominator: u64) -> i64
+    ensures { λ r. ⌜ r ≡ roundedQuotient numerator denominator ⌝ }
+{
+    with_sign(numerator, nearest(magnitude(numerator), denominator))
+}
+
+// The definition's 2n + d may pass 64 bits, so the remainder decides.
+fn nearest(n: u64, d: u64) -> u64
+    ensures { λ r. ⌜ r ≡ Quotient·nearest n d ⌝ }
+{
+    if d == 0 {
+        return 0;
+    }
+    let remainder = n % d;
+    if remainder < d - remainder {
+        n / d
+    } else {
+        n / d + 1
+    }
+}
+
+// A magnitude no greater than that of the number, with the number's sign.
+fn with_sign(number: i64, size: u64) -> i64
+    requires { ⌜ size ≤ natAbs number ⌝ }
+    ensures { λ r. ⌜ r ≡ withSign number size ⌝ }
+{
+    if number < 0 {
+        if size == 0 { 0 } else { -1 - (size - 1) as i64 }
+    } else {
+        size as i64
+    }
+}

@@ -1,0 +1,108 @@
+-- The least-squares theorem, over any certified table. N is the number of angles, M that of conditions, C says which angles a condition joins,
+-- R holds the coefficient rows over the denominator D, and K the correlates. Nothing here names a figure. Assumes nothing.
+use mathlib.Core.Path.{_≡_, refl, sym, ap, ap₂, _∙_, subst}
+use Prim.Native.Nat.{ℕ, _<_}
+use lib.IntN.{ℤ, pos, negℤ, _+ℤ_, _-ℤ_, _*ℤ_, +ℤ-idr, +ℤ-invr, *ℤ-zero}
+use lib.Signed.{_≤ℤ_}
+use Rattle.whole.specs.Sums.{dot, squares, applied, composed, identity, transposed}
+use Rattle.whole.proofs.Integers.{negℤ-*ℤ}
+use Rattle.whole.proofs.Ring.{ring, difference-zero, constant, _≐_, _⊕_, _⊖_, _⊗_, ⊝_}
+use Rattle.whole.proofs.Order.{≤ℤ-from-difference}
+use Rattle.whole.proofs.Sums.{sum-ext, sum-add, sum-scale, dot-ext, dot-zero, squares-nonnegative, squares-zero}
+use Rattle.whole.proofs.Sums.{applied-ext, applied-rows, applied-multiple, applied-add, applied-scale, applied-composed, applied-identity, moved}
+
+-- C·R = −D·I, and every row of R is a combination of rows of C: R = Cᵀ·K
+pub record Certified (N M : ℕ) (D : ℤ) (C R K : ℕ → ℕ → ℤ) : Type 0 where
+  pub cancels : (j k : ℕ) → j < M → k < M → composed N C R j k ≡ negℤ D *ℤ identity j k
+  pub spanned : (i j : ℕ) → i < N → j < M → R i j ≡ composed M (transposed C) K i j
+
+module _ {N M : ℕ} {D : ℤ} {C R K : ℕ → ℕ → ℤ} (certified : Certified N M D C R K) where
+  -- the numerators of any misclosures cancel them: C·(R·w) = −D·w
+  pub cancelled : (w : ℕ → ℤ) (j : ℕ) → j < M → applied N C (applied M R w) j ≡ negℤ D *ℤ w j
+  cancelled w j b =
+      sym (applied-composed M N C R w j)
+      ∙ applied-rows M (composed N C R) (λ i k. negℤ D *ℤ identity i k) w j (λ k c. certified .cancels j k b c)
+      ∙ applied-multiple M (negℤ D) identity w j
+      ∙ ap (λ (t : ℤ). negℤ D *ℤ t) (applied-identity M w j b)
+
+  -- each numerator is a sum of the correlates of the conditions that join its angle
+  pub correlated : (w : ℕ → ℤ) (i : ℕ) → i < N → applied M R w i ≡ applied M (transposed C) (applied M K w) i
+  correlated w i b =
+      applied-rows M R (composed M (transposed C) K) w i (λ j c. certified .spanned i j b c)
+      ∙ applied-composed M M (transposed C) K w i
+
+  -- numerators are orthogonal to whatever changes no condition
+  pub orthogonal : (w e : ℕ → ℤ) → ((j : ℕ) → j < M → applied N C e j ≡ pos 0) → dot N (applied M R w) e ≡ pos 0
+  orthogonal w e h =
+      dot-ext N (applied M R w) e (applied M (transposed C) (applied M K w)) e (correlated w) (λ i b. refl)
+      ∙ moved N M C (applied M K w) e
+      ∙ dot-zero M (applied M K w) (applied N C e) h
+
+  module _ (q : ℤ) (w x : ℕ → ℤ) (same : (j : ℕ) → j < M → applied N C x j ≡ negℤ q *ℤ w j) where
+    -- how far x / q lies from the exact corrections, times D·q
+    abbrev excess : ℕ → ℤ
+    excess i = D *ℤ x i -ℤ q *ℤ applied M R w i
+
+    excess-closes : (j : ℕ) → j < M → applied N C excess j ≡ pos 0
+    excess-closes j b =
+        applied-add N C (λ i. D *ℤ x i) (λ i. negℤ (q *ℤ applied M R w i)) j
+        ∙ ap₂ _+ℤ_ (applied-scale N C D x j ∙ ap (λ (t : ℤ). D *ℤ t) (same j b))
+        (applied-ext N C (λ i. negℤ (q *ℤ applied M R w i)) (λ i. negℤ q *ℤ applied M R w i) (λ i c. sym (negℤ-*ℤ q (applied M R w i))) j
+        ∙ applied-scale N C (negℤ q) (applied M R w) j ∙ ap (λ (t : ℤ). negℤ q *ℤ t) (cancelled w j b))
+        ∙ ring 3 (λ D q w. D ⊗ (⊝ q ⊗ w) ⊕ ⊝ q ⊗ (⊝ D ⊗ w) ≐ constant (pos 0)) tt D q (w j)
+
+    -- the sum of squares of x is that of the exact corrections and that of the excess
+    pythagoras : D *ℤ D *ℤ squares N x ≡ q *ℤ q *ℤ squares N (applied M R w) +ℤ squares N excess
+    unfolding dot
+    pythagoras =
+        sym (sum-scale N (D *ℤ D) (λ i. x i *ℤ x i))
+        ∙ sum-ext N (λ i. D *ℤ D *ℤ (x i *ℤ x i))
+        (λ i. q *ℤ q *ℤ (applied M R w i *ℤ applied M R w i) +ℤ excess i *ℤ excess i +ℤ (q +ℤ q) *ℤ (applied M R w i *ℤ excess i))
+        (λ i b. ring 4 (λ D q x n. D ⊗ D ⊗ (x ⊗ x) ≐ q ⊗ q ⊗ (n ⊗ n) ⊕ (D ⊗ x ⊖ q ⊗ n) ⊗ (D ⊗ x ⊖ q ⊗ n) ⊕ (q ⊕ q) ⊗ (n ⊗ (D ⊗ x ⊖ q ⊗ n))) tt D q (x i) (applied M R w i))
+        ∙ sum-add N (λ i. q *ℤ q *ℤ (applied M R w i *ℤ applied M R w i) +ℤ excess i *ℤ excess i) (λ i. (q +ℤ q) *ℤ (applied M R w i *ℤ excess i))
+        ∙ ap₂ _+ℤ_
+        (sum-add N (λ i. q *ℤ q *ℤ (applied M R w i *ℤ applied M R w i)) (λ i. excess i *ℤ excess i)
+        ∙ ap (λ (t : ℤ). t +ℤ squares N excess) (sum-scale N (q *ℤ q) (λ i. applied M R w i *ℤ applied M R w i)))
+        (sum-scale N (q +ℤ q) (λ i. applied M R w i *ℤ excess i) ∙ ap (λ (t : ℤ). (q +ℤ q) *ℤ t) (orthogonal w excess excess-closes) ∙ *ℤ-zero (q +ℤ q))
+        ∙ +ℤ-idr (q *ℤ q *ℤ squares N (applied M R w) +ℤ squares N excess)
+
+    -- no corrections x / q that cancel the misclosures have a smaller sum of squares than the exact corrections
+    pub least : (q *ℤ q *ℤ squares N (applied M R w)) ≤ℤ (D *ℤ D *ℤ squares N x)
+    least =
+        ≤ℤ-from-difference (q *ℤ q *ℤ squares N (applied M R w)) (D *ℤ D *ℤ squares N x)
+        (subst (λ (t : ℤ). pos 0 ≤ℤ t)
+        (ring 2 (λ a b. b ≐ a ⊕ b ⊖ a) tt (q *ℤ q *ℤ squares N (applied M R w)) (squares N excess)
+        ∙ ap (λ (t : ℤ). t -ℤ q *ℤ q *ℤ squares N (applied M R w)) (sym pythagoras))
+        (squares-nonnegative N excess))
+
+    -- and where the two sums are equal, x / q are the exact corrections
+    pub unique : q *ℤ q *ℤ squares N (applied M R w) ≡ D *ℤ D *ℤ squares N x → (i : ℕ) → i < N → D *ℤ x i ≡ q *ℤ applied M R w i
+    unique e i b = difference-zero (D *ℤ x i) (q *ℤ applied M R w i) (squares-zero N excess none i b)
+      where
+        none : squares N excess ≡ pos 0
+        none =
+            ring 2 (λ a b. b ≐ a ⊕ b ⊖ a) tt (q *ℤ q *ℤ squares N (applied M R w)) (squares N excess)
+            ∙ ap (λ (t : ℤ). t -ℤ q *ℤ q *ℤ squares N (applied M R w)) (sym pythagoras ∙ sym e)
+            ∙ +ℤ-invr (q *ℤ q *ℤ squares N (applied M R w))
+
+  module _ (d : ℕ → ℤ) where
+    -- document 01, "The two passes": D·d plus the first-pass numerator for misclosures equal to each condition's sum of d
+    abbrev pub reduced : ℕ → ℤ
+    reduced i = D *ℤ d i +ℤ applied M R (applied N C d) i
+
+    -- the reduced coefficients change no condition
+    pub reduced-closes : (j : ℕ) → j < M → applied N C reduced j ≡ pos 0
+    reduced-closes j b =
+        applied-add N C (λ i. D *ℤ d i) (applied M R (applied N C d)) j
+        ∙ ap₂ _+ℤ_ (applied-scale N C D d j) (cancelled (applied N C d) j b)
+        ∙ ring 2 (λ D s. D ⊗ s ⊕ ⊝ D ⊗ s ≐ constant (pos 0)) tt D (applied N C d j)
+
+    -- D times the sum of d·A is the sum of A²
+    pub reduced-squares : D *ℤ dot N d reduced ≡ squares N reduced
+    unfolding dot
+    reduced-squares =
+        sym (+ℤ-idr (D *ℤ dot N d reduced))
+        ∙ ap₂ _+ℤ_ (sym (sum-scale N D (λ i. d i *ℤ reduced i))) (sym (orthogonal (applied N C d) reduced reduced-closes))
+        ∙ sym (sum-add N (λ i. D *ℤ (d i *ℤ reduced i)) (λ i. applied M R (applied N C d) i *ℤ reduced i))
+        ∙ sum-ext N (λ i. D *ℤ (d i *ℤ reduced i) +ℤ applied M R (applied N C d) i *ℤ reduced i) (λ i. reduced i *ℤ reduced i)
+        (λ i b. ring 3 (λ D d n. D ⊗ (d ⊗ (D ⊗ d ⊕ n)) ⊕ n ⊗ (D ⊗ d ⊕ n) ≐ (D ⊗ d ⊕ n) ⊗ (D ⊗ d ⊕ n)) tt D (d i) (applied M R (applied N C d) i))

@@ -1,0 +1,88 @@
+-- The least-squares theorem of every figure, in the words of its definitions: `conditionSum` sums over the angles that a condition joins,
+-- `numerator` applies an angle's row. It cites the theorem over certified tables and the certificates. Assumes nothing.
+use mathlib.Core.Path.{_≡_, refl, sym, ap, ap₂, _∙_}
+use mathlib.Core.List.{List, [], _∷_}
+use Prim.Native.Nat.{ℕ, zero, suc, _<_}
+use lib.Dec.{T, leb, leb→le}
+use lib.ListN.{getD, List·getD-map}
+use lib.IntN.{ℤ, pos, negℤ, _+ℤ_, _*ℤ_}
+use lib.Signed.{_≤ℤ_}
+use Rattle.whole.specs.Sums.{dot, squares, applied, identity, table}
+use Rattle.whole.specs.Lists.{every}
+use Rattle.whole.proofs.Computed.{and-left, and-right}
+use Rattle.whole.proofs.Sums.{dot-ext, dot-comm, dot-add, dot-zero, applied-ext, applied-identity}
+use Rattle.figures.specs.declared.Figure.{Figure}
+use Rattle.figures.specs.Figure.{Condition, description, denominator, angleCount, conditionCount, conditionAt, membersOf}
+use Rattle.figures.specs.Numerators.{sumOver, conditionSum, numerator, reducedCoefficient}
+use Rattle.figures.proofs.Certificate.{joined, membership}
+use Rattle.figures.proofs.Figures.{isAmong, none, certified, members-are-angles}
+use Rattle.figures.proofs.LeastSquares as LeastSquares
+
+-- ---- the sum over a condition's angles is its row of the membership table, applied
+
+own : (N k : ℕ) (x : ℕ → ℤ) → k < N → dot N (λ i. identity (suc k) (suc i)) x ≡ x k
+unfolding applied
+own N k x b = applied-identity N x k b
+
+joined-sum : (N : ℕ) (members : List ℕ) (x : ℕ → ℤ) → T (every (isAmong N) members) → dot N (joined members) x ≡ sumOver members x
+unfolding joined sumOver
+joined-sum N [] x t = dot-comm N (λ i. pos 0) x ∙ dot-zero N x (λ i. pos 0) (λ i b. refl)
+joined-sum N (zero ∷ others) x t = absurd (and-left (isAmong N zero) (every (isAmong N) others) t)
+joined-sum N (suc k ∷ others) x t =
+    dot-comm N (λ i. identity (suc k) (suc i) +ℤ joined others i) x
+    ∙ dot-add N x (λ i. identity (suc k) (suc i)) (joined others)
+    ∙ ap₂ _+ℤ_ (dot-comm N x (λ i. identity (suc k) (suc i)) ∙ own N k x (leb→le (suc k) N (and-right (leb 1 (suc k)) (leb (suc k) N) (and-left (isAmong N (suc k)) (every (isAmong N) others) t))))
+    (dot-comm N x (joined others) ∙ joined-sum N others x (and-right (isAmong N (suc k)) (every (isAmong N) others) t))
+
+condition-applied : (f : Figure) (x : ℕ → ℤ) (j : ℕ) → j < conditionCount f → applied (angleCount f) (membership (description f)) x j ≡ conditionSum f x j
+unfolding applied membership conditionSum
+condition-applied f x j b =
+    ap (λ (members : List ℕ). dot (angleCount f) (joined members) x) (List·getD-map (λ (c : Condition). c .angles) (description f .conditions) j none)
+    ∙ joined-sum (angleCount f) (membersOf f (suc j)) x (members-are-angles f j b)
+
+-- ---- the theorem
+
+-- the numerators cancel the misclosures: C·num = −D·w
+pub numerators-cancel : (f : Figure) (w : ℕ → ℤ) (j : ℕ) → j < conditionCount f → conditionSum f (numerator f w) j ≡ negℤ (pos (denominator f)) *ℤ w j
+unfolding numerator
+numerators-cancel f w j b = sym (condition-applied f (numerator f w) j b) ∙ LeastSquares.cancelled (certified f) w j b
+
+module _ (f : Figure) (q : ℤ) (w x : ℕ → ℤ) (cancels : (j : ℕ) → j < conditionCount f → conditionSum f x j ≡ negℤ q *ℤ w j) where
+  applied-cancels : (j : ℕ) → j < conditionCount f → applied (angleCount f) (membership (description f)) x j ≡ negℤ q *ℤ w j
+  applied-cancels j b = condition-applied f x j b ∙ cancels j b
+
+  -- corrections x / q that cancel the misclosures have no smaller sum of squares than the exact corrections num / D
+  pub least-squares : (q *ℤ q *ℤ squares (angleCount f) (numerator f w)) ≤ℤ (pos (denominator f) *ℤ pos (denominator f) *ℤ squares (angleCount f) x)
+  unfolding numerator
+  least-squares = LeastSquares.least (certified f) q w x applied-cancels
+
+  -- and where the two sums are equal, the corrections are the same
+  pub only-least : q *ℤ q *ℤ squares (angleCount f) (numerator f w) ≡ pos (denominator f) *ℤ pos (denominator f) *ℤ squares (angleCount f) x
+      → (i : ℕ) → i < angleCount f → pos (denominator f) *ℤ x i ≡ q *ℤ numerator f w i
+  unfolding numerator
+  only-least = LeastSquares.unique (certified f) q w x applied-cancels
+
+-- ---- the reduced coefficients
+
+module _ (f : Figure) (d : ℕ → ℤ) where
+  reduced-is : (i : ℕ) → LeastSquares.reduced (certified f) d i ≡ reducedCoefficient f d i
+  unfolding reducedCoefficient numerator
+  reduced-is i =
+      ap (λ (t : ℤ). pos (denominator f) *ℤ d i +ℤ t)
+      (applied-ext (conditionCount f) (table (description f .rows)) (applied (angleCount f) (membership (description f)) d) (conditionSum f d) (condition-applied f d) i)
+
+  -- they change no condition: C·A = 0
+  pub reduced-closes : (j : ℕ) → j < conditionCount f → conditionSum f (reducedCoefficient f d) j ≡ pos 0
+  reduced-closes j b =
+      sym (condition-applied f (reducedCoefficient f d) j b)
+      ∙ applied-ext (angleCount f) (membership (description f)) (reducedCoefficient f d) (LeastSquares.reduced (certified f) d) (λ i c. sym (reduced-is i)) j
+      ∙ LeastSquares.reduced-closes (certified f) d j b
+
+  -- D·Σ d·A = Σ A²
+  pub reduced-squares : pos (denominator f) *ℤ dot (angleCount f) d (reducedCoefficient f d) ≡ squares (angleCount f) (reducedCoefficient f d)
+  reduced-squares =
+      ap (λ (t : ℤ). pos (denominator f) *ℤ t)
+      (dot-ext (angleCount f) d (reducedCoefficient f d) d (LeastSquares.reduced (certified f) d) (λ i b. refl) (λ i b. sym (reduced-is i)))
+      ∙ LeastSquares.reduced-squares (certified f) d
+      ∙ dot-ext (angleCount f) (LeastSquares.reduced (certified f) d) (LeastSquares.reduced (certified f) d) (reducedCoefficient f d) (reducedCoefficient f d)
+      (λ i b. reduced-is i) (λ i b. reduced-is i)

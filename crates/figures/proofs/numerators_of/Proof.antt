@@ -1,0 +1,32 @@
+-- `figures::numerators_of` meets its contract: the padded table's coefficients are small, and its rows applied are the figure's numerators.
+use mathlib.Core.Path.{sym, ap, _∙_, subst}
+use mathlib.Core.List.{List}
+use borrow.Author.Needs.{needs}
+use lib.Dec.{T}
+use lib.IntN.{ℤ}
+use Rattle.whole.specs.Lists.{listed}
+use Rattle.whole.specs.Sums.{applied, table, vector}
+use Rattle.whole.proofs.Lists.{listed-ext}
+use Rattle.figures.specs.Numerators.{mostAngles, mostConditions, numerator, paddedRows, paddedNumerators}
+use Rattle.figures.specs.Small.{smallRows}
+use Rattle.figures.proofs.Padding.{padded-small, padded-numerator}
+use Rattle.figures.proofs.numerators_of.Statement.{statement}
+use Rattle.figures.proofs.numerators_of.Tie as tie
+
+rows-of-requires : tie.Need-rows-of-requires
+rows-of-requires c κs = search needs
+
+rows-applied-requires : tie.Need-rows-applied-requires
+rows-applied-requires c κs = subst (λ (rows : List (List ℤ)). T (smallRows rows)) (sym (c .rows-of .ensures)) (padded-small (c .before .args .f))
+
+returns : tie.Need-returns
+unfolding paddedNumerators
+returns c =
+    let w = vector (c .before .before .args .misclosures) in
+    let f = c .before .before .args .f in
+    c .rows-applied .ensures
+    ∙ ap (λ (rows : List (List ℤ)). listed mostAngles (applied mostConditions (table rows) w)) (c .before .rows-of .ensures)
+    ∙ listed-ext mostAngles (applied mostConditions (table (paddedRows f)) w) (numerator f w) (padded-numerator f w)
+
+pub numerators-of-spec : {M : Type 1} → statement M
+numerators-of-spec = tie.close (tie.spec rows-of-requires rows-applied-requires returns)

@@ -1,0 +1,156 @@
+-- The eight figures of document 01, "The eight figures", in its numbering: corners, triangles, angles, conditions and fixed angles count from 1.
+use Prim.Native.Nat.{ℕ, zero, suc, _+_, _-_, _*_}
+use mathlib.Core.Bool.{Bool, cond, _&&_}
+use mathlib.Core.List.{List, [], _∷_, _++_, map}
+use lib.Dec.{eqb}
+use lib.ListN.{length, getD}
+use lib.IntN.{ℤ}
+use Rattle.figures.specs.declared.Figure.{Figure}
+use Rattle.figures.specs.declared.Figure.the-variants.{Quadrilateral, PointInTriangle, CentralTriangle, CentralQuadrilateral, CentralPentagon, CentralHexagon, CentralHeptagon, CentralOctagon}
+use Rattle.figures.specs.declared.Named.{Named}
+use Rattle.figures.specs.declared.Named.the-variants.{As, Nothing}
+use Rattle.figures.specs.declared.Target.{Target}
+use Rattle.figures.specs.declared.Target.the-variants.{HalfTurn, FullTurn, FixedAngle, NoCondition}
+use Rattle.figures.specs.declared.Counts.{Counts}
+use Rattle.figures.specs.Rows.{eachOf, quadrilateralRows, quadrilateralSigns, pointInTriangleRows, centralPolygonRows, triangleSigns}
+
+-- the angles that a condition joins, and what they should sum to
+pub record Condition : Type 0 where
+  pub angles : List ℕ
+  pub target : Target
+
+-- all that document 01 says of a figure; the exact correction of an angle is its row over the denominator
+pub record Description : Type 0 where
+  pub code : ℕ
+  pub n : ℕ
+  pub denominator : ℕ
+  pub angleCount : ℕ
+  pub fixedCount : ℕ
+  pub conditions : List Condition
+  pub rows : List (List ℤ)
+  pub signs : List ℤ
+
+-- ---- code 1, n = 0, the geodetic quadrilateral
+
+abbrev pub quadrilateral : Description
+quadrilateral = record {
+  code = 1;
+  n = 0;
+  denominator = 8;
+  angleCount = 8;
+  fixedCount = 0;
+  conditions =
+      record { angles = 1 ∷ 2 ∷ 3 ∷ 4 ∷ []; target = HalfTurn }
+      ∷ record { angles = 3 ∷ 4 ∷ 5 ∷ 6 ∷ []; target = HalfTurn }
+      ∷ record { angles = 5 ∷ 6 ∷ 7 ∷ 8 ∷ []; target = HalfTurn } ∷ [];
+  rows = quadrilateralRows;
+  signs = quadrilateralSigns;
+}
+
+-- ---- codes 2 and 3: triangle i stands on outer corners i and i+1, indices cyclic
+
+-- the angles of triangle i: at the inner point, at corner i, at corner i+1
+abbrev pub inner : ℕ → ℕ
+inner i = 3 * i - 2
+
+abbrev pub left : ℕ → ℕ
+left i = 3 * i - 1
+
+abbrev pub right : ℕ → ℕ
+right i = 3 * i
+
+abbrev pub triangle : ℕ → Condition
+triangle i = record { angles = inner i ∷ left i ∷ right i ∷ []; target = HalfTurn }
+
+-- the one before j of n, cyclic
+abbrev pub previous : ℕ → ℕ → ℕ
+previous n j = cond (eqb j 1) n (j - 1)
+
+-- code 2: the last angle of triangle j−1 plus the second of triangle j equals fixed angle j
+abbrev pub corner : ℕ → ℕ → Condition
+corner n j = record { angles = right (previous n j) ∷ left j ∷ []; target = FixedAngle j }
+
+-- code 2, n = 3, a point in a known triangle
+abbrev pub pointInTriangle : Description
+pointInTriangle = record {
+  code = 2;
+  n = 3;
+  denominator = 10;
+  angleCount = 9;
+  fixedCount = 3;
+  conditions = eachOf 3 (λ i. triangle i ∷ []) ++ eachOf 3 (λ j. corner 3 j ∷ []);
+  rows = pointInTriangleRows;
+  signs = triangleSigns 3;
+}
+
+-- code 3: the angles at the inner point sum to 360°
+abbrev pub horizon : ℕ → Condition
+horizon n = record { angles = eachOf n (λ i. inner i ∷ []); target = FullTurn }
+
+-- code 3, n = 3 to 8, the central polygon
+abbrev pub centralPolygon : ℕ → Description
+centralPolygon n = record {
+  code = 3;
+  n = n;
+  denominator = 6 * n;
+  angleCount = 3 * n;
+  fixedCount = 0;
+  conditions = eachOf n (λ i. triangle i ∷ []) ++ (horizon n ∷ []);
+  rows = centralPolygonRows n;
+  signs = triangleSigns n;
+}
+
+-- ---- all figures
+
+abbrev pub description : Figure → Description
+description Quadrilateral = quadrilateral
+description PointInTriangle = pointInTriangle
+description CentralTriangle = centralPolygon 3
+description CentralQuadrilateral = centralPolygon 4
+description CentralPentagon = centralPolygon 5
+description CentralHexagon = centralPolygon 6
+description CentralHeptagon = centralPolygon 7
+description CentralOctagon = centralPolygon 8
+
+abbrev pub allFigures : List Figure
+allFigures =
+    Quadrilateral ∷ PointInTriangle ∷ CentralTriangle ∷ CentralQuadrilateral ∷ CentralPentagon ∷ CentralHexagon ∷ CentralHeptagon ∷ CentralOctagon ∷ []
+
+-- the figure that a code and an n name
+abbrev pub namedAmong : List Figure → ℕ → ℕ → Named
+namedAmong [] code n = Nothing
+namedAmong (f ∷ others) code n = cond (eqb code (description f .code) && eqb n (description f .n)) (As f) (namedAmong others code n)
+
+unfoldable pub figureOf : ℕ → ℕ → Named
+figureOf code n = namedAmong allFigures code n
+
+-- ---- what the code asks of a figure
+
+abbrev pub denominator : Figure → ℕ
+denominator f = description f .denominator
+
+abbrev pub angleCount : Figure → ℕ
+angleCount f = description f .angleCount
+
+abbrev pub conditionCount : Figure → ℕ
+conditionCount f = length (description f .conditions)
+
+abbrev pub fixedCount : Figure → ℕ
+fixedCount f = description f .fixedCount
+
+abbrev pub countsFrom : (denominator angles conditions fixed : ℕ) → Counts
+countsFrom d a c f = record { denominator = d; angles = a; conditions = c; fixed = f }
+
+abbrev pub countsOf : Figure → Counts
+countsOf f = countsFrom (denominator f) (angleCount f) (conditionCount f) (fixedCount f)
+
+-- the angles of condition j, and what they should sum to; of a j that is no condition's number, no angles and no sum
+abbrev pub conditionAt : Figure → ℕ → Condition
+conditionAt f zero = record { angles = []; target = NoCondition }
+conditionAt f (suc k) = getD (description f .conditions) k (record { angles = []; target = NoCondition })
+
+abbrev pub membersOf : Figure → ℕ → List ℕ
+membersOf f j = conditionAt f j .angles
+
+abbrev pub targetOf : Figure → ℕ → Target
+targetOf f j = conditionAt f j .target

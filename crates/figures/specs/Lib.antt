@@ -1,0 +1,4 @@
+pub mod Figure
+pub mod Numerators
+pub mod Rows
+pub mod Small

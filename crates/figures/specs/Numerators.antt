@@ -1,0 +1,54 @@
+-- The numerators of a figure's exact corrections, and its tables as the code holds them.
+use Prim.Native.Nat.{ℕ, zero, suc}
+use mathlib.Core.List.{List, [], _∷_, map}
+use lib.IntN.{ℤ, pos, _+ℤ_, _*ℤ_}
+use Rattle.whole.specs.Lists.{listed, padded}
+use Rattle.whole.specs.Sums.{applied, table}
+use Rattle.figures.specs.declared.Figure.{Figure}
+use Rattle.figures.specs.declared.Target.{Target}
+use Rattle.figures.specs.declared.Target.the-variants.{NoCondition}
+use Rattle.figures.specs.Figure.{Condition, description, denominator, conditionCount, membersOf}
+
+-- the sum of x over the angles of a condition; x, and the condition, by the index, counted from 0
+unfoldable pub sumOver : List ℕ → (ℕ → ℤ) → ℤ
+sumOver [] x = pos 0
+sumOver (zero ∷ others) x = sumOver others x
+sumOver (suc i ∷ others) x = x i +ℤ sumOver others x
+
+unfoldable pub conditionSum : Figure → (ℕ → ℤ) → ℕ → ℤ
+conditionSum f x j = sumOver (membersOf f (suc j)) x
+
+-- document 01, "The two passes": the numerator of an angle is its row applied to the misclosures (both by the index, counted from 0)
+unfoldable pub numerator : Figure → (ℕ → ℤ) → ℕ → ℤ
+numerator f w i = applied (conditionCount f) (table (description f .rows)) w i
+
+-- document 01, "The two passes", second pass: D·d plus the first-pass numerator for misclosures equal to each condition's sum of d
+unfoldable pub reducedCoefficient : Figure → (ℕ → ℤ) → ℕ → ℤ
+reducedCoefficient f d i = pos (denominator f) *ℤ d i +ℤ numerator f (conditionSum f d) i
+
+-- no figure has more conditions, more angles, or more angles in a condition
+abbrev pub mostConditions : ℕ
+mostConditions = 9
+
+abbrev pub mostAngles : ℕ
+mostAngles = 24
+
+abbrev pub mostMembers : ℕ
+mostMembers = 8
+
+-- the natural tables brought to one size, filled with 0
+abbrev pub paddedRows : Figure → List (List ℤ)
+paddedRows f = padded mostAngles (padded mostConditions (pos 0) []) (map (padded mostConditions (pos 0)) (description f .rows))
+
+abbrev pub paddedMembers : Figure → List (List ℕ)
+paddedMembers f =
+    padded mostConditions (padded mostMembers 0 []) (map (λ (c : Condition). padded mostMembers 0 (c .angles)) (description f .conditions))
+
+abbrev pub paddedTargets : Figure → List Target
+paddedTargets f = padded mostConditions NoCondition (map (λ (c : Condition). c .target) (description f .conditions))
+
+abbrev pub paddedSigns : Figure → List ℤ
+paddedSigns f = padded mostAngles (pos 0) (description f .signs)
+
+unfoldable pub paddedNumerators : Figure → (ℕ → ℤ) → List ℤ
+paddedNumerators f w = listed mostAngles (numerator f w)

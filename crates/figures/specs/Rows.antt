@@ -1,0 +1,72 @@
+-- The first-correction rows and the sine signs of document 01, "The eight figures". A row holds the coefficient of each condition's misclosure,
+-- in the order of the conditions; rows and signs stand in the order of the angles.
+use Prim.Native.Nat.{ℕ, zero, suc, _+_, _-_, _*_, _%_}
+use mathlib.Core.List.{List, [], _∷_, _++_}
+use lib.ListN.{getD}
+use lib.IntN.{ℤ, pos, negℤ, _+ℤ_, _*ℤ_}
+use Rattle.whole.specs.Sums.{identity}
+
+abbrev pub minus : ℕ → ℤ
+minus n = negℤ (pos n)
+
+-- what f lists for 1, then for 2, and so on to n
+abbrev pub eachOf : {A : Type 0} → ℕ → (ℕ → List A) → List A
+eachOf zero f = []
+eachOf (suc n) f = eachOf n f ++ f (suc n)
+
+-- ---- code 1: angles 1 and 2, 3 and 4, 5 and 6, 7 and 8
+
+abbrev pub quadrilateralRows : List (List ℤ)
+quadrilateralRows =
+    (minus 3 ∷ pos 2 ∷ minus 1 ∷ [])
+    ∷ (minus 3 ∷ pos 2 ∷ minus 1 ∷ [])
+    ∷ (minus 1 ∷ minus 2 ∷ pos 1 ∷ [])
+    ∷ (minus 1 ∷ minus 2 ∷ pos 1 ∷ [])
+    ∷ (pos 1 ∷ minus 2 ∷ minus 1 ∷ [])
+    ∷ (pos 1 ∷ minus 2 ∷ minus 1 ∷ [])
+    ∷ (minus 1 ∷ pos 2 ∷ minus 3 ∷ [])
+    ∷ (minus 1 ∷ pos 2 ∷ minus 3 ∷ [])
+    ∷ []
+
+-- odd +, even −
+abbrev pub quadrilateralSigns : List ℤ
+quadrilateralSigns = eachOf 4 (λ i. pos 1 ∷ minus 1 ∷ [])
+
+-- ---- code 2
+
+-- n coefficients from those of i, of i+1, of i+2 and so on, indices cyclic
+abbrev pub around : ℕ → ℕ → List ℤ → List ℤ
+around n i coefficients = eachOf n (λ k. getD coefficients ((k + n - i) % n) (pos 0) ∷ [])
+
+-- a row from its coefficients on t and on f, each as `around` takes them
+abbrev pub pointRow : ℕ → List ℤ → List ℤ → List ℤ
+pointRow i onT onF = around 3 i onT ++ around 3 i onF
+
+-- c, l and r of triangle 1, of triangle 2, of triangle 3
+abbrev pub pointInTriangleRows : List (List ℤ)
+pointInTriangleRows = eachOf 3 (λ i.
+    pointRow i (minus 6 ∷ minus 2 ∷ minus 2 ∷ []) (pos 4 ∷ pos 4 ∷ pos 2 ∷ [])
+    ∷ pointRow i (minus 2 ∷ pos 0 ∷ pos 2 ∷ []) (minus 5 ∷ pos 1 ∷ minus 1 ∷ [])
+    ∷ pointRow i (minus 2 ∷ pos 2 ∷ pos 0 ∷ []) (pos 1 ∷ minus 5 ∷ minus 1 ∷ [])
+    ∷ [])
+
+-- ---- code 3: a row is own·w(i) + total·T + round·h, with T the sum of triangle misclosures w and h the horizon misclosure
+
+abbrev pub polygonRow : ℕ → ℕ → ℤ → ℤ → ℤ → List ℤ
+polygonRow n i own total round = eachOf n (λ k. (own *ℤ identity i k +ℤ total) ∷ []) ++ (round ∷ [])
+
+-- c of triangle i has −2n·w(i) + 2T − 6h
+abbrev pub innerRow : ℕ → ℕ → List ℤ
+innerRow n i = polygonRow n i (minus (2 * n)) (pos 2) (minus 6)
+
+-- its l and r have −2n·w(i) − T + 3h
+abbrev pub outerRow : ℕ → ℕ → List ℤ
+outerRow n i = polygonRow n i (minus (2 * n)) (minus 1) (pos 3)
+
+abbrev pub centralPolygonRows : ℕ → List (List ℤ)
+centralPolygonRows n = eachOf n (λ i. innerRow n i ∷ outerRow n i ∷ outerRow n i ∷ [])
+
+-- ---- codes 2 and 3: c 0, l +, r −
+
+abbrev pub triangleSigns : ℕ → List ℤ
+triangleSigns n = eachOf n (λ i. pos 0 ∷ pos 1 ∷ minus 1 ∷ [])

@@ -1,0 +1,192 @@
+-- A field read and written: what a written field reads, and that no other bit changes. Assumes nothing.
+use mathlib.Core.Bool.{Bool, true, false, cond, _&&_, and-eq-true-iff, and-false}
+use mathlib.Core.List.{List, [], _∷_, _++_}
+use mathlib.Core.Logic.{_⊎_, inl, inr}
+use mathlib.Core.Path.{_≡_, refl, sym, ap, ap₂, _∙_, subst}
+use Prim.Native.Nat.{ℕ, zero, suc, _+_, _-_, _*_, _%_, _^_, _≤_, _<_}
+use native.Mathlib.Nat.{suc-add, zero-add}
+use native.Mathlib.Omega.{arith}
+use borrow.Author.Tests.{leb-true, le-leb, lt-leb}
+use lib.Dec.{leb}
+use lib.ListN.{length, take, drop, length-append, length-drop}
+use lib.Pow.{pow-pos}
+use lib.Seq.{take-at, drop-at, take-add, take-take, take-nil, drop-nil, drop-drop, length-take-le}
+use Rattle.bits.specs.Bits.{bits, value, bitsOf, bytesOf, byteCount, inside, fieldAt, withField}
+use Rattle.bits.proofs.Bytes.{AreBytes, length-bitsOf, bitsOf-bytesOf-whole, bytesOf-bytes, length-bytesOf}
+use Rattle.bits.proofs.Numbers.{length-bits, bits-value, value-lt, value-bits-mod}
+
+-- ---- where a field lies
+
+pub inside-within : (s : List ℕ) (at w : ℕ) → inside s at w ≡ true → at + w ≤ 8 * length s
+unfolding inside
+inside-within s at w h = leb-true (at + w) (8 * length s) (and-eq-true-iff (leb (at + w) (8 * length s)) (leb w 32) .0 h .0)
+
+pub inside-narrow : (s : List ℕ) (at w : ℕ) → inside s at w ≡ true → w ≤ 32
+unfolding inside
+inside-narrow s at w h = leb-true w 32 (and-eq-true-iff (leb (at + w) (8 * length s)) (leb w 32) .0 h .1)
+
+pub is-inside : (s : List ℕ) (at w : ℕ) → at + w ≤ 8 * length s → w ≤ 32 → inside s at w ≡ true
+unfolding inside
+is-inside s at w h k = and-eq-true-iff (leb (at + w) (8 * length s)) (leb w 32) .1 (le-leb _ _ h, le-leb _ _ k)
+
+pub inside-past : (s : List ℕ) (at w : ℕ) → 8 * length s < at + w → inside s at w ≡ false
+unfolding inside
+inside-past s at w h = rw (lt-leb (at + w) (8 * length s) h) refl
+
+pub inside-wide : (s : List ℕ) (at w : ℕ) → 32 < w → inside s at w ≡ false
+unfolding inside
+inside-wide s at w h = rw (lt-leb w 32 h) (and-false (leb (at + w) (8 * length s)))
+
+-- whether a field lies within bytes goes by their number alone
+pub inside-same : (s t : List ℕ) (at w : ℕ) → length s ≡ length t → inside s at w ≡ inside t at w
+unfolding inside
+inside-same s t at w e = ap (λ (n : ℕ). leb (at + w) (8 * n) && leb w 32) e
+
+-- ---- bits with another number's in the place of some
+
+-- the bits b with the last w bits of v from a position on
+abbrev pub laid : List Bool → ℕ → ℕ → ℕ → List Bool
+laid b at w v = take at b ++ (bits w v ++ drop (at + w) b)
+
+module _ (b : List Bool) (at w v : ℕ) (fits : at + w ≤ length b) where
+  start-length : length (take at b) ≡ at
+  start-length = length-take-le at b (omega arith)
+
+  pub length-laid : length (laid b at w v) ≡ length b
+  length-laid =
+      omega (
+        arith,
+        length-append (take at b) (bits w v ++ drop (at + w) b),
+        length-append (bits w v) (drop (at + w) b),
+        length-bits w v,
+        length-drop (at + w) b,
+        start-length,
+      )
+
+  pub laid-before : take at (laid b at w v) ≡ take at b
+  laid-before = take-at (take at b) (bits w v ++ drop (at + w) b) at start-length
+
+  laid-from : drop at (laid b at w v) ≡ bits w v ++ drop (at + w) b
+  laid-from = drop-at (take at b) (bits w v ++ drop (at + w) b) at start-length
+
+  pub laid-there : take w (drop at (laid b at w v)) ≡ bits w v
+  laid-there = ap (take w) laid-from ∙ take-at (bits w v) (drop (at + w) b) w (length-bits w v)
+
+  pub laid-start : take (at + w) (laid b at w v) ≡ take at b ++ bits w v
+  laid-start = take-add at w (laid b at w v) ∙ ap₂ (λ (x y : List Bool). x ++ y) laid-before laid-there
+
+  pub laid-after : drop (at + w) (laid b at w v) ≡ drop (at + w) b
+  laid-after =
+      sym (drop-drop w at (laid b at w v)) ∙ ap (drop w) laid-from ∙ drop-at (bits w v) (drop (at + w) b) w (length-bits w v)
+
+-- ---- bits that lie within a part of a run go by that part
+
+take-drop : (p w : ℕ) (l : List Bool) → take w (drop p l) ≡ drop p (take (p + w) l)
+take-drop zero w l = ap (λ (n : ℕ). take n l) (sym (zero-add w))
+take-drop (suc p) w [] = take-nil w ∙ sym (drop-nil (suc p)) ∙ ap (drop (suc p)) (sym (take-nil (suc p + w)))
+take-drop (suc p) w (x ∷ l) = take-drop p w l ∙ ap (λ (n : ℕ). drop (suc p) (take n (x ∷ l))) (sym (suc-add p w))
+
+same-before : (n p w : ℕ) (l m : List Bool) → p + w ≤ n → take n l ≡ take n m → take w (drop p l) ≡ take w (drop p m)
+same-before n p w l m h e =
+    take-drop p w l ∙ ap (drop p) (sym (take-take (p + w) n l h) ∙ ap (take (p + w)) e ∙ take-take (p + w) n m h) ∙ sym (take-drop p w m)
+
+same-after : (n p w : ℕ) (l m : List Bool) → n ≤ p → drop n l ≡ drop n m → take w (drop p l) ≡ take w (drop p m)
+same-after n p w l m h e =
+    let far : p ≡ n + (p - n) = omega arith in
+    ap (λ (k : ℕ). take w (drop k l)) far ∙ ap (take w) (sym (drop-drop (p - n) n l) ∙ ap (drop (p - n)) e ∙ drop-drop (p - n) n m)
+    ∙ ap (λ (k : ℕ). take w (drop k m)) (sym far)
+
+-- the two ways a test can come out
+by-test {ℓ} : {X : Type ℓ} (t : Bool) → (t ≡ true → X) → (t ≡ false → X) → X
+by-test true f g = f refl
+by-test false f g = g refl
+
+-- ---- a field that is written
+
+module _ (s : List ℕ) (at w v : ℕ) where
+  pub withField-outside : inside s at w ≡ false → withField s at w v ≡ s
+  unfolding withField
+  withField-outside e = ap (λ (t : Bool). cond t (bytesOf (laid (bitsOf s) at w v)) s) e
+
+  pub withField-is : inside s at w ≡ true → withField s at w v ≡ bytesOf (laid (bitsOf s) at w v)
+  unfolding withField
+  withField-is e = ap (λ (t : Bool). cond t (bytesOf (laid (bitsOf s) at w v)) s) e
+
+  pub room : inside s at w ≡ true → at + w ≤ length (bitsOf s)
+  room e = omega (arith, length-bitsOf s, inside-within s at w e)
+
+  laid-length : inside s at w ≡ true → length (laid (bitsOf s) at w v) ≡ 8 * length s
+  laid-length e = length-laid (bitsOf s) at w v (room e) ∙ length-bitsOf s
+
+  -- inside, the field has the last w bits of v, and every other bit stays
+  pub bitsOf-withField : inside s at w ≡ true → bitsOf (withField s at w v) ≡ take at (bitsOf s) ++ (bits w v ++ drop (at + w) (bitsOf s))
+  bitsOf-withField e = ap bitsOf (withField-is e) ∙ bitsOf-bytesOf-whole (laid (bitsOf s) at w v) (length s) (laid-length e)
+
+  pub length-withField : length (withField s at w v) ≡ length s
+  unfolding byteCount
+  length-withField =
+      by-test (inside s at w)
+      (λ e. omega (arith, ap length (withField-is e) ∙ length-bytesOf (laid (bitsOf s) at w v), laid-length e))
+      (λ e. ap length (withField-outside e))
+
+  pub withField-bytes : AreBytes s → AreBytes (withField s at w v)
+  withField-bytes h =
+      by-test (inside s at w)
+      (λ e. subst AreBytes (sym (withField-is e)) (bytesOf-bytes (laid (bitsOf s) at w v)))
+      (λ e. subst AreBytes (sym (withField-outside e)) h)
+
+-- ---- a field that is read
+
+module _ (s : List ℕ) (at w : ℕ) where
+  pub fieldAt-outside : inside s at w ≡ false → fieldAt s at w ≡ 0
+  unfolding fieldAt
+  fieldAt-outside e = ap (λ (t : Bool). cond t (value (take w (drop at (bitsOf s)))) 0) e
+
+  pub fieldAt-is : inside s at w ≡ true → fieldAt s at w ≡ value (take w (drop at (bitsOf s)))
+  unfolding fieldAt
+  fieldAt-is e = ap (λ (t : Bool). cond t (value (take w (drop at (bitsOf s)))) 0) e
+
+  field-length : inside s at w ≡ true → length (take w (drop at (bitsOf s))) ≡ w
+  field-length e = length-take-le w (drop at (bitsOf s)) (omega (arith, length-drop at (bitsOf s), length-bitsOf s, inside-within s at w e))
+
+  -- the bits of what a field holds are the bits that stand there
+  pub bits-fieldAt : inside s at w ≡ true → bits w (fieldAt s at w) ≡ take w (drop at (bitsOf s))
+  bits-fieldAt e = ap (bits w) (fieldAt-is e) ∙ bits-value w (take w (drop at (bitsOf s))) (field-length e)
+
+  -- a field is below 2 to its width, inside or not
+  pub fieldAt-lt : fieldAt s at w < 2 ^ w
+  fieldAt-lt =
+      by-test (inside s at w)
+      (λ e. rw (fieldAt-is e) (subst (λ (n : ℕ). value (take w (drop at (bitsOf s))) < 2 ^ n) (field-length e) (value-lt (take w (drop at (bitsOf s))))))
+      (λ e. rw (fieldAt-outside e) (pow-pos w))
+
+-- ---- a field that is read after one was written
+
+-- the written field holds the last w bits of v
+pub field-written : (s : List ℕ) (at w v : ℕ) → inside s at w ≡ true → fieldAt (withField s at w v) at w ≡ v % 2 ^ w
+field-written s at w v e =
+    fieldAt-is (withField s at w v) at w (inside-same (withField s at w v) s at w (length-withField s at w v) ∙ e)
+    ∙ ap (λ (b : List Bool). value (take w (drop at b))) (bitsOf-withField s at w v e)
+    ∙ ap value (laid-there (bitsOf s) at w v (room s at w v e)) ∙ value-bits-mod w v
+
+-- two fields have no bit in common
+abbrev pub Apart : ℕ → ℕ → ℕ → ℕ → Type 0
+Apart at w at′ w′ = (at′ + w′ ≤ at) ⊎ (at + w ≤ at′)
+
+same-bits : (s : List ℕ) (at w v at′ w′ : ℕ) → inside s at w ≡ true → Apart at w at′ w′
+    → take w′ (drop at′ (bitsOf (withField s at w v))) ≡ take w′ (drop at′ (bitsOf s))
+same-bits s at w v at′ w′ e (inl h) =
+    ap (λ (b : List Bool). take w′ (drop at′ b)) (bitsOf-withField s at w v e)
+    ∙ same-before at at′ w′ (laid (bitsOf s) at w v) (bitsOf s) h (laid-before (bitsOf s) at w v (room s at w v e))
+same-bits s at w v at′ w′ e (inr h) =
+    ap (λ (b : List Bool). take w′ (drop at′ b)) (bitsOf-withField s at w v e)
+    ∙ same-after (at + w) at′ w′ (laid (bitsOf s) at w v) (bitsOf s) h (laid-after (bitsOf s) at w v (room s at w v e))
+
+-- a field apart from the written one holds what it held
+pub field-apart : (s : List ℕ) (at w v at′ w′ : ℕ) → Apart at w at′ w′ → fieldAt (withField s at w v) at′ w′ ≡ fieldAt s at′ w′
+unfolding fieldAt
+field-apart s at w v at′ w′ h =
+    by-test (inside s at w)
+    (λ e.
+    ap₂ (λ (t : Bool) (b : List Bool). cond t (value b) 0) (inside-same (withField s at w v) s at′ w′ (length-withField s at w v)) (same-bits s at w v at′ w′ e h))
+    (λ e. ap (λ (t : List ℕ). fieldAt t at′ w′) (withField-outside s at w v e))

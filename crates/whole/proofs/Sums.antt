@@ -2,15 +2,16 @@
 -- a transposed table moves from one side of a sum of products to the other. Assumes nothing.
 use mathlib.Core.Path.{_≡_, refl, sym, ap, ap₂, _∙_, subst}
 use mathlib.Core.Logic.{⊎-elim}
-use Prim.Native.Nat.{ℕ, zero, suc, _+_, _≤_, _<_}
+use Prim.Native.Nat.{ℕ, zero, suc, _+_, _*_, _≤_, _<_, zero-le}
 use native.Mathlib.Nat.{le-of-suc-le-suc, not-suc-le-zero, eq-or-lt-of-le}
 use native.Mathlib.Numerals.{add-one}
 use native.Mathlib.Omega.{arith}
-use lib.IntN.{ℤ, pos, _+ℤ_, _*ℤ_, +ℤ-idr, +ℤ-idl, +ℤ-comm, *ℤ-zero, zero-*ℤ, *ℤ-comm}
+use lib.IntN.{ℤ, pos, natAbs, _+ℤ_, _*ℤ_, +ℤ-idr, +ℤ-idl, +ℤ-comm, *ℤ-zero, zero-*ℤ, *ℤ-comm}
 use lib.Signed.{_≤ℤ_, ≤ℤ-refl}
 use Rattle.whole.specs.Sums.{sum, dot, squares, applied, composed, identity, transposed}
 use Rattle.whole.proofs.Integers.{*ℤ-assoc, *ℤ-distribˡ, unit-*ℤ}
 use Rattle.whole.proofs.Ring.{ring, _≐_, _⊕_, _⊗_}
+use Rattle.whole.proofs.Magnitudes.{natAbs-add}
 use Rattle.whole.proofs.Order.{nonnegative-sum, square-nonnegative, square-zero, left-zero}
 
 -- ---- sums
@@ -88,6 +89,13 @@ sum-zero-terms (suc n) f h e i b =
 
     back : pos 0 ≤ℤ f n
     back = h n (omega arith)
+
+-- the magnitude of a sum is at most that of its terms together
+pub sum-magnitude : (n : ℕ) (f : ℕ → ℤ) (most : ℕ) → ((i : ℕ) → i < n → natAbs (f i) ≤ most) → natAbs (sum n f) ≤ n * most
+unfolding sum
+sum-magnitude zero f most h = zero-le
+sum-magnitude (suc n) f most h =
+    omega (arith, natAbs-add (sum n f) (f n), sum-magnitude n f most (λ i b. h i (omega arith)), h n (omega arith))
 
 -- ---- sums of products
 

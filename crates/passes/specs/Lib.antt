@@ -1,0 +1,4 @@
+pub mod Column
+pub mod FirstPass
+pub mod Pass
+pub mod Work

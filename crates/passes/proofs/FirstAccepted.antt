@@ -30,9 +30,9 @@ use Rattle.figures.specs.Numerators.{conditionSum, sumOver, mostAngles}
 use Rattle.figures.specs.declared.Target.{Target}
 use Rattle.figures.proofs.Figures.{angle-bound, condition-bound, none}
 use Rattle.passes.specs.Column.{column}
-use Rattle.passes.specs.FirstPass.{mostLimit, limitOf, shouldBe, misclosure, firstNumerator, firstRounded, corrected, firstRest, firstLengths, firstTests, misclosureTest}
-use Rattle.passes.specs.Pass.{leastAngle, mostAngle, given, sameLengths, resultTest}
-use Rattle.passes.specs.Work.{Angles, StoreFits, StoresFit, givenTests, workTests, firstWorkOf}
+use Rattle.passes.specs.FirstPass.{mostLimit, limitOf, shouldBe, misclosure, firstNumerator, firstRounded, corrected, firstRest, misclosureTest}
+use Rattle.passes.specs.Pass.{leastAngle, mostAngle, given, resultTest}
+use Rattle.passes.specs.Work.{Angles, StoreFits, StoresFit, givenTests, judgedTests, workTests, firstWorkOf}
 use Rattle.passes.proofs.Bounds.{condition-magnitude, numerator-magnitude}
 use Rattle.passes.proofs.ColumnLaws.{column-at}
 use Rattle.passes.proofs.MemberLaws.{past-conditions}
@@ -47,15 +47,25 @@ positive-below (pos n) h k = omega (arith, leb→le n mostAngle (k .le))
 positive-below (negsuc n) h k = absurd (h .le)
 
 -- the tests in two steps: before the work, and of the work
-pub in-two-steps : (f : Figure) (limit : ℕ) (angles fixed lent : List ℕ)
-    → answerOf (firstTests f limit angles fixed lent)
-    ≡ answerOf (answerOf (givenTests (sameLengths lent (firstLengths f)) limit angles fixed) ∷ answerOf (workTests f limit (column (misclosure f angles fixed)) (column (corrected f angles fixed))) ∷ [])
-unfolding firstTests
-in-two-steps f limit angles fixed lent =
-    answer-of-append (givenTests (sameLengths lent (firstLengths f)) limit angles fixed) (misclosureTest f limit angles fixed ∷ resultTest f (corrected f angles fixed) ∷ [])
-    ∙ ap₂ (λ (a b : Verdict). answerOf (answerOf (givenTests (sameLengths lent (firstLengths f)) limit angles fixed) ∷ answerOf (a ∷ b ∷ []) ∷ []))
+pub in-two-steps : (f : Figure) (fits : Bool) (limit : ℕ) (angles fixed : List ℕ)
+    → answerOf (judgedTests f fits limit angles fixed)
+    ≡ answerOf (answerOf (givenTests fits limit angles fixed) ∷ answerOf (workTests f limit (column (misclosure f angles fixed)) (column (corrected f angles fixed))) ∷ [])
+in-two-steps f fits limit angles fixed =
+    answer-of-append (givenTests fits limit angles fixed) (misclosureTest f limit angles fixed ∷ resultTest f (corrected f angles fixed) ∷ [])
+    ∙ ap₂ (λ (a b : Verdict). answerOf (answerOf (givenTests fits limit angles fixed) ∷ answerOf (a ∷ b ∷ []) ∷ []))
     (ap (failsAt Refusal.MisclosureBeyondLimit) (column-search (misclosure f angles fixed) (negℤ (pos (limitOf limit))) (pos (limitOf limit)) (conditionCount f) (le-trans (condition-bound f) (lit≤ tt))))
     (ap (failsAt Refusal.ResultOutOfRange) (column-search (corrected f angles fixed) (pos leastAngle) (pos mostAngle) (angleCount f) (angle-bound f)))
+
+-- a sheet that passes all tests passes each step
+abbrev pub StepsPass : (f : Figure) (fits : Bool) (limit : ℕ) (angles fixed : List ℕ) → Type 0
+StepsPass f fits limit angles fixed =
+    (answerOf (givenTests fits limit angles fixed) ≡ Passed)
+    × (answerOf (workTests f limit (column (misclosure f angles fixed)) (column (corrected f angles fixed))) ≡ Passed)
+
+pub steps-pass : (f : Figure) (fits : Bool) (limit : ℕ) (angles fixed : List ℕ) → answerOf (judgedTests f fits limit angles fixed) ≡ Passed → StepsPass f fits limit angles fixed
+steps-pass f fits limit angles fixed e =
+    let both = answer-passes _ .0 (sym (in-two-steps f fits limit angles fixed) ∙ e) in
+    (both 0 (lit< tt), both 1 (lit< tt))
 
 -- ---- what passed before the work
 

@@ -6,7 +6,7 @@ use Prim.Native.Nat.{ℕ, suc, _≤_, _<_}
 use native.Mathlib.Nat.{lt-of-lt-of-le}
 use native.Mathlib.Decide.{decLt}
 use native.Mathlib.Omega.{arith}
-use borrow.Author.Tests.{eqb-true}
+use borrow.Author.Tests.{eqb-true, eq-eqb}
 use lib.Dec.{eqb}
 use lib.ListN.{length, getD, List·getD-eq-default}
 use lib.IntN.{ℤ, pos}
@@ -64,6 +64,10 @@ same-lengths [] [] e = refl
 same-lengths [] (m ∷ b) e = absurd (false≢true e)
 same-lengths (l ∷ a) [] e = absurd (false≢true e)
 same-lengths (l ∷ a) (m ∷ b) e = ap₂ _∷_ (eqb-true l m (and-first (eqb l m) (sameLengths a b) e)) (same-lengths a b (and-second (eqb l m) (sameLengths a b) e))
+
+pub lengths-same : (l : List ℕ) → sameLengths l l ≡ true
+lengths-same [] = refl
+lengths-same (n ∷ l) = rw (eq-eqb n n refl, lengths-same l)
 
 -- what a store leaves is the column's rule, listed
 pub stored-column : {A : Type 0} (g : ℕ → ℤ) (read : ℤ → A) (x : List ℤ) (count n : ℕ) → x ≡ column g → count ≡ n → n ≤ mostAngles

@@ -1,7 +1,7 @@
 -- The work of a pass by value, as columns.
 use Prim.Native.Nat.{ℕ, _^_, _≤_, _<_}
 use mathlib.Core.Bool.{Bool, not}
-use mathlib.Core.List.{List, [], _∷_}
+use mathlib.Core.List.{List, [], _∷_, _++_}
 use lib.Dec.{ltb}
 use lib.IntN.{ℤ, pos, natAbs, negℤ}
 use lib.Signed.{_≤ℤ_}
@@ -12,11 +12,11 @@ use Rattle.refusals.specs.declared.Refusal.{Refusal}
 use Rattle.refusals.specs.declared.Verdict.{Verdict}
 use Rattle.refusals.specs.Order.{failsIf, failsAt, lowestOutside, lowestPlace, numbered, outsideSigned}
 use Rattle.figures.specs.Figure.{angleCount, conditionCount}
-use Rattle.passes.specs.Pass.{leastAngle, mostAngle}
+use Rattle.passes.specs.Pass.{leastAngle, mostAngle, resultTest}
 use Rattle.figures.specs.declared.Figure.{Figure}
 use Rattle.passes.specs.declared.first.FirstWork.{FirstWork}
 use Rattle.passes.specs.Column.{column}
-use Rattle.passes.specs.FirstPass.{mostLimit, limitOf, misclosure, firstNumerator, firstRounded, corrected, firstRest}
+use Rattle.passes.specs.FirstPass.{mostLimit, misclosureTest, limitOf, misclosure, firstNumerator, firstRounded, corrected, firstRest}
 
 -- each value is less than 2²³, as every angle within range is
 abbrev pub Angles : List ℕ → Type 0
@@ -39,6 +39,10 @@ givenTests fits limit angles fixed =
     ∷ failsAt Refusal.AngleOutOfRange (lowestOutside angles leastAngle mostAngle)
     ∷ failsAt Refusal.FixedAngleOutOfRange (lowestOutside fixed leastAngle mostAngle)
     ∷ []
+
+abbrev pub judgedTests : Figure → (fits : Bool) (limit : ℕ) (angles fixed : List ℕ) → List Verdict
+judgedTests f fits limit angles fixed =
+    givenTests fits limit angles fixed ++ (misclosureTest f limit angles fixed ∷ resultTest f (corrected f angles fixed) ∷ [])
 
 abbrev pub workTests : Figure → (limit : ℕ) (misclosures corrected : List ℤ) → List Verdict
 workTests f limit misclosures corrected =

@@ -7,12 +7,13 @@ ghost use lib.ListN.{length};
 ghost use Rattle.whole.specs.Lists.{listed};
 ghost use Rattle.whole.specs.Sums.{vector};
 ghost use Rattle.refusals.specs.declared.Refusal.{Refusal};
+ghost use Rattle.refusals.specs.declared.Verdict.the-variants.{Passed};
 ghost use Rattle.refusals.specs.Order.{answerOf, failsAt, lowestOutside, lowestPlace, numbered, outsideSigned};
 ghost use Rattle.figures.specs.Figure.{figureOf};
 ghost use Rattle.figures.specs.Numerators.{mostAngles};
 ghost use Rattle.passes.specs.FirstPass.{firstLengths, firstTests, firstPassVerdict, limitOf, misclosuresOf, numeratorsOf, roundedOf, correctedOf, restsOf};
 ghost use Rattle.passes.specs.Pass.{leastAngle, mostAngle, ofNamed, sameLengths, stored};
-ghost use Rattle.passes.specs.Work.{Angles, StoresFit, firstWorkOf, givenTests, workTests};
+ghost use Rattle.passes.specs.Work.{Angles, StoresFit, firstWorkOf, givenTests, judgedTests, workTests};
 use crate::columns::Column;
 use crate::columns::column_of;
 use crate::columns::condition_sums;
@@ -30,6 +31,7 @@ use crate::tests::both;
 use crate::tests::results_verdict;
 use crate::tests::same;
 use figures::Figure;
+use figures::MOST_ANGLES;
 use figures::Named;
 use refusals::Lowest;
 use refusals::Refusal;
@@ -40,12 +42,18 @@ const DEFAULT_LIMIT: u32 = 150;
 
 const MOST_LIMIT: u32 = 600;
 
-struct FirstWork {
-    misclosures: Column,
-    numerators: Column,
-    rounded: Column,
-    corrected: Column,
-    rests: Column,
+// The work of a pass: a column for each thing that it gives.
+pub struct FirstWork {
+    pub misclosures: Column,
+    pub numerators: Column,
+    pub rounded: Column,
+    pub corrected: Column,
+    pub rests: Column,
+}
+
+pub struct FirstJudged {
+    pub verdict: Verdict,
+    pub work: FirstWork,
 }
 
 // All that the pass gives, by value, for angles within range.
@@ -147,6 +155,38 @@ fn work_verdict(f: Figure, limit: u32, misclosures: Column, corrected: Column) -
     refusals::first_to_fail(by_condition, results_verdict(corrected, counts.angles))
 }
 
+// Every test after number 1, and the work where all of them pass.
+pub fn first_judged(f: Figure, fits: bool, limit: u32, angles: &[u32], fixed: &[u32]) -> FirstJudged
+    ensures { λ r. ⌜ r .verdict ≡ answerOf (judgedTests f fits limit (now (angles .entry)) (now (fixed .entry))) ⌝ }
+    ensures { λ r. ⌜ (r .verdict ≡ Passed → r .work ≡ firstWorkOf f (now (angles .entry)) (now (fixed .entry))) ⌝ }
+{
+    let before = given_verdict(fits, limit, angles, fixed);
+    if let Verdict::Failed(_) = before {
+        return FirstJudged {
+            verdict: before,
+            work: no_work(),
+        };
+    }
+    let work = first_work(f, angles, fixed);
+    let by_condition = work.misclosures;
+    let by_angle = work.corrected;
+    let after = work_verdict(f, limit, by_condition, by_angle);
+    FirstJudged {
+        verdict: after,
+        work,
+    }
+}
+
+fn no_work() -> FirstWork {
+    FirstWork {
+        misclosures: [0i64; MOST_ANGLES],
+        numerators: [0i64; MOST_ANGLES],
+        rounded: [0i64; MOST_ANGLES],
+        corrected: [0i64; MOST_ANGLES],
+        rests: [0i64; MOST_ANGLES],
+    }
+}
+
 // The stores, once every test has passed.
 fn store_first(
     work: FirstWork,
@@ -239,17 +279,12 @@ fn first_pass_of(
         corrected.len(),
         rests.len(),
     );
-    let before = given_verdict(fits, limit, angles, fixed);
-    if let Verdict::Failed(_) = before {
-        return before;
+    let judged = first_judged(f, fits, limit, angles, fixed);
+    let verdict = judged.verdict;
+    if let Verdict::Failed(_) = verdict {
+        return verdict;
     }
-    let work = first_work(f, angles, fixed);
-    let by_condition = work.misclosures;
-    let by_angle = work.corrected;
-    let after = work_verdict(f, limit, by_condition, by_angle);
-    if let Verdict::Failed(_) = after {
-        return after;
-    }
+    let work = judged.work;
     store_first(work, misclosures, numerators, rounded, corrected, rests);
     Verdict::Passed
 }

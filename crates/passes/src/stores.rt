@@ -10,6 +10,17 @@ ghost use Rattle.figures.specs.Numerators.{mostAngles};
 ghost use Rattle.passes.specs.Column.{Below};
 use crate::columns::Column;
 
+pub fn store_wide(x: Column, lent: &mut [i64])
+    requires { ⌜ length (now lent) ≤ mostAngles ⌝ }
+    ensures { λ _. ⌜ now (lent .exit) ≡ listed (length (now (lent .entry))) (vector x) ⌝ }
+{
+    let mut i = 0;
+    while i < lent.len() {
+        lent[i] = x[i];
+        i += 1;
+    }
+}
+
 pub fn store_signed(x: Column, lent: &mut [i32])
     requires { ⌜ length (now lent) ≤ mostAngles ⌝ }
     requires { ⌜ ((i : ℕ) → i < length (now lent) → natAbs (vector x i) < 2147483648) ⌝ }

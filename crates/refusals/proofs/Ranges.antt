@@ -40,10 +40,10 @@ is-false : (t : Bool) → ¬ (T t) → t ≡ false
 is-false true h = absurd (h tt)
 is-false false h = refl
 
-less-signed : (a b : ℤ) → (ltZ a b ≡ true) ↔ (a <ℤ b)
+pub less-signed : (a b : ℤ) → (ltZ a b ≡ true) ↔ (a <ℤ b)
 less-signed a b = (λ e. ltZ-yes (subst T (sym e) tt), λ l. is-true (ltZ a b) (l .lt))
 
-not-less-signed : (a b : ℤ) → (ltZ a b ≡ false) ↔ (b ≤ℤ a)
+pub not-less-signed : (a b : ℤ) → (ltZ a b ≡ false) ↔ (b ≤ℤ a)
 not-less-signed a b =
     (λ e. ltZ-no (subst (λ (t : Bool). T (not t)) (sym e) tt), λ l. is-false (ltZ a b) (λ t. clashℤ (ltZ-yes t) l))
 

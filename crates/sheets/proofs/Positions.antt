@@ -1,0 +1,279 @@
+-- Where each place of a layout stands, by tests that antt computes over all kinds and figures: no place stands twice, each value that is counted
+-- has its place, and the values of one sort stand in a column. Assumes nothing.
+use Prim.Native.Nat.{ℕ, suc, _+_, _*_, _≤_, _<_, zero-le, suc-le-suc}
+use mathlib.Core.Bool.{Bool, true, false, cond, _&&_}
+use mathlib.Core.List.{List, [], _∷_, map}
+use mathlib.Core.Path.{_≡_, refl, sym, ap, ap₂, _∙_}
+use native.Mathlib.Nat.{le-of-suc-le-suc, not-suc-le-zero}
+use native.Mathlib.Omega.{arith}
+use lib.Dec.{T, eqb, leb, ltb, eqb→eq, leb→le, ltb→lt, lit≤}
+use lib.ListN.{length, getD, take}
+use Rattle.whole.specs.Lists.{every, everyBelow}
+use Rattle.whole.proofs.Computed.{and-left, and-right, every-at, every-below}
+use Rattle.whole.proofs.Lists.{listed-ext}
+use Rattle.bits.specs.Bits.{totalWidth, byteCount, fieldAt, signedOf}
+use Rattle.figures.specs.declared.Figure.{Figure}
+use Rattle.figures.specs.declared.Counts.{Counts}
+use Rattle.figures.specs.Figure.{allFigures, angleCount, fixedCount, countsOf}
+use Rattle.figures.proofs.Figures.{each-figure, angle-bound}
+use Rattle.sheets.specs.declared.Kind.{Kind}
+use Rattle.sheets.specs.declared.Kind.the-variants.{FirstPass, SecondPass}
+use Rattle.sheets.specs.declared.columns.Column.{Column}
+use Rattle.sheets.specs.Sheet.{Place, theKind, theCode, theN, limit, tolerance, angle, fixedAngle, logSine, difference, widthOf, head, layout, limitOrTolerancePlace, fixedIn, sineEntriesIn, bitCount, sheetSize, sort, numberOfPlace, same, positionOf, held, valuesRead}
+use Rattle.sheets.specs.Columns.{angleColumn, fixedColumn, logSineColumn, differenceColumn, columnValues, signedColumnValues}
+
+-- ---- places and their indexes
+
+-- a place is told by its sort and its number
+placeFrom : ℕ → ℕ → Place
+placeFrom s i =
+    getD (theKind ∷ theCode ∷ theN ∷ limit ∷ tolerance ∷ angle i ∷ fixedAngle i ∷ logSine i ∷ difference i ∷ []) s theKind
+
+told : (p : Place) → placeFrom (sort p) (numberOfPlace p) ≡ p
+unfolding placeFrom sort numberOfPlace
+told theKind = refl
+told theCode = refl
+told theN = refl
+told limit = refl
+told tolerance = refl
+told (angle i) = refl
+told (fixedAngle i) = refl
+told (logSine i) = refl
+told (difference i) = refl
+
+pub same-place : (p q : Place) → T (same p q) → p ≡ q
+unfolding same
+same-place p q t =
+    sym (told p)
+    ∙ ap₂ placeFrom (eqb→eq (sort p) (sort q) (and-left (eqb (sort p) (sort q)) (eqb (numberOfPlace p) (numberOfPlace q)) t))
+    (eqb→eq (numberOfPlace p) (numberOfPlace q) (and-right (eqb (sort p) (sort q)) (eqb (numberOfPlace p) (numberOfPlace q)) t))
+    ∙ told q
+
+-- the index at which a place is first met
+unfoldable pub indexOf : Place → List Place → ℕ
+unfolding same
+indexOf p [] = 0
+indexOf p (q ∷ later) = cond (same p q) 0 (suc (indexOf p later))
+
+pub position-by-index : (p : Place) (l : List Place) → positionOf p l ≡ totalWidth (take (indexOf p l) (map widthOf l))
+unfolding positionOf indexOf totalWidth
+position-by-index p [] = refl
+position-by-index p (q ∷ l) = go (same p q) (position-by-index p l)
+  where
+    go : (t : Bool) → positionOf p l ≡ totalWidth (take (indexOf p l) (map widthOf l))
+        → cond t 0 (widthOf q + positionOf p l) ≡ totalWidth (take (cond t 0 (suc (indexOf p l))) (widthOf q ∷ map widthOf l))
+    go true rest = refl
+    go false rest = ap (λ (n : ℕ). widthOf q + n) rest
+
+-- the place that is met at its index
+pub place-at-index : (p : Place) (l : List Place) (other : Place) → indexOf p l < length l → getD l (indexOf p l) other ≡ p
+unfolding indexOf
+place-at-index p [] other h = absurd (not-suc-le-zero h)
+place-at-index p (q ∷ l) other h = go (same p q) (same-place p q) (place-at-index p l other) h
+  where
+    go : (t : Bool) → (T t → p ≡ q) → (indexOf p l < length l → getD l (indexOf p l) other ≡ p)
+        → cond t 0 (suc (indexOf p l)) < suc (length l) → getD (q ∷ l) (cond t 0 (suc (indexOf p l))) other ≡ p
+    go true found later h = sym (found tt)
+    go false found later h = later (le-of-suc-le-suc h)
+
+-- ---- tests over all kinds and figures
+
+each : (test : Kind → Figure → Bool) → T (every (test FirstPass) allFigures && every (test SecondPass) allFigures) → (kind : Kind) (f : Figure) → T (test kind f)
+each test t FirstPass f = each-figure (test FirstPass) (and-left (every (test FirstPass) allFigures) (every (test SecondPass) allFigures) t) f
+each test t SecondPass f = each-figure (test SecondPass) (and-right (every (test FirstPass) allFigures) (every (test SecondPass) allFigures) t) f
+
+-- no place stands twice
+pub stands-once : (kind : Kind) (f : Figure) (k : ℕ) → k < length (layout kind f) → indexOf (getD (layout kind f) k theKind) (layout kind f) ≡ k
+unfolding layout indexOf same sort numberOfPlace
+stands-once kind f k h =
+    eqb→eq (indexOf (getD (layout kind f) k theKind) (layout kind f)) k
+    (every-below (length (layout kind f)) (λ j. eqb (indexOf (getD (layout kind f) j theKind) (layout kind f)) j)
+    (each (λ kind f. everyBelow (length (layout kind f)) (λ j. eqb (indexOf (getD (layout kind f) j theKind) (layout kind f)) j)) tt kind f) k h)
+
+-- every place of a layout is one that its kind counts for the figure
+abbrev isAmong : ℕ → ℕ → Bool
+isAmong count i = leb 1 i && leb i count
+
+abbrev pub counted : Kind → Figure → Place → Bool
+counted kind f theKind = true
+counted kind f theCode = true
+counted kind f theN = true
+counted kind f limit = same limit (limitOrTolerancePlace kind)
+counted kind f tolerance = same tolerance (limitOrTolerancePlace kind)
+counted kind f (angle i) = isAmong (angleCount f) i
+counted kind f (fixedAngle i) = isAmong (fixedIn kind f) i
+counted kind f (logSine i) = isAmong (sineEntriesIn kind f) i
+counted kind f (difference i) = isAmong (sineEntriesIn kind f) i
+
+pub each-counted : (kind : Kind) (f : Figure) (k : ℕ) → k < length (layout kind f) → T (counted kind f (getD (layout kind f) k theKind))
+unfolding layout same sort numberOfPlace
+each-counted kind f k h =
+    every-at (counted kind f) (layout kind f) (each (λ kind f. every (counted kind f) (layout kind f)) tt kind f) k theKind h
+
+pub narrow : (p : Place) → widthOf p ≤ 32
+narrow theKind = lit≤ tt
+narrow theCode = lit≤ tt
+narrow theN = lit≤ tt
+narrow limit = lit≤ tt
+narrow tolerance = lit≤ tt
+narrow (angle i) = lit≤ tt
+narrow (fixedAngle i) = lit≤ tt
+narrow (logSine i) = lit≤ tt
+narrow (difference i) = lit≤ tt
+
+-- the places of the head, and that of L or e, stand in every layout
+pub kind-stands : (kind : Kind) (f : Figure) → indexOf theKind (layout kind f) < length (layout kind f)
+unfolding layout indexOf same sort numberOfPlace
+kind-stands kind f = suc-le-suc zero-le
+
+pub code-stands : (kind : Kind) (f : Figure) → indexOf theCode (layout kind f) < length (layout kind f)
+unfolding layout indexOf same sort numberOfPlace
+code-stands kind f = suc-le-suc (suc-le-suc zero-le)
+
+pub n-stands : (kind : Kind) (f : Figure) → indexOf theN (layout kind f) < length (layout kind f)
+unfolding layout indexOf same sort numberOfPlace
+n-stands kind f = suc-le-suc (suc-le-suc (suc-le-suc zero-le))
+
+pub limit-stands : (kind : Kind) (f : Figure) → indexOf (limitOrTolerancePlace kind) (layout kind f) < length (layout kind f)
+unfolding layout indexOf same sort numberOfPlace
+limit-stands FirstPass f = suc-le-suc (suc-le-suc (suc-le-suc (suc-le-suc zero-le)))
+limit-stands SecondPass f = suc-le-suc (suc-le-suc (suc-le-suc (suc-le-suc zero-le)))
+
+-- ---- columns
+
+-- a place that is counted stands in the layout, and where its column says
+pub record InColumn (kind : Kind) (f : Figure) (p : Place) (c : Column) (i : ℕ) : Type 0 where
+  pub within : indexOf p (layout kind f) < length (layout kind f)
+  pub position : positionOf p (layout kind f) ≡ c .start + c .step * i
+  pub width : widthOf p ≡ c .width
+
+module _ (place : ℕ → Place) (count : Kind → Figure → ℕ) (column : Kind → Figure → Column) where
+  isInColumn : Kind → Figure → ℕ → Bool
+  isInColumn kind f i =
+      ltb (indexOf (place (suc i)) (layout kind f)) (length (layout kind f))
+      && (eqb (positionOf (place (suc i)) (layout kind f)) (column kind f .start + column kind f .step * i)
+      && eqb (widthOf (place (suc i))) (column kind f .width))
+
+  isColumn : Kind → Figure → Bool
+  isColumn kind f = everyBelow (count kind f) (isInColumn kind f)
+
+  in-column : T (every (isColumn FirstPass) allFigures && every (isColumn SecondPass) allFigures)
+      → (kind : Kind) (f : Figure) (i : ℕ) → i < count kind f → InColumn kind f (place (suc i)) (column kind f) i
+  unfolding isColumn isInColumn
+  in-column t kind f i h =
+      let p : Place = place (suc i) in
+      let first : Bool = ltb (indexOf p (layout kind f)) (length (layout kind f)) in
+      let second : Bool = eqb (positionOf p (layout kind f)) (column kind f .start + column kind f .step * i) in
+      let third : Bool = eqb (widthOf p) (column kind f .width) in
+      let all : T (first && (second && third)) = every-below (count kind f) (isInColumn kind f) (each isColumn t kind f) i h in
+      record {
+        within = ltb→lt (indexOf p (layout kind f)) (length (layout kind f)) (and-left first (second && third) all);
+        position = eqb→eq (positionOf p (layout kind f)) (column kind f .start + column kind f .step * i) (and-left second third (and-right first (second && third) all));
+        width = eqb→eq (widthOf p) (column kind f .width) (and-right second third (and-right first (second && third) all));
+      }
+
+pub angle-in-column : (kind : Kind) (f : Figure) (i : ℕ) → i < angleCount f → InColumn kind f (angle (suc i)) (angleColumn kind) i
+unfolding layout indexOf positionOf same sort numberOfPlace isColumn isInColumn
+angle-in-column = in-column angle (λ kind f. angleCount f) (λ kind f. angleColumn kind) tt
+
+pub fixed-in-column : (kind : Kind) (f : Figure) (i : ℕ) → i < fixedIn kind f → InColumn kind f (fixedAngle (suc i)) (fixedColumn f) i
+unfolding layout indexOf positionOf same sort numberOfPlace isColumn isInColumn
+fixed-in-column = in-column fixedAngle fixedIn (λ kind f. fixedColumn f) tt
+
+pub log-sine-in-column : (kind : Kind) (f : Figure) (i : ℕ) → i < sineEntriesIn kind f → InColumn kind f (logSine (suc i)) logSineColumn i
+unfolding layout indexOf positionOf same sort numberOfPlace isColumn isInColumn
+log-sine-in-column = in-column logSine sineEntriesIn (λ kind f. logSineColumn) tt
+
+pub difference-in-column : (kind : Kind) (f : Figure) (i : ℕ) → i < sineEntriesIn kind f → InColumn kind f (difference (suc i)) differenceColumn i
+unfolding layout indexOf positionOf same sort numberOfPlace isColumn isInColumn
+difference-in-column = in-column difference sineEntriesIn (λ kind f. differenceColumn) tt
+
+-- what is held at a place of a column
+held-in-column : (kind : Kind) (f : Figure) (s : List ℕ) (p : Place) (c : Column) (i : ℕ) → InColumn kind f p c i
+    → held (layout kind f) s p ≡ fieldAt s (c .start + c .step * i) (c .width)
+unfolding held
+held-in-column kind f s p c i h = ap₂ (fieldAt s) (h .position) (h .width)
+
+module _ (kind : Kind) (f : Figure) (s : List ℕ) where
+  pub angles-read : valuesRead kind f s .angles ≡ columnValues s (angleColumn kind) (angleCount f)
+  unfolding valuesRead columnValues
+  angles-read =
+      listed-ext (angleCount f) (λ i. held (layout kind f) s (angle (suc i))) (λ i. fieldAt s (angleColumn kind .start + angleColumn kind .step * i) (angleColumn kind .width))
+      (λ i h. held-in-column kind f s (angle (suc i)) (angleColumn kind) i (angle-in-column kind f i h))
+
+  pub fixed-read : valuesRead kind f s .fixed ≡ columnValues s (fixedColumn f) (fixedIn kind f)
+  unfolding valuesRead columnValues
+  fixed-read =
+      listed-ext (fixedIn kind f) (λ i. held (layout kind f) s (fixedAngle (suc i))) (λ i. fieldAt s (fixedColumn f .start + fixedColumn f .step * i) (fixedColumn f .width))
+      (λ i h. held-in-column kind f s (fixedAngle (suc i)) (fixedColumn f) i (fixed-in-column kind f i h))
+
+  pub log-sines-read : valuesRead kind f s .logSines ≡ columnValues s logSineColumn (sineEntriesIn kind f)
+  unfolding valuesRead columnValues
+  log-sines-read =
+      listed-ext (sineEntriesIn kind f) (λ i. held (layout kind f) s (logSine (suc i))) (λ i. fieldAt s (logSineColumn .start + logSineColumn .step * i) (logSineColumn .width))
+      (λ i h. held-in-column kind f s (logSine (suc i)) logSineColumn i (log-sine-in-column kind f i h))
+
+  pub differences-read : valuesRead kind f s .differences ≡ signedColumnValues s differenceColumn (sineEntriesIn kind f)
+  unfolding valuesRead signedColumnValues
+  differences-read =
+      listed-ext (sineEntriesIn kind f) (λ i. signedOf 15 (held (layout kind f) s (difference (suc i))))
+      (λ i. signedOf 15 (fieldAt s (differenceColumn .start + differenceColumn .step * i) (differenceColumn .width)))
+      (λ i h. ap (signedOf 15) (held-in-column kind f s (difference (suc i)) differenceColumn i (difference-in-column kind f i h)))
+
+-- L or e stands after the head
+pub limit-or-tolerance-read : (kind : Kind) (f : Figure) (s : List ℕ) → valuesRead kind f s .limitOrTolerance ≡ fieldAt s 12 (widthOf (limitOrTolerancePlace kind))
+unfolding valuesRead held positionOf layout same sort numberOfPlace
+limit-or-tolerance-read FirstPass f s = refl
+limit-or-tolerance-read SecondPass f s = refl
+
+-- ---- how many bits
+
+pub first-pass-bits : (f : Figure) → bitCount FirstPass f ≡ 22 + 23 * (angleCount f + fixedCount f)
+unfolding bitCount layout totalWidth
+first-pass-bits f =
+    eqb→eq (bitCount FirstPass f) (22 + 23 * (angleCount f + fixedCount f))
+    (each-figure (λ g. eqb (bitCount FirstPass g) (22 + 23 * (angleCount g + fixedCount g))) tt f)
+
+pub second-pass-bits : (f : Figure) → bitCount SecondPass f ≡ 18 + 65 * angleCount f
+unfolding bitCount layout totalWidth
+second-pass-bits f =
+    eqb→eq (bitCount SecondPass f) (18 + 65 * angleCount f) (each-figure (λ g. eqb (bitCount SecondPass g) (18 + 65 * angleCount g)) tt f)
+
+-- ---- the head stands first in every layout
+
+module _ (kind : Kind) (f : Figure) (s : List ℕ) where
+  pub kind-in-head : held (layout kind f) s theKind ≡ held head s theKind
+  unfolding held layout positionOf same sort numberOfPlace
+  kind-in-head = refl
+
+  pub code-in-head : held (layout kind f) s theCode ≡ held head s theCode
+  unfolding held layout positionOf same sort numberOfPlace
+  code-in-head = refl
+
+  pub n-in-head : held (layout kind f) s theN ≡ held head s theN
+  unfolding held layout positionOf same sort numberOfPlace
+  n-in-head = refl
+
+-- ---- how many values
+
+pub fixed-bound : (f : Figure) → fixedCount f ≤ 3
+fixed-bound f = leb→le (fixedCount f) 3 (each-figure (λ g. leb (fixedCount g) 3) tt f)
+
+pub few-angles : {r : Counts} (f : Figure) → r ≡ countsOf f → r .angles ≤ 24
+few-angles f e = rw e (angle-bound f)
+
+pub few-fixed : {r : Counts} (f : Figure) → r ≡ countsOf f → r .fixed ≤ 3
+few-fixed f e = rw e (fixed-bound f)
+
+pub few-bits : (kind : Kind) (f : Figure) → bitCount kind f ≤ 1_578
+few-bits FirstPass f = omega (arith, first-pass-bits f, angle-bound f, fixed-bound f)
+few-bits SecondPass f = omega (arith, second-pass-bits f, angle-bound f)
+
+-- the bytes hold the fields, and less than a byte more
+pub bits-within : (kind : Kind) (f : Figure) → bitCount kind f ≤ 8 * sheetSize kind f
+unfolding sheetSize byteCount
+bits-within kind f = omega arith
+
+pub bits-nearly : (kind : Kind) (f : Figure) → 8 * sheetSize kind f < bitCount kind f + 8
+unfolding sheetSize byteCount
+bits-nearly kind f = omega arith

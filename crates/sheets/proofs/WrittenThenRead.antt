@@ -1,0 +1,197 @@
+-- A sheet that the writer has accepted reads back as the same kind, figure, L or e and values: for every kind and figure.
+use Prim.Native.Nat.{ℕ, zero, suc, _≤_, _<_, _^_, zero-le, suc-le-suc}
+use mathlib.Core.Bool.{false, _&&_}
+use mathlib.Core.List.{List, [], _∷_, map}
+use mathlib.Core.Path.{_≡_, refl, sym, ap, ap₂, subst, _∙_}
+use native.Mathlib.Nat.{lt-of-le-of-lt}
+use native.Mathlib.Omega.{arith}
+use lib.Dec.{T, leb, ltb, leb→le, ltb→lt, lit<, lit≤}
+use lib.IntN.{ℤ, pos}
+use lib.ListN.{length, getD, take, replicate, length-map, List·getD-map}
+use Rattle.whole.specs.Lists.{listed}
+use Rattle.whole.proofs.Computed.{and-right}
+use Rattle.whole.proofs.Lists.{listed-ext, listed-getD}
+use Rattle.refusals.specs.declared.Verdict.the-variants.{Passed}
+use Rattle.refusals.specs.Order.{answerOf, numbered}
+use Rattle.bits.specs.Bits.{Field, bytesOf, byteCount, fillingWidth, fieldAt, totalWidth, widths, packedBits, AllFit, signedOf}
+use Rattle.bits.proofs.Bytes.{bitsOf-bytesOf, length-bytesOf}
+use Rattle.bits.proofs.Packed.{length-packedBits, fieldAt-packed, filling-zero}
+use Rattle.bits.proofs.Complement.{signedOf-twosComplement, twosComplement-lt}
+use Rattle.figures.specs.declared.Figure.{Figure}
+use Rattle.figures.specs.Figure.{description, angleCount, figureOf}
+use Rattle.figures.proofs.Figures.{each-figure}
+use Rattle.figures.proofs.Naming.{named-exactly}
+use Rattle.sheets.specs.declared.Kind.{Kind}
+use Rattle.sheets.specs.declared.Kind.the-variants.{FirstPass, SecondPass}
+use Rattle.sheets.specs.declared.Lengths.{Lengths}
+use Rattle.sheets.specs.declared.Reading.the-variants.{Read}
+use Rattle.sheets.specs.Ranges.{mostLimitOrTolerance}
+use Rattle.sheets.specs.Sheet.{Place, theKind, theCode, theN, limit, tolerance, angle, fixedAngle, logSine, difference, widthOf, limitOrTolerancePlace, layout, kindOf, fixedIn, sineEntriesIn, lengthsOf, bitCount, sheetSize, Values, valuesFrom, numberOfKind, numberAt, fieldOf, packedSheet, positionOf, held, valuesRead, fillingOf}
+use Rattle.sheets.specs.Judging.{kindNumberIn, codeIn, nIn, valueTests, lengthsGiven, kindOrOther, figureOrOther, readingOf, writingOf, sheetGiven}
+use Rattle.sheets.proofs.Positions.{same-place, indexOf, position-by-index, place-at-index, counted, each-counted, narrow, angle-in-column, fixed-in-column, log-sine-in-column, difference-in-column, kind-stands, code-stands, n-stands, limit-stands, kind-in-head, code-in-head, n-in-head}
+use Rattle.sheets.proofs.Naming.{kind-exactly}
+use Rattle.sheets.proofs.Accepted.{Accepted, Given, accepted-back, writer-accepted}
+use Rattle.sheets.proofs.InRange.{InRange, in-range, difference-fits}
+use Rattle.sheets.proofs.Layouts.{fields-widths, fields-bits}
+use Rattle.sheets.proofs.ReadThenWritten.{width-at}
+
+-- ---- every number fits its field
+
+code-small : (f : Figure) → description f .code < 16
+code-small f = ltb→lt (description f .code) 16 (each-figure (λ g. ltb (description g .code) 16) tt f)
+
+n-small : (f : Figure) → description f .n < 16
+n-small f = ltb→lt (description f .n) 16 (each-figure (λ g. ltb (description g .n) 16) tt f)
+
+kind-small : (kind : Kind) → numberOfKind kind < 16
+kind-small FirstPass = lit< tt
+kind-small SecondPass = lit< tt
+
+-- a value by its number, where every value is at most `most`
+numbered-fits : (values : List ℕ) (most w count i : ℕ) → most < 2 ^ w → length values ≡ count → ((j : ℕ) → j < length values → getD values j 0 ≤ most)
+    → T (leb 1 i && leb i count) → numbered values i 0 < 2 ^ w
+numbered-fits values most w count zero m e h t = absurd t
+numbered-fits values most w count (suc j) m e h t =
+    lt-of-le-of-lt (h j (omega (arith, leb→le (suc j) count (and-right (leb 1 (suc j)) (leb (suc j) count) t)))) m
+
+module _ (kind : Kind) (f : Figure) (v : Values) (lengths : lengthsGiven v ≡ lengthsOf kind f) (range : InRange kind v) where
+  limit-fits : (p : Place) → p ≡ limitOrTolerancePlace kind → v .limitOrTolerance < 2 ^ widthOf p
+  limit-fits p e = subst (λ (q : Place). v .limitOrTolerance < 2 ^ widthOf q) (sym e) (go kind (range .limitOrTolerance))
+    where
+      go : (kind : Kind) → v .limitOrTolerance ≤ mostLimitOrTolerance kind → v .limitOrTolerance < 2 ^ widthOf (limitOrTolerancePlace kind)
+      go FirstPass h = omega arith
+      go SecondPass h = omega arith
+
+  number-fits : (p : Place) → T (counted kind f p) → numberAt kind f v p < 2 ^ widthOf p
+  number-fits theKind t = kind-small kind
+  number-fits theCode t = code-small f
+  number-fits theN t = n-small f
+  number-fits limit t = limit-fits limit (same-place limit (limitOrTolerancePlace kind) t)
+  number-fits tolerance t = limit-fits tolerance (same-place tolerance (limitOrTolerancePlace kind) t)
+  number-fits (angle i) t = numbered-fits (v .angles) 6479999 23 (angleCount f) i (lit< tt) (ap (λ (l : Lengths). l .angles) lengths) (λ j h. range .angles j h .1) t
+  number-fits (fixedAngle i) t = numbered-fits (v .fixed) 6479999 23 (fixedIn kind f) i (lit< tt) (ap (λ (l : Lengths). l .fixed) lengths) (λ j h. range .fixed j h .1) t
+  number-fits (logSine i) t = numbered-fits (v .logSines) 100000000 27 (sineEntriesIn kind f) i (lit< tt) (ap (λ (l : Lengths). l .«log_sines») lengths) (λ j h. range .logSines j h .1) t
+  number-fits (difference i) t = twosComplement-lt 15 (numbered (v .differences) i (pos 0))
+
+  all-fit : (ps : List Place) → ((k : ℕ) → k < length ps → T (counted kind f (getD ps k theKind))) → AllFit (map (fieldOf kind f v) ps)
+  unfolding AllFit
+  all-fit [] h = tt
+  all-fit (p ∷ ps) h = (number-fits p (h 0 (suc-le-suc zero-le)), all-fit ps (λ k l. h (suc k) (suc-le-suc l)))
+
+  -- ---- what is held at each place
+
+  pub held-written : (p : Place) → indexOf p (layout kind f) < length (layout kind f) → held (layout kind f) (packedSheet kind f v) p ≡ numberAt kind f v p
+  unfolding held packedSheet
+  held-written p h =
+      let places : List Place = layout kind f in
+      let g : Place → Field = fieldOf kind f v in
+      let fs : List Field = map g places in
+      let k : ℕ = indexOf p places in
+      let s : List ℕ = bytesOf (packedBits fs) in
+      let there : getD places k theKind ≡ p = place-at-index p places theKind h in
+      let width : getD (widths fs) k 0 ≡ widthOf p =
+      ap (λ (ws : List ℕ). getD ws k 0) (fields-widths kind f v places) ∙ width-at kind f k h ∙ ap widthOf there in
+      let position : totalWidth (take k (widths fs)) ≡ positionOf p places =
+      ap (λ (ws : List ℕ). totalWidth (take k ws)) (fields-widths kind f v places) ∙ sym (position-by-index p places) in
+      ap₂ (fieldAt s) (sym position) (sym width)
+      ∙ fieldAt-packed s fs (replicate (fillingWidth (length (packedBits fs))) false) k (g theKind) (bitsOf-bytesOf (packedBits fs))
+      (all-fit places (each-counted kind f)) (omega (arith, length-map places g)) (subst (λ (w : ℕ). w ≤ 32) (sym width) (narrow p))
+      ∙ ap (λ (q : Field). q .holds) (List·getD-map g places k theKind ∙ ap g there)
+
+-- ---- the values are read back
+
+limit-number : (kind : Kind) (f : Figure) (v : Values) → numberAt kind f v (limitOrTolerancePlace kind) ≡ v .limitOrTolerance
+limit-number FirstPass f v = refl
+limit-number SecondPass f v = refl
+
+listed-back : {A : Type 0} (count : ℕ) (values : List A) (g : ℕ → A) (d : A) → length values ≡ count → ((i : ℕ) → i < count → g i ≡ getD values i d) → listed count g ≡ values
+listed-back count values g d e h =
+    listed-ext count g (λ i. getD values i d) h ∙ ap (λ (n : ℕ). listed n (λ i. getD values i d)) (sym e) ∙ listed-getD d values
+
+module _ (kind : Kind) (f : Figure) (v : Values) (lengths : lengthsGiven v ≡ lengthsOf kind f) (range : InRange kind v) where
+  abbrev sheet : List ℕ
+  sheet = packedSheet kind f v
+
+  abbrev at : Place → ℕ
+  at p = held (layout kind f) sheet p
+
+  limit-back : at (limitOrTolerancePlace kind) ≡ v .limitOrTolerance
+  limit-back = held-written kind f v lengths range (limitOrTolerancePlace kind) (limit-stands kind f) ∙ limit-number kind f v
+
+  angles-back : listed (angleCount f) (λ i. at (angle (suc i))) ≡ v .angles
+  angles-back =
+      listed-back (angleCount f) (v .angles) (λ i. at (angle (suc i))) 0 (ap (λ (l : Lengths). l .angles) lengths)
+      (λ i h. held-written kind f v lengths range (angle (suc i)) (angle-in-column kind f i h .within))
+
+  fixed-back : listed (fixedIn kind f) (λ i. at (fixedAngle (suc i))) ≡ v .fixed
+  fixed-back =
+      listed-back (fixedIn kind f) (v .fixed) (λ i. at (fixedAngle (suc i))) 0 (ap (λ (l : Lengths). l .fixed) lengths)
+      (λ i h. held-written kind f v lengths range (fixedAngle (suc i)) (fixed-in-column kind f i h .within))
+
+  log-sines-back : listed (sineEntriesIn kind f) (λ i. at (logSine (suc i))) ≡ v .logSines
+  log-sines-back =
+      listed-back (sineEntriesIn kind f) (v .logSines) (λ i. at (logSine (suc i))) 0 (ap (λ (l : Lengths). l .«log_sines») lengths)
+      (λ i h. held-written kind f v lengths range (logSine (suc i)) (log-sine-in-column kind f i h .within))
+
+  differences-back : listed (sineEntriesIn kind f) (λ i. signedOf 15 (at (difference (suc i)))) ≡ v .differences
+  differences-back =
+      listed-back (sineEntriesIn kind f) (v .differences) (λ i. signedOf 15 (at (difference (suc i)))) (pos 0) (ap (λ (l : Lengths). l .differences) lengths)
+      (λ i h.
+      let within = range .differences i (omega (arith, ap (λ (l : Lengths). l .«log_sines») lengths)) in
+      ap (signedOf 15) (held-written kind f v lengths range (difference (suc i)) (difference-in-column kind f i h .within))
+      ∙ signedOf-twosComplement 15 (lit≤ tt) (lit≤ tt) (getD (v .differences) i (pos 0)) (difference-fits (getD (v .differences) i (pos 0)) (within .0) (within .1)))
+
+  pub values-back : valuesRead kind f sheet ≡ v
+  unfolding valuesRead
+  values-back =
+      ap₂ (λ (l : ℕ) (a : List ℕ). valuesFrom l a (listed (fixedIn kind f) (λ i. at (fixedAngle (suc i)))) (listed (sineEntriesIn kind f) (λ i. at (logSine (suc i))))
+      (listed (sineEntriesIn kind f) (λ i. signedOf 15 (at (difference (suc i)))))) limit-back angles-back
+      ∙ ap₂ (λ (x l : List ℕ). valuesFrom (v .limitOrTolerance) (v .angles) x l (listed (sineEntriesIn kind f) (λ i. signedOf 15 (at (difference (suc i)))))) fixed-back log-sines-back
+      ∙ ap (λ (d : List ℤ). valuesFrom (v .limitOrTolerance) (v .angles) (v .fixed) (v .logSines) d) differences-back
+
+  -- ---- the sheet is accepted
+
+  pub written-accepted : answerOf (valueTests kind v) ≡ Passed → Accepted sheet (lengthsOf kind f) kind f (v .limitOrTolerance)
+  unfolding packedSheet sheetSize fillingOf
+  written-accepted passes =
+      let fs : List Field = map (fieldOf kind f v) (layout kind f) in
+      record {
+        kind-named = kind-exactly (kindNumberIn sheet) kind .1 (sym (kind-in-head kind f sheet) ∙ held-written kind f v lengths range theKind (kind-stands kind f));
+        figure-named = named-exactly (codeIn sheet) (nIn sheet) f .1
+            (sym (code-in-head kind f sheet) ∙ held-written kind f v lengths range theCode (code-stands kind f), sym (n-in-head kind f sheet) ∙ held-written kind f v lengths range theN (n-stands kind f));
+        size = length-bytesOf (packedBits fs) ∙ ap byteCount (length-packedBits fs ∙ fields-bits kind f v);
+        lengths = refl;
+        filling = ap (λ (n : ℕ). fieldAt (bytesOf (packedBits fs)) n (fillingWidth n)) (sym (fields-bits kind f v)) ∙ filling-zero fs;
+        values = ap (λ (w : Values). answerOf (valueTests kind w)) values-back ∙ passes;
+        as-packed = ap (λ (w : Values). w .limitOrTolerance) values-back;
+      }
+
+-- ---- a written sheet
+
+long-enough : (kind : Kind) (f : Figure) → 2 ≤ sheetSize kind f
+unfolding sheetSize byteCount bitCount layout totalWidth
+long-enough FirstPass f = leb→le 2 (sheetSize FirstPass f) (each-figure (λ g. leb 2 (sheetSize FirstPass g)) tt f)
+long-enough SecondPass f = leb→le 2 (sheetSize SecondPass f) (each-figure (λ g. leb 2 (sheetSize SecondPass g)) tt f)
+
+-- what the reader answers to a written sheet, in slices of the lengths of the values, and the values that it reads
+pub record ReadsBack (kind : Kind) (f : Figure) (v : Values) (sheet : List ℕ) : Type 0 where
+  pub read : readingOf sheet (lengthsGiven v) ≡ Read kind f (v .limitOrTolerance)
+  pub values : valuesRead kind f sheet ≡ v
+
+reads-back : (kind : Kind) (f : Figure) (v : Values) (size : ℕ) → Given kind f v size → ReadsBack kind f v (packedSheet kind f v)
+reads-back kind f v size h =
+    let range : InRange kind v = in-range kind v (h .values) in
+    let is : Accepted (packedSheet kind f v) (lengthsOf kind f) kind f (v .limitOrTolerance) = written-accepted kind f v (h .lengths) range (h .values) in
+    record {
+      read =
+          ap (readingOf (packedSheet kind f v)) (h .lengths)
+          ∙ accepted-back (packedSheet kind f v) (lengthsOf kind f) kind f (v .limitOrTolerance) (omega (arith, long-enough kind f, is .size)) is;
+      values = values-back kind f v (h .lengths) range;
+    }
+
+-- demand 2: "a written sheet reads back as the same values"
+pub written-then-read : (kind code n : ℕ) (v : Values) (size : ℕ) → writingOf kind code n v size ≡ Passed
+    → ReadsBack (kindOrOther (kindOf kind)) (figureOrOther (figureOf code n)) v (sheetGiven kind code n v)
+unfolding sheetGiven
+written-then-read kind code n v size e =
+    reads-back (kindOrOther (kindOf kind)) (figureOrOther (figureOf code n)) v size (writer-accepted kind code n v size e .1)

@@ -1,0 +1,5 @@
+pub mod Columns
+pub mod Judging
+pub mod Parts
+pub mod Ranges
+pub mod Sheet

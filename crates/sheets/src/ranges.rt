@@ -1,0 +1,65 @@
+// The ranges of document 01, "Units and ranges", and the tests of values against them, which reader and writer share.
+use crate::Kind;
+use refusals::Lowest;
+use refusals::Refusal;
+use refusals::Verdict;
+use refusals::earlier_place;
+ghost use mathlib.Core.Path.{_≡_};
+ghost use Rattle.refusals.specs.Order.{answerOf, earlierOf};
+ghost use Rattle.sheets.specs.Ranges.{mostLimitOrTolerance};
+ghost use Rattle.sheets.specs.Judging.{rangeTests};
+
+// Tenths of an arc second.
+pub const LEAST_ANGLE: u32 = 1;
+
+pub const MOST_ANGLE: u32 = 6_479_999;
+
+// Log-sine plus 10, in units of the seventh decimal.
+pub const LEAST_LOG_SINE: u32 = 1;
+
+pub const MOST_LOG_SINE: u32 = 100_000_000;
+
+// Sine difference for 1″, in hundredths of the sixth decimal.
+pub const LEAST_DIFFERENCE: i32 = -9_999;
+
+pub const MOST_DIFFERENCE: i32 = 9_999;
+
+// L in tenths, e in seconds; either may be 0.
+pub const MOST_LIMIT: u32 = 600;
+
+pub const MOST_TOLERANCE: u32 = 50;
+
+fn most_limit_or_tolerance(kind: Kind) -> u32
+    ensures { λ most. ⌜ most ≡ mostLimitOrTolerance kind ⌝ }
+{
+    match kind {
+        Kind::FirstPass => MOST_LIMIT,
+        Kind::SecondPass => MOST_TOLERANCE,
+    }
+}
+
+// The tests 3, 4, 5 and 8 in their order, from L or e and the lowest places at which values of each sort lie outside their range.
+pub(crate) fn range_verdict(
+    kind: Kind,
+    limit_or_tolerance: u32,
+    angle: Lowest,
+    fixed_angle: Lowest,
+    log_sine: Lowest,
+    difference: Lowest,
+) -> Verdict
+    ensures { λ verdict. ⌜ verdict ≡ answerOf (rangeTests kind «limit_or_tolerance» angle «fixed_angle» (earlierOf «log_sine» difference)) ⌝ }
+{
+    if most_limit_or_tolerance(kind) < limit_or_tolerance {
+        return Verdict::Failed(Refusal::LimitOrToleranceOutOfRange);
+    }
+    if let Lowest::At(place) = angle {
+        return Verdict::Failed(Refusal::AngleOutOfRange(place));
+    }
+    if let Lowest::At(place) = fixed_angle {
+        return Verdict::Failed(Refusal::FixedAngleOutOfRange(place));
+    }
+    match earlier_place(log_sine, difference) {
+        Lowest::At(place) => Verdict::Failed(Refusal::SineEntryOutOfRange(place)),
+        Lowest::Nowhere => Verdict::Passed,
+    }
+}

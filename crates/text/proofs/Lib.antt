@@ -1,0 +1,6 @@
+mod Examples
+pub mod Laying
+pub mod Lines
+pub mod Numbers
+mod Spelling
+mod Tests

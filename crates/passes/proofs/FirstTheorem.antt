@@ -1,9 +1,10 @@
 -- Demand 3 of an accepted first pass, in its own words, citing the figures' theorem. Assumes nothing.
 use mathlib.Core.Path.{_≡_, refl, sym, ap, _∙_}
 use mathlib.Core.List.{List, [], _∷_}
-use Prim.Native.Nat.{ℕ, _≤_, _<_}
+use Prim.Native.Nat.{ℕ, suc, _*_, _≤_, _<_}
+use lib.ListN.{length}
 use native.Mathlib.Omega.{arith}
-use lib.IntN.{ℤ, pos, negℤ, _*ℤ_}
+use lib.IntN.{ℤ, pos, negℤ, natAbs, _*ℤ_}
 use lib.Signed.{_≤ℤ_}
 use Rattle.whole.specs.Sums.{squares}
 use Rattle.refusals.specs.declared.Refusal.{Refusal}
@@ -13,10 +14,12 @@ use Rattle.refusals.specs.Order.{answerOf}
 use Rattle.figures.specs.declared.Figure.{Figure}
 use Rattle.figures.specs.declared.Named.{Named}
 use Rattle.figures.specs.declared.Named.the-variants.{As, Nothing}
-use Rattle.figures.specs.Figure.{denominator, angleCount, conditionCount, figureOf}
+use Rattle.figures.specs.Figure.{denominator, angleCount, conditionCount, membersOf, figureOf}
 use Rattle.figures.specs.Numerators.{conditionSum}
+use Rattle.figures.proofs.Figures.{denominator-positive}
 use Rattle.figures.proofs.Theorem.{numerators-cancel, least-squares, only-least}
-use Rattle.passes.specs.FirstPass.{misclosure, firstNumerator, firstTests, firstPassTests, firstPassVerdict}
+use Rattle.passes.proofs.Rests.{rest-small}
+use Rattle.passes.specs.FirstPass.{misclosure, firstNumerator, firstRounded, firstRest, firstTests, firstPassTests, firstPassVerdict}
 use Rattle.passes.specs.Pass.{ofNamed}
 
 -- the figure of an accepted sheet
@@ -45,6 +48,11 @@ module _ (code n limit : ℕ) (angles fixed lent : List ℕ) where
     pub exact-cancel : (j : ℕ) → j < conditionCount f → conditionSum f (firstNumerator f angles fixed) j ≡ negℤ (pos (denominator f)) *ℤ misclosure f angles fixed j
     unfolding firstNumerator
     exact-cancel j h = numerators-cancel f (misclosure f angles fixed) j h
+
+    -- a rest is at most half a tenth for each angle of its condition
+    pub rest-half : (j : ℕ) → j < conditionCount f → 2 * natAbs (firstRest f angles fixed j) ≤ length (membersOf f (suc j))
+    unfolding firstRest firstRounded
+    rest-half j h = rest-small f (firstNumerator f angles fixed) (denominator f) j (misclosure f angles fixed j) (denominator-positive f) (exact-cancel j h)
 
     -- any corrections whatever, x over one common denominator q, that cancel every listed misclosure
     module _ (q : ℕ) (positive : 0 < q) (x : ℕ → ℤ) (cancel : (j : ℕ) → j < conditionCount f → conditionSum f x j ≡ negℤ (pos q) *ℤ misclosure f angles fixed j) where

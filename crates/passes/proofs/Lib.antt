@@ -14,13 +14,14 @@ pub mod OrderLaws
 pub mod ProductLaws
 pub mod Rests
 pub mod SecondAccepted
-pub mod SecondCases
+mod SecondExamples
 pub mod SecondLaws
 pub mod SecondPassTheorem
 pub mod SecondRefusals
 pub mod SecondStores
 pub mod SheetBounds
 pub mod SineLaws
+pub mod StarredCases
 pub mod StepLaws
 pub mod TargetLaws
 pub mod ToleranceLaws

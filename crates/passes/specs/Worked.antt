@@ -51,7 +51,7 @@ pub record ReadInto (sheet : List ℕ) (kind : Kind) (f : Figure) (r : SheetValu
   pub fixed-are : take (fixedIn kind f) (r .fixed) ≡ afterReading (r .reading) (λ k g. valuesRead k g sheet .fixed) (take (fixedIn kind f) (r .fixed))
   pub log-sines-are : take (sineEntriesIn kind f) (r .«log_sines») ≡ afterReading (r .reading) (λ k g. valuesRead k g sheet .logSines) (take (sineEntriesIn kind f) (r .«log_sines»))
   pub differences-are :
-    take (sineEntriesIn kind f) (r .differences) ≡ afterReading (r .reading) (λ k g. valuesRead k g sheet .differences) (take (sineEntriesIn kind f) (r .differences))
+      take (sineEntriesIn kind f) (r .differences) ≡ afterReading (r .reading) (λ k g. valuesRead k g sheet .differences) (take (sineEntriesIn kind f) (r .differences))
 
 -- ---- what is shown of a sheet
 

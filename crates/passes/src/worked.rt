@@ -124,10 +124,23 @@ fn first_shown(f: Figure, given: Column, work: FirstWork) -> WorkedSheet
 }
 
 // A sheet of kind 2.
-fn second_sheet(f: Figure, tolerance: u32, angles: &[u32], log_sines: &[u32], differences: &[i32]) -> WorkedSheet
+fn second_sheet(
+    f: Figure,
+    tolerance: u32,
+    angles: &[u32],
+    log_sines: &[u32],
+    differences: &[i32],
+) -> WorkedSheet
     ensures { λ r. ⌜ r ≡ secondSheet f tolerance (now (angles .entry)) (now («log_sines» .entry)) (now (differences .entry)) ⌝ }
 {
-    let work = figure_work(f, tolerance, angles, log_sines, differences, right_lengths(f));
+    let work = figure_work(
+        f,
+        tolerance,
+        angles,
+        log_sines,
+        differences,
+        right_lengths(f),
+    );
     let verdict = work.verdict;
     match verdict {
         Verdict::Failed(refusal) => refused(refusal),

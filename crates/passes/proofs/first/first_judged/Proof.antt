@@ -50,11 +50,12 @@ returns c =
     let g = c .before .before .before in
     let s = g .before .before .before in
     let told = c .before .enum-told .given .1 in
-    let failed = sym (g .given-verdict .ensures) ∙ told in
-    (g .given-verdict .ensures ∙ sym (two-steps s ∙ stops (GivenAnswer s) (WorkAnswer s) failed),
-    λ passed.
-        let clash : _≡_ {A = ℕ} 0 1 = cc (told, passed) in
-        absurd (omega arith))
+    let failed = sym (g .given-verdict .ensures) ∙ told in (
+      g .given-verdict .ensures ∙ sym (two-steps s ∙ stops (GivenAnswer s) (WorkAnswer s) failed),
+      λ passed.
+          let clash : _≡_ {A = ℕ} 0 1 = cc (told, passed) in
+          absurd (omega arith),
+    )
 
 returns-2 : tie.Need-returns-2
 returns-2 c =
@@ -62,11 +63,12 @@ returns-2 c =
     let g = told .before .before in
     let s = g .before .before .before in
     let work = c .before .before .before .first-work .ensures in
-    let passed = sym (g .given-verdict .ensures) ∙ told .enum-told2 .given .1 in
-    (c .work-verdict .ensures
-    ∙ ap (λ (w : FirstWork). answerOf (workTests (F s) (s .args .limit) (w .misclosures) (w .corrected))) work
-    ∙ sym (two-steps s ∙ goes-on (GivenAnswer s) (WorkAnswer s) passed),
-    λ _. work)
+    let passed = sym (g .given-verdict .ensures) ∙ told .enum-told2 .given .1 in (
+      c .work-verdict .ensures
+          ∙ ap (λ (w : FirstWork). answerOf (workTests (F s) (s .args .limit) (w .misclosures) (w .corrected))) work
+          ∙ sym (two-steps s ∙ goes-on (GivenAnswer s) (WorkAnswer s) passed),
+      λ _. work,
+    )
 
 pub first-judged-spec : {M : Type 1} → statement M
 first-judged-spec =

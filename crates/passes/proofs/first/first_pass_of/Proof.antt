@@ -116,13 +116,22 @@ returns-2 c =
     let j = accepted .before .before in
     let s = start j in
     let told = accepted .enum-told2 .given .1 in
-    let done = stores .store-first .ensures in
-    (sym told ∙ verdict-is j,
-    (done .0 ∙ by-column j told (λ z. z) (λ x. x .misclosures) (misclosure (F s) (Angles s) (Fixed s)) 2 _ refl refl (few-conditions j told),
-    (done .1 .0 ∙ by-column j told (λ z. z) (λ x. x .numerators) (firstNumerator (F s) (Angles s) (Fixed s)) 3 _ refl refl (angle-bound (F s)),
-    (done .1 .1 .0 ∙ by-column j told (λ z. z) (λ x. x .rounded) (firstRounded (F s) (Angles s) (Fixed s)) 4 _ refl refl (angle-bound (F s)),
-    (done .1 .1 .1 .0 ∙ by-column j told natAbs (λ x. x .corrected) (corrected (F s) (Angles s) (Fixed s)) 5 _ refl refl (angle-bound (F s)),
-    done .1 .1 .1 .1 ∙ by-column j told (λ z. z) (λ x. x .rests) (firstRest (F s) (Angles s) (Fixed s)) 6 _ refl refl (few-conditions j told))))))
+    let done = stores .store-first .ensures in (
+      sym told ∙ verdict-is j,
+      (
+        done .0 ∙ by-column j told (λ z. z) (λ x. x .misclosures) (misclosure (F s) (Angles s) (Fixed s)) 2 _ refl refl (few-conditions j told),
+        (
+          done .1 .0 ∙ by-column j told (λ z. z) (λ x. x .numerators) (firstNumerator (F s) (Angles s) (Fixed s)) 3 _ refl refl (angle-bound (F s)),
+          (
+            done .1 .1 .0 ∙ by-column j told (λ z. z) (λ x. x .rounded) (firstRounded (F s) (Angles s) (Fixed s)) 4 _ refl refl (angle-bound (F s)),
+            (
+              done .1 .1 .1 .0 ∙ by-column j told natAbs (λ x. x .corrected) (corrected (F s) (Angles s) (Fixed s)) 5 _ refl refl (angle-bound (F s)),
+              done .1 .1 .1 .1 ∙ by-column j told (λ z. z) (λ x. x .rests) (firstRest (F s) (Angles s) (Fixed s)) 6 _ refl refl (few-conditions j told),
+            ),
+          ),
+        ),
+      ),
+    )
 
 pub first-pass-of-spec : {M : Type 1} → statement M
 first-pass-of-spec =

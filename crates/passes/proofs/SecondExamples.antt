@@ -1,5 +1,5 @@
--- Sheets of the second pass worked through, computed from the definitions (document 01, "Sheets worked through", cases 6, 7 and 9, and its printed sheet
--- of kind 2), and the edges of the ranges. Each table is proved by one computed statement.
+-- Sheets of the second pass worked through, computed from the definitions (document 01, "Sheets worked through", case 9 and its printed sheet of
+-- kind 2), and the edges of the ranges. Each table is proved by one computed statement.
 use mathlib.Core.Path.{_≡_, refl}
 use mathlib.Core.List.{List, [], _∷_, map}
 use Prim.Native.Nat.{ℕ, zero, suc}
@@ -9,56 +9,18 @@ use Rattle.whole.specs.Lists.{listed}
 use Rattle.whole.specs.Quotient.{nearest, roundedQuotient}
 use Rattle.whole.specs.Sums.{sum, dot, applied}
 use Rattle.refusals.specs.declared.Refusal.{Refusal}
-use Rattle.refusals.specs.declared.Verdict.{Verdict}
-use Rattle.refusals.specs.declared.Verdict.the-variants.{Passed, Failed}
-use Rattle.refusals.specs.Numbers.{numberOf}
 use Rattle.refusals.specs.Order.{answerOf, lowestPlace}
 use Rattle.figures.specs.declared.Figure.{Figure}
 use Rattle.figures.specs.declared.Figure.the-variants.{Quadrilateral}
 use Rattle.figures.specs.Figure.{angleCount, conditionCount, figureOf}
 use Rattle.figures.specs.Numerators.{conditionSum, sumOver, numerator, reducedCoefficient}
+use Rattle.passes.proofs.StarredCases.{differences-6}
 use Rattle.passes.specs.declared.second.SecondAnswer.{SecondAnswer}
 use Rattle.passes.specs.declared.second.SecondAnswer.the-variants.{Done, Refused}
-use Rattle.passes.specs.SecondPass.{signedDifference, secondReduced, sumOfSquares, sineMisclosure, secondNumerator, secondRounded, secondAdjusted, secondRest, differenceSquares, toleranceTest, secondTests, secondPassTests, secondPassVerdict, secondPassAnswer}
+use Rattle.passes.specs.SecondPass.{signedDifference, secondReduced, sumOfSquares, sineMisclosure, secondNumerator, secondRounded, secondAdjusted, secondRest, differenceSquares, secondTests, secondPassTests, secondPassVerdict, secondPassAnswer}
 
 abbrev minus : ℕ → ℤ
 minus n = negℤ (pos n)
-
--- ---- the starred cases
-
--- a case of document 01: what the definitions give, and what the paper states
-pub record Worked : Type 0 where
-  pub case : ℕ
-  pub computed : List ℤ
-  pub stated : List ℤ
-
-abbrev worked : ℕ → List ℤ → List ℤ → Worked
-worked case computed stated = record { case = case; computed = computed; stated = stated }
-
--- the differences whose signed values are 300, −169, 143, −271, 203, −248, 219, −178 in the geodetic quadrilateral
-abbrev pub differences-6 : List ℤ
-differences-6 = pos 300 ∷ pos 169 ∷ pos 143 ∷ pos 271 ∷ pos 203 ∷ pos 248 ∷ pos 219 ∷ pos 178 ∷ []
-
--- what number 9 says of W with these differences, and e: its number, or 0 where it passes
-abbrev numberGiven : Verdict → ℤ
-numberGiven Passed = pos 0
-numberGiven (Failed refusal) = pos (numberOf refusal)
-
-abbrev numberNine : ℕ → ℤ → ℤ
-numberNine e w = numberGiven (toleranceTest w e (differenceSquares Quadrilateral differences-6))
-
-abbrev pub secondCases : List Worked
-secondCases =
-    worked 6 (listed 8 (signedDifference Quadrilateral differences-6)) (pos 300 ∷ minus 169 ∷ pos 143 ∷ minus 271 ∷ pos 203 ∷ minus 248 ∷ pos 219 ∷ minus 178 ∷ [])
-    ∷ worked 6 (listed 8 (secondReduced Quadrilateral differences-6)) (pos 2049 ∷ minus 1703 ∷ pos 1483 ∷ minus 1829 ∷ pos 1977 ∷ minus 1631 ∷ pos 1415 ∷ minus 1761 ∷ [])
-    ∷ worked 6 (sumOfSquares Quadrilateral differences-6 ∷ []) (pos 24315176 ∷ [])
-    ∷ worked 7 (map (numberNine 10) (pos 628 ∷ pos 629 ∷ minus 628 ∷ minus 629 ∷ [])) (pos 0 ∷ pos 9 ∷ pos 0 ∷ pos 9 ∷ [])
-    ∷ worked 7 (map (numberNine 0) (pos 628 ∷ pos 629 ∷ [])) (pos 0 ∷ pos 9 ∷ [])
-    ∷ []
-
-pub second-cases : map (λ (c : Worked). c .computed) secondCases ≡ map (λ (c : Worked). c .stated) secondCases
-unfolding listed signedDifference secondReduced sumOfSquares differenceSquares reducedCoefficient numerator conditionSum sumOver applied dot sum
-second-cases = refl
 
 -- ---- whole sheets
 

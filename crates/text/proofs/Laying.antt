@@ -1,13 +1,13 @@
 -- Laws of laying text in a buffer: where it has room and where not, and several texts laid one after the other from the start. Assumes nothing.
 use mathlib.Core.Path.{_≡_, refl, sym, ap, ap₂, _∙_}
 use mathlib.Core.Bool.{Bool, true, false, cond}
-use mathlib.Core.List.{List, [], _++_}
-use Prim.Native.Nat.{ℕ, _+_, _≤_, _<_}
+use mathlib.Core.List.{List, [], _∷_, _++_, append-assoc, append-nil}
+use Prim.Native.Nat.{ℕ, zero, suc, _+_, _≤_, _<_}
 use native.Mathlib.Nat.{zero-add}
 use native.Mathlib.Omega.{arith}
 use borrow.Author.Tests.{le-leb, lt-leb, leb-true, leb-false}
 use lib.Dec.{leb}
-use lib.ListN.{length, take, drop, length-append, length-drop}
+use lib.ListN.{length, take, drop, length-append, length-take, length-drop}
 use lib.Seq.{take-append-seam, drop-append-add, drop-drop, length-paste, paste, take-length}
 use Rattle.text.specs.Text.{laid, after}
 use Rattle.text.specs.Holds.{Holds}
@@ -19,8 +19,7 @@ room-or-none P m n room none = go (leb m n) refl
     go true e = room (leb-true m n e)
     go false e = none (leb-false m n e)
 
-pub laid-room : (buffer : List ℕ) (at : ℕ) (t : List ℕ) → at + length t ≤ length buffer
-    → laid buffer at t ≡ take at buffer ++ t ++ drop (at + length t) buffer
+pub laid-room : (buffer : List ℕ) (at : ℕ) (t : List ℕ) → at + length t ≤ length buffer → laid buffer at t ≡ take at buffer ++ t ++ drop (at + length t) buffer
 unfolding laid
 laid-room buffer at t h = rw (le-leb (at + length t) (length buffer) h)
 
@@ -46,9 +45,7 @@ after-same size at at′ t t′ e = ap (λ (k : ℕ). cond (leb k size) k (size 
 
 -- the position tells whether there was room
 pub room-told : (size at : ℕ) (t : List ℕ) → after size at t ≤ size → at + length t ≤ size
-room-told size at t h =
-    room-or-none (at + length t ≤ size) (at + length t) size (λ room. room)
-    (λ none. let past : size + 1 ≤ size = rw (after-none size at t none) at h in omega arith)
+room-told size at t h = room-or-none (at + length t ≤ size) (at + length t) size (λ room. room) (λ none. let past : size + 1 ≤ size = rw (after-none size at t none) at h in omega arith)
 
 pub length-laid : (buffer : List ℕ) (at : ℕ) (t : List ℕ) → length (laid buffer at t) ≡ length buffer
 length-laid buffer at t =
@@ -60,10 +57,6 @@ length-laid buffer at t =
 
 pub holds-none : (start : List ℕ) → Holds start [] start 0
 holds-none start = record { size = refl; position = sym (after-room (length start) 0 [] (omega arith)); bytes = λ room. refl }
-
--- where all of it had room, the next text goes right after it
-pub holds-length : {start t buffer : List ℕ} {at : ℕ} → Holds start t buffer at → length t ≤ length start → at ≡ length t
-holds-length {start} {t} held room = held .position ∙ after-room (length start) 0 t (omega arith) ∙ zero-add (length t)
 
 -- the next text is laid at the position that the last one gave
 module _ {start t buffer : List ℕ} {at : ℕ} (held : Holds start t buffer at) (s : List ℕ) where
@@ -79,13 +72,13 @@ module _ {start t buffer : List ℕ} {at : ℕ} (held : Holds start t buffer at)
   next-bytes room =
       let sum : length (t ++ s) ≡ length t + length s = length-append t s in
       let fits : length t + length s ≤ length (t ++ drop (length t) start) = rw (length-append, length-drop) (omega arith) in
-      ap₂ (λ (l : List ℕ) (k : ℕ). laid l k s) (held .bytes (omega arith)) (holds-length held (omega arith))
+      let position : at ≡ length t = held .position ∙ after-room (length start) 0 t (omega arith) ∙ omega arith in
+      ap₂ (λ (l : List ℕ) (k : ℕ). laid l k s) (held .bytes (omega arith)) position
       ∙ laid-room (t ++ drop (length t) start) (length t) s fits
       ∙ ap₂ (λ (front back : List ℕ). front ++ s ++ back) (take-append-seam t (drop (length t) start))
       (drop-append-add t (drop (length t) start) (length s) ∙ drop-drop (length s) (length t) start ∙ ap (λ (k : ℕ). drop k start) (sym sum))
 
-  pub holds-more : {buffer′ : List ℕ} {at′ : ℕ} → buffer′ ≡ laid buffer at s → at′ ≡ after (length buffer) at s
-      → Holds start (t ++ s) buffer′ at′
+  pub holds-more : {buffer′ : List ℕ} {at′ : ℕ} → buffer′ ≡ laid buffer at s → at′ ≡ after (length buffer) at s → Holds start (t ++ s) buffer′ at′
   holds-more e p = record {
     size = ap length e ∙ length-laid buffer at s ∙ held .size;
     position = p ∙ next-position;
@@ -97,9 +90,12 @@ module _ {start t buffer : List ℕ} {at : ℕ} (held : Holds start t buffer at)
   pub holds-all : length t ≤ length start → buffer ≡ laid start 0 t
   holds-all room = held .bytes room ∙ sym (laid-room start 0 t (omega arith) ∙ ap (λ (k : ℕ). t ++ drop k start) (zero-add (length t)))
 
+  pub holds-length : length t ≤ length start → at ≡ length t
+  holds-length room = held .position ∙ after-room (length start) 0 t (omega arith) ∙ zero-add (length t)
+
   pub holds-room : at ≤ length start → length t ≤ length start
   holds-room h = let told : 0 + length t ≤ length start = room-told (length start) 0 t (rw (held .position) at h) in omega arith
 
   -- what was laid, read off the buffer
   pub holds-taken : length t ≤ length start → take at buffer ≡ t
-  holds-taken room = ap₂ take (holds-length held room) (held .bytes room) ∙ take-append-seam t (drop (length t) start)
+  holds-taken room = ap₂ take (holds-length room) (held .bytes room) ∙ take-append-seam t (drop (length t) start)

@@ -3,4 +3,4 @@ pub mod Laying
 pub mod Lines
 pub mod Numbers
 mod Spelling
-mod Tests
+pub mod Tests

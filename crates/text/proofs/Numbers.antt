@@ -1,7 +1,7 @@
 -- Laws of a number's text: it reads back as the number, so that no two numbers have one text; what its bytes are; how long it is at most.
 -- Each goes by the number without its last digit. Assumes nothing.
 use mathlib.Core.Path.{_≡_, refl, sym, ap, ap₂, _∙_, subst⁻¹}
-use mathlib.Core.Bool.{Bool, true, false, _||_}
+use mathlib.Core.Bool.{Bool, true, false, _&&_, _||_}
 use mathlib.Core.List.{List, [], _∷_, _++_, map}
 use Prim.Native.Nat.{ℕ, zero, suc, _+_, _*_, _-_, _/_, _%_, _^_, _≤_, _<_}
 use native.Mathlib.Nat.{not-suc-le-zero, pow-suc, div-lt-iff-lt-mul, div-eq-of-lt, mod-eq-of-lt}
@@ -12,7 +12,7 @@ use lib.IntN.{ℤ, pos, negsuc, negℤ, natAbs}
 use lib.ListN.{length, getD, length-append, List·getD-append}
 use lib.Signed.{mag}
 use Rattle.whole.specs.Lists.{every}
-use Rattle.whole.proofs.Computed.{and-left}
+use Rattle.whole.proofs.Computed.{and-left, and-right}
 use Rattle.text.proofs.Tests.{and-both, or-left, or-cases, every-append, every-also}
 use Rattle.text.specs.Text.{space, lineFeed, minus, digit, isDigit, digits, natural, decimal, readDigits, readNumber, isPlain, isWord}
 
@@ -107,13 +107,10 @@ pub no-minus : (n : ℕ) → T (every isDigit (decimal (pos n)))
 unfolding decimal
 no-minus n = natural-digits n
 
-digits-or-minus : (n : ℕ) → T (every (λ b. isDigit b || eqb b minus) (natural n))
-digits-or-minus n = every-also isDigit (λ b. isDigit b || eqb b minus) (λ b t. or-left (isDigit b) (eqb b minus) t) (natural n) (natural-digits n)
-
 pub decimal-bytes : (z : ℤ) → T (every (λ b. isDigit b || eqb b minus) (decimal z))
 unfolding decimal
-decimal-bytes (pos n) = digits-or-minus n
-decimal-bytes (negsuc n) = digits-or-minus (suc n)
+decimal-bytes (pos n) = every-also isDigit (λ b. isDigit b || eqb b minus) (λ b t. or-left (isDigit b) (eqb b minus) t) (natural n) (natural-digits n)
+decimal-bytes (negsuc n) = every-also isDigit (λ b. isDigit b || eqb b minus) (λ b t. or-left (isDigit b) (eqb b minus) t) (natural (suc n)) (natural-digits (suc n))
 
 pub natural-some : (n : ℕ) → 0 < length (natural n)
 natural-some = by-text (λ l. 0 < length l) (λ d h. lit< tt) (λ l d h b. rw (length-append l (digit d ∷ [])) (omega arith))
@@ -125,19 +122,14 @@ decimal-some (negsuc n) = omega arith
 
 -- the first digit is 0 in the number 0 alone
 pub natural-first : (n : ℕ) → getD (natural n) 0 0 ≡ digit 0 → n ≡ 0
-natural-first = by-digits (λ n. getD (natural n) 0 0 ≡ digit 0 → n ≡ 0) last before
+natural-first =
+    by-digits (λ n. getD (natural n) 0 0 ≡ digit 0 → n ≡ 0) (λ n h e. last n e (natural-last n h))
+    (λ n h more e.
+    let none : n / 10 ≡ 0 = more (sym (List·getD-append (natural (n / 10)) (digit (n % 10) ∷ []) 0 0 (natural-some (n / 10))) ∙ ap (λ (l : List ℕ). getD l 0 0) (sym (natural-before n h)) ∙ e) in
+    omega arith)
   where
-    front : List ℕ → ℕ
-    front l = getD l 0 0
-
-    last : (n : ℕ) → n < 10 → front (natural n) ≡ digit 0 → n ≡ 0
-    last n h e = let first : digit n ≡ digit 0 = ap front (sym (natural-last n h)) ∙ e in omega arith
-
-    before : (n : ℕ) → 10 ≤ n → (front (natural (n / 10)) ≡ digit 0 → n / 10 ≡ 0) → front (natural n) ≡ digit 0 → n ≡ 0
-    before n h more e =
-        let same : front (natural n) ≡ front (natural (n / 10)) = ap front (natural-before n h) ∙ List·getD-append (natural (n / 10)) (digit (n % 10) ∷ []) 0 0 (natural-some (n / 10)) in
-        let none : n / 10 ≡ 0 = more (sym same ∙ e) in
-        omega arith
+    last : (n : ℕ) → getD (natural n) 0 0 ≡ digit 0 → natural n ≡ digit n ∷ [] → n ≡ 0
+    last n e same = let first : digit n ≡ digit 0 = ap (λ (l : List ℕ). getD l 0 0) (sym same) ∙ e in omega arith
 
 -- so a zero is first in the text of 0, which is that one digit, and after no minus sign
 pub zero-text : decimal (pos 0) ≡ digit 0 ∷ []

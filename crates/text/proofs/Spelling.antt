@@ -1,18 +1,16 @@
 -- A number spelled from its last digit backwards, into a room that the text is to end with: what the loop of `text::digits` keeps, and its steps.
 -- Assumes nothing.
-use mathlib.Core.Path.{_≡_, sym, ap, ap₂, _∙_, subst}
-use mathlib.Core.List.{List, _∷_, _++_, append-nil}
+use mathlib.Core.Path.{_≡_, refl, sym, ap, ap₂, _∙_, subst}
+use mathlib.Core.List.{List, [], _∷_, _++_, append-nil}
 use Prim.Native.Nat.{ℕ, zero, suc, _+_, _-_, _/_, _%_, _^_, _≤_, _<_}
 use native.Mathlib.Nat.{le-of-eq, pow-suc, div-lt-iff-lt-mul}
 use native.Mathlib.Numerals.{add-one}
 use native.Mathlib.Omega.{arith}
 use lib.Dec.{lit<}
-use lib.IntN.{ℤ, negsuc, natAbs}
-use lib.ListN.{length, drop, set, length-set, drop-of-length-le}
-use lib.Signed.{mag}
+use lib.ListN.{length, getD, drop, set, length-set, drop-of-length-le}
 use lib.Seq.{drop-cons, drop-set-lt, getD-set-same, append-snoc}
-use Rattle.text.specs.Text.{minus, digit, natural, decimal}
-use Rattle.text.proofs.Numbers.{natural-last, natural-before, decimal-negative}
+use Rattle.text.specs.Text.{digit, natural}
+use Rattle.text.proofs.Numbers.{natural-last, natural-before}
 
 -- the digits after those of `rest` stand at the end of the room, and there are enough places before them
 pub record Spelling (n : ℕ) (room : List ℕ) (first rest : ℕ) : Type 0 where
@@ -38,7 +36,7 @@ fewer-places (suc (suc k)) n h b =
     (omega arith, subst (λ (j : ℕ). n / 10 < 10 ^ j) one-less (div-lt-iff-lt-mul (lit< tt) .1 (rw (pow-suc 10 (suc k)) at b)))
 
 -- a byte stored before the end of a room, and what comes after it
-stored : (room : List ℕ) (i b : ℕ) → i < length room → drop i (set room i b) ≡ b ∷ drop (i + 1) room
+pub stored : (room : List ℕ) (i b : ℕ) → i < length room → drop i (set room i b) ≡ b ∷ drop (i + 1) room
 stored room i b h =
     drop-cons (set room i b) i 0 (rw length-set h)
     ∙ ap₂ (λ (x : ℕ) (l : List ℕ). x ∷ l) (getD-set-same room i b 0 h) (drop-set-lt (suc i) room i b (omega arith) ∙ ap (λ (k : ℕ). drop k room) (sym (add-one i)))
@@ -64,12 +62,3 @@ module _ {n : ℕ} {room : List ℕ} {first rest : ℕ} (so-far : Spelling n roo
   spelled b e h =
       stored room first b (omega arith) ∙ ap (λ (x : ℕ). x ∷ drop (first + 1) room) e
       ∙ sym (so-far .text ∙ ap (λ (l : List ℕ). l ++ drop (first + 1) room) (natural-last rest h))
-
--- the minus sign goes before the digits of the magnitude
-pub signed : (room : List ℕ) (first b : ℕ) (z : ℤ) → 0 < first → first ≤ length room → drop first room ≡ natural (natAbs z) → z ≡ negsuc (mag z) → b ≡ minus
-    → drop (first - 1) (set room (first - 1) b) ≡ decimal z
-signed room first b z some inside text negative sign =
-    let back : first - 1 + 1 ≡ first = omega arith in
-    stored room (first - 1) b (omega arith)
-    ∙ ap₂ (λ (x : ℕ) (l : List ℕ). x ∷ l) sign (ap (λ (k : ℕ). drop k room) back ∙ text)
-    ∙ sym (decimal-negative z negative)

@@ -1,6 +1,6 @@
 -- Printed text: document 01, "Sheets worked through". A line's parts are words and numbers with one space between, "every line ends in one line
 -- feed", and a number is decimal, with a minus sign and no plus, and no zeros before it. A text is the list of its bytes.
-use mathlib.Core.Bool.{Bool, false, not, cond, _&&_}
+use mathlib.Core.Bool.{Bool, true, false, not, cond, _&&_}
 use mathlib.Core.List.{List, [], _∷_, _++_, map}
 use Prim.Native.Nat.{ℕ, zero, suc, _+_, _-_, _*_, _/_, _%_}
 use lib.Dec.{leb, eqb}
@@ -35,7 +35,7 @@ digits zero n = []
 digits (suc places) zero = []
 digits (suc places) (suc m) = digits places (suc m / 10) ++ (digit (suc m % 10) ∷ [])
 
--- A number from 0 up: 0 is one digit, and no other n has more than n digits.
+-- A number from 0 up: 0 is one digit, and no other n has more than n.
 unfoldable pub natural : ℕ → List ℕ
 natural zero = digit 0 ∷ []
 natural (suc m) = digits (suc m) (suc m)
@@ -45,12 +45,11 @@ unfoldable pub decimal : ℤ → List ℕ
 decimal (pos n) = natural n
 decimal (negsuc n) = minus ∷ natural (suc n)
 
--- What digits say, where those before them say `before`.
+-- What a number's text says, as a reader takes it: after a minus sign the number below zero, else the number; each digit counts ten times less than the one before it.
 unfoldable pub readDigits : ℕ → List ℕ → ℕ
 readDigits before [] = before
 readDigits before (b ∷ bs) = readDigits (before * 10 + (b - digit 0)) bs
 
--- What a number's text says, as a reader takes it.
 unfoldable pub readNumber : List ℕ → ℤ
 readNumber [] = pos 0
 readNumber (b ∷ bs) = cond (eqb b minus) (negℤ (pos (readDigits 0 bs))) (pos (readDigits 0 (b ∷ bs)))
@@ -80,25 +79,22 @@ abbrev pub isWord : List ℕ → Bool
 isWord [] = false
 isWord (b ∷ bs) = every isPlain (b ∷ bs)
 
--- one byte more in front of the first piece
+-- What stands before each mark of a text, and after the last one if anything does.
 abbrev pub begun : ℕ → List (List ℕ) → List (List ℕ)
 begun b [] = (b ∷ []) ∷ []
 begun b (p ∷ ps) = (b ∷ p) ∷ ps
 
--- The pieces of a text: what stands before each mark, and after the last one if anything does.
 unfoldable pub split : ℕ → List ℕ → List (List ℕ)
 split mark [] = []
 split mark (b ∷ bs) = cond (eqb b mark) ([] ∷ split mark bs) (begun b (split mark bs))
 
--- the lines of a text, without their line feeds
+-- the lines of a text, without their line feeds; the parts of such a line; the parts of each line of a text
 abbrev pub splitLines : List ℕ → List (List ℕ)
 splitLines = split lineFeed
 
--- the parts of such a line
 abbrev pub parts : List ℕ → List (List ℕ)
 parts = split space
 
--- the parts of each line of a text
 unfoldable pub readLines : List ℕ → List (List (List ℕ))
 readLines t = map parts (splitLines t)
 

@@ -3,6 +3,7 @@
 ghost use mathlib.Core.Path.{_≡_};
 ghost use mathlib.Core.List.{[], _∷_};
 ghost use Prim.Native.Nat.{_≤_, _<_};
+ghost use lib.IntN.{pos};
 ghost use lib.ListN.{length, drop};
 ghost use Rattle.text.specs.Text.{laid, after, natural};
 ghost use Rattle.text.specs.Text.{decimal as Text·decimal, digit as Text·digit};
@@ -45,6 +46,17 @@ pub fn put_number(buffer: &mut [u8], at: usize, value: i64) -> usize
     ensures { λ r. ⌜ r ≡ after (length (now (buffer .entry))) at (Text·decimal value) ⌝ }
 {
     let spelled = decimal(value);
+    let room = spelled.room;
+    let first = spelled.first;
+    put_word(buffer, at, &room[first..])
+}
+
+// Lays a number from 0 up, of the whole unsigned range.
+pub fn put_natural(buffer: &mut [u8], at: usize, value: u64) -> usize
+    ensures { λ _. ⌜ now (buffer .exit) ≡ laid (now (buffer .entry)) at (Text·decimal (pos value)) ⌝ }
+    ensures { λ r. ⌜ r ≡ after (length (now (buffer .entry))) at (Text·decimal (pos value)) ⌝ }
+{
+    let spelled = digits(value);
     let room = spelled.room;
     let first = spelled.first;
     put_word(buffer, at, &room[first..])

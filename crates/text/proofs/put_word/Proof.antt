@@ -1,12 +1,13 @@
 -- `text::put_word` meets its contract: where the word has room, the bytes before `done` are in place and every other byte of the buffer is as it
 -- was; a turn lays the next one (`paste-suc`).
 use mathlib.Core.Path.{_≡_, sym, ap, _∙_}
-use Prim.Native.Nat.{ℕ, _+_, _-_, _≤_}
+use Prim.Native.Nat.{ℕ, _+_, _-_, _≤_, _<_}
 use native.Mathlib.Numerals.{add-one}
 use native.Mathlib.Omega.{arith}
+use borrow.Author.Needs.{needs}
 use mathlib.Core.List.{List}
 use lib.ListN.{length, getD, set, length-set}
-use lib.Seq.{paste, paste-zero, paste-suc}
+use lib.Seq.{paste, paste-zero, paste-suc, take-length}
 use Rattle.text.proofs.Laying.{laid-none, laid-whole, after-none, after-room}
 use Rattle.text.proofs.put_word.Statement.{statement}
 use Rattle.text.proofs.put_word.Tie as tie

@@ -1,5 +1,5 @@
 -- `passes::sines::sines_of` meets its contract: each column is that of its definition, and the sums go over the figure's angles.
-use mathlib.Core.Path.{_≡_, refl, sym, ap, ap₂, _∙_, subst}
+use mathlib.Core.Path.{_≡_, sym, ap, ap₂, _∙_, subst}
 use mathlib.Core.List.{List}
 use Prim.Native.Nat.{ℕ, _≤_}
 use borrow.Author.Needs.{needs}
@@ -77,33 +77,38 @@ column-of-requires c κs = search needs
 count : (c : tie.After-counts-of) → c .counts-of .result .angles ≡ angleCount (start (c .before .before .before .before) .args .f)
 count c = ap (λ (n : Counts). n .angles) (c .counts-of .ensures)
 
-few : (c : tie.After-counts-of) → c .counts-of .result .angles ≤ mostAngles
-few c = subst (λ (n : ℕ). n ≤ mostAngles) (sym (count c)) (angle-bound (start (c .before .before .before .before) .args .f))
+-- every column is small enough for a sum of products, of any two
+record Small (c : tie.After-column-of) : Type 0 where
+  signs-small : Below 29 (c .before .before .before .before .before .signed-column .result)
+  unsigned-small : Below 29 (c .before .before .before .before .signed-column2 .result)
+  signed-small : Below 29 (c .before .before .before .products .result)
+  reduced-small : Below 29 (c .before .before .reduced-coefficients .result)
+  log-sines-small : Below 29 (c .column-of .result)
+  count-small : c .before .counts-of .result .angles ≤ mostAngles
+
+small : (c : tie.After-column-of) → Small c
+small c =
+    let counted = c .before in
+    let begun = start (counted .before .before .before .before) in
+    let f = begun .args .f in
+    let differences = now (begun .args .differences) in
+    record {
+      signs-small = below-as 29 29 (signs (counted .before .before .before .before)) (lit≤ tt) (signs-below f);
+      unsigned-small = below-as 14 29 (counted .before .before .before .signed-column2 .ensures) (lit≤ tt) (differences-below f differences (begun .pre .difference));
+      signed-small = below-as 14 29 (signed (counted .before .before)) (lit≤ tt) (signed-below f differences (begun .pre .difference));
+      reduced-small = below-as 27 29 (coefficients (counted .before)) (lit≤ tt) (reduced-below f differences (begun .pre .difference));
+      log-sines-small = below-as 29 29 (c .column-of .ensures) (lit≤ tt) (log-sines-below (now (begun .args .log-sines)) (begun .pre .log-sine));
+      count-small = subst (λ (n : ℕ). n ≤ mostAngles) (sym (count counted)) (angle-bound f);
+    }
 
 dot-product-requires : tie.Need-dot-product-requires
-dot-product-requires c κs =
-    let counted = c .before in
-    let begun = start (counted .before .before .before .before) in (
-      subst (Below 29) (sym (signs (counted .before .before .before .before))) (signs-below (begun .args .f)),
-      (
-        subst (Below 29) (sym (c .column-of .ensures)) (log-sines-below (now (begun .args .log-sines)) (begun .pre .log-sine)),
-        few counted,
-      ),
-    )
+dot-product-requires c κs = let all = small c in search needs
 
 dot-product-requires-2 : tie.Need-dot-product-requires-2
-dot-product-requires-2 c κs =
-    let counted = c .before .before in
-    let begun = start (counted .before .before .before .before) in
-    let small : Below 29 (counted .before .reduced-coefficients .result) = below-as 27 29 (coefficients (counted .before)) (lit≤ tt) (reduced-below (begun .args .f) (now (begun .args .differences)) (begun .pre .difference)) in
-    (small, (small, few counted))
+dot-product-requires-2 c κs = let all = small (c .before) in search needs
 
 dot-product-requires-3 : tie.Need-dot-product-requires-3
-dot-product-requires-3 c κs =
-    let counted = c .before .before .before in
-    let begun = start (counted .before .before .before .before) in
-    let small : Below 29 (counted .before .before .products .result) = below-as 14 29 (signed (counted .before .before)) (lit≤ tt) (signed-below (begun .args .f) (now (begun .args .differences)) (begun .pre .difference)) in
-    (small, (small, few counted))
+dot-product-requires-3 c κs = let all = small (c .before .before) in search needs
 
 -- the sum of products of two columns, over the figure's angles
 summed : (f : Figure) (u v : ℕ → ℤ) {n : ℕ} {a b : List ℤ} → n ≡ angleCount f → a ≡ column u → b ≡ column v → dot n (vector a) (vector b) ≡ dot (angleCount f) u v

@@ -1,0 +1,6 @@
+pub mod Cases
+pub mod Laid
+pub mod Lengths
+pub mod ReadingBack
+pub mod Reports
+pub mod Texts

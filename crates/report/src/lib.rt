@@ -1,0 +1,7 @@
+// What the program prints for a sheet, laid in a lent byte slice: document 01, "Sheets worked through".
+mod lines;
+mod put;
+mod reporting;
+
+pub use reporting::Reported;
+pub use reporting::report;

@@ -1,0 +1,572 @@
+#!/usr/bin/env python3
+"""Sheets made for the comparison: good ones, near misses at every edge, flipped bits, every length, noise.
+
+The same sheets come out every time. Run as a program it tells how many there are and which refusal numbers they reach.
+
+Every number of document 01's table is reached but one. Number 2 is about a slice that a caller lends: the program lends
+slices of exactly the sheet's counts, which it has from the sheet's own head, so no sheet can bring it about. The ones
+that need care:
+- 1 comes after 11 and before 12, so it shows on sheets of any length from two bytes.
+- 7 of kind 1 needs an angle within a few tenths of an end of its range in a figure that still closes: needles.
+- 10 needs every reduced coefficient to be 0: no differences at all, differences at inner angles only (their sine sign
+  is 0), or signed differences that are a sum of conditions, which wants some of them negative.
+- 9 comes after 10, so it needs a difference that counts.
+- 12 of a sheet longer than the 199 bytes that the program holds looks like 12 of 199 bytes.
+"""
+
+import random
+from itertools import combinations_with_replacement, islice
+from math import isqrt
+
+from closing import closing_angles, move_that_keeps_conditions
+from figures import FIGURES, figure_of, first_numerators
+from independent import DEFAULT_LIMIT, DEFAULT_TOLERANCE, rounded_quotient, second_pass, work
+from packed import (
+    ANGLE_BITS,
+    DIFFERENCE_BITS,
+    LARGEST_ANGLE,
+    LARGEST_DIFFERENCE,
+    LARGEST_LIMIT,
+    LARGEST_LOG_SINE,
+    LARGEST_TOLERANCE,
+    LIMIT_BITS,
+    LOG_SINE_BITS,
+    TOLERANCE_BITS,
+    Sheet,
+    packed_values,
+    sheet_size,
+    used_bits,
+)
+
+SEED = 1978
+UNREACHABLE = {2}
+
+SIGN_BIT = 1 << (DIFFERENCE_BITS - 1)
+MOST_IN_LIMIT = (1 << LIMIT_BITS) - 1
+MOST_IN_TOLERANCE = (1 << TOLERANCE_BITS) - 1
+
+OUTSIDE_ANGLES = (0, LARGEST_ANGLE + 1, (1 << ANGLE_BITS) - 1)
+OUTSIDE_LOG_SINES = (0, LARGEST_LOG_SINE + 1, (1 << LOG_SINE_BITS) - 1)
+OUTSIDE_DIFFERENCES = (-SIGN_BIT, -LARGEST_DIFFERENCE - 1, LARGEST_DIFFERENCE + 1, SIGN_BIT - 1)
+
+
+def label(kind, figure):
+    return f"kind {kind} code {figure.code} n {figure.n}"
+
+
+def with_value(values, place, value):
+    """The values with another one at a place, counted from 1."""
+    return values[: place - 1] + (value,) + values[place:]
+
+
+# --- sheets that are accepted -------------------------------------------------------------------------------------------
+
+
+def some_limit(rng):
+    return rng.choice((0, 1, 20, DEFAULT_LIMIT, LARGEST_LIMIT, rng.randint(1, LARGEST_LIMIT)))
+
+
+def misclosures_within(figure, limit, rng):
+    return tuple(rng.randint(-limit, limit) for _ in figure.conditions)
+
+
+def needle_choice(rng):
+    """Mostly values at an end of what is possible."""
+
+    def choose(low, high):
+        if low > high:
+            raise ValueError("nothing to choose from")
+        near = min(high - low, rng.randint(0, 12))
+        return rng.choice((low, low + near, high - near, high, rng.randint(low, high)))
+
+    return choose
+
+
+def first_sheet(figure, rng, limit=0, misclosures=None, needle=False):
+    """A sheet of kind 1 that closes within its limit, unless given misclosures go beyond it."""
+    choose = needle_choice(rng) if needle else rng.randint
+    while True:
+        wanted = misclosures or misclosures_within(figure, limit or DEFAULT_LIMIT, rng)
+        found = closing_angles(figure, wanted, choose)
+        if found:
+            return Sheet(1, figure, limit, found[0], fixed=found[1])
+
+
+def signed(figure, differences):
+    return [sign * difference for sign, difference in zip(figure.sine_signs, differences)]
+
+
+def largest_sine_misclosure(figure, tolerance, differences):
+    """The largest W that number 9 lets pass."""
+    squares = sum(d * d for d in signed(figure, differences))
+    return isqrt((tolerance or DEFAULT_TOLERANCE) ** 2 * squares // 100)
+
+
+def log_sines_with(figure, sine_misclosure, rng):
+    """Log-sines whose signed sum is the one wanted: equal sets on both sides, and the rest on one angle."""
+    ordinary = [rng.randint(10_000_000, 90_000_000) for _ in range(figure.sine_signs.count(+1))]
+    sides = {+1: list(ordinary), -1: rng.sample(ordinary, len(ordinary))}
+    sides[+1][0] += sine_misclosure
+    return tuple(sides[sign].pop() if sign else rng.randint(1, LARGEST_LOG_SINE) for sign in figure.sine_signs)
+
+
+def some_differences(figure, rng, largest=None):
+    largest = largest or rng.choice((3, 40, 700, LARGEST_DIFFERENCE))
+    return tuple(rng.randint(-largest, largest) for _ in figure.sine_signs)
+
+
+def second_sheet(figure, rng, tolerance=0, differences=None, sine_misclosure=None):
+    """A sheet of kind 2 within its tolerance, unless a given W goes beyond it."""
+    differences = differences or some_differences(figure, rng)
+    if sine_misclosure is None:
+        bound = largest_sine_misclosure(figure, tolerance, differences)
+        sine_misclosure = rng.randint(-bound, bound)
+    angles = tuple(rng.randint(36_000, LARGEST_ANGLE - 36_000) for _ in figure.sine_signs)
+    log_sines = log_sines_with(figure, sine_misclosure, rng)
+    return Sheet(2, figure, tolerance, angles, log_sines=log_sines, differences=differences)
+
+
+def ordinary_sheet(kind, figure, rng):
+    if kind == 1:
+        return first_sheet(figure, rng)
+    return second_sheet(figure, rng, differences=some_differences(figure, rng, 700))
+
+
+def each_kind_and_figure():
+    return [(kind, figure) for kind in (1, 2) for figure in FIGURES]
+
+
+def good_sheets(rng):
+    for figure in FIGURES:
+        for _ in range(30):
+            yield f"good {label(1, figure)}", first_sheet(figure, rng, some_limit(rng))
+            tolerance = rng.choice((0, 1, 10, LARGEST_TOLERANCE, rng.randint(1, LARGEST_TOLERANCE)))
+            yield f"good {label(2, figure)}", second_sheet(figure, rng, tolerance)
+
+
+def needles(rng):
+    """Figures with angles of a few tenths or nearly 180 degrees: number 7 and its edge on both sides."""
+    for figure in FIGURES:
+        for _ in range(60):
+            yield f"needle {label(1, figure)}", first_sheet(figure, rng, rng.choice((1, 8, 30, 0)), needle=True)
+
+
+# --- edges of ranges ----------------------------------------------------------------------------------------------------
+
+
+def limits(rng):
+    for figure in FIGURES:
+        for limit in (0, 1, DEFAULT_LIMIT, LARGEST_LIMIT - 1, LARGEST_LIMIT, LARGEST_LIMIT + 1, MOST_IN_LIMIT):
+            sheet = first_sheet(figure, rng, min(limit, LARGEST_LIMIT))
+            yield f"limit {limit} {label(1, figure)}", sheet._replace(limit=limit)
+        largest = LARGEST_TOLERANCE
+        for tolerance in (0, 1, DEFAULT_TOLERANCE, largest - 1, largest, largest + 1, MOST_IN_TOLERANCE):
+            sheet = second_sheet(figure, rng, min(tolerance, largest))
+            yield f"tolerance {tolerance} {label(2, figure)}", sheet._replace(limit=tolerance)
+
+
+def misclosures_at_the_limit(rng):
+    """Number 6: each condition at the limit and one beyond, the others within."""
+    for figure in FIGURES:
+        for place in range(1, len(figure.conditions) + 1):
+            for limit in (0, some_limit(rng)):
+                at = limit or DEFAULT_LIMIT
+                for misclosure in (-at - 1, -at, at, at + 1):
+                    others = misclosures_within(figure, at, rng)
+                    sheet = first_sheet(figure, rng, limit, with_value(others, place, misclosure))
+                    yield f"misclosure {place} of {misclosure} {label(1, figure)}", sheet
+
+
+def several_misclosures_beyond(rng):
+    """The lowest place is named, and before an angle that a needle would lose."""
+    for figure in FIGURES:
+        for turn in range(8):
+            beyond = misclosures_within(figure, 40, rng)
+            yield f"misclosures beyond {label(1, figure)}", first_sheet(figure, rng, 20, beyond, needle=turn % 2 == 0)
+
+
+def outside_and_edge(outside, edges, place, count):
+    """Every outside value and edge at the first and last place, one outside value at every other."""
+    if place in (1, count):
+        return outside + edges
+    return (outside[place % len(outside)],)
+
+
+def angles_at_the_edge(rng):
+    """Number 4. An edge angle of kind 1 opens its triangle, so 6 follows; of kind 2 it is accepted or gives 7."""
+    for kind, figure in each_kind_and_figure():
+        for place in range(1, figure.angle_count + 1):
+            for angle in outside_and_edge(OUTSIDE_ANGLES, (1, LARGEST_ANGLE), place, figure.angle_count):
+                sheet = ordinary_sheet(kind, figure, rng)
+                yield f"angle {place} of {angle} {label(kind, figure)}", sheet._replace(
+                    angles=with_value(sheet.angles, place, angle)
+                )
+
+
+def fixed_angles_at_the_edge(rng):
+    """Number 5."""
+    figure = figure_of(2, 3)
+    for place in (1, 2, 3):
+        for angle in OUTSIDE_ANGLES + (1, LARGEST_ANGLE):
+            sheet = first_sheet(figure, rng)
+            yield f"fixed angle {place} of {angle}", sheet._replace(fixed=with_value(sheet.fixed, place, angle))
+
+
+def log_sines_at_the_edge(rng):
+    """Number 8."""
+    for figure in FIGURES:
+        for place in range(1, figure.angle_count + 1):
+            for log_sine in outside_and_edge(OUTSIDE_LOG_SINES, (1, LARGEST_LOG_SINE), place, figure.angle_count):
+                sheet = second_sheet(figure, rng)
+                yield f"log-sine {place} of {log_sine} {label(2, figure)}", sheet._replace(
+                    log_sines=with_value(sheet.log_sines, place, log_sine)
+                )
+
+
+def differences_at_the_edge(rng):
+    """Number 8."""
+    inside = (-LARGEST_DIFFERENCE, LARGEST_DIFFERENCE, -1, 0, 1)
+    for figure in FIGURES:
+        for place in range(1, figure.angle_count + 1):
+            for difference in outside_and_edge(OUTSIDE_DIFFERENCES, inside, place, figure.angle_count):
+                sheet = second_sheet(figure, rng)
+                yield f"difference {place} of {difference} {label(2, figure)}", sheet._replace(
+                    differences=with_value(sheet.differences, place, difference)
+                )
+
+
+# --- edges of what is computed ------------------------------------------------------------------------------------------
+
+
+def with_first_result(sheet, place, misclosures, result):
+    """The sheet with one angle moved so that its corrected angle is the one wanted, or None where it cannot be."""
+    correction = rounded_quotient(first_numerators(sheet.figure, misclosures)[place - 1], sheet.figure.denominator)
+    growth = result - correction - sheet.angles[place - 1]
+    angles = list(sheet.angles)
+    for angle, step in move_that_keeps_conditions(sheet.figure, place).items():
+        angles[angle - 1] += step * growth
+    in_range = all(1 <= angle <= LARGEST_ANGLE for angle in angles)
+    return sheet._replace(angles=tuple(angles)) if in_range else None
+
+
+def corrected_angles_at_the_low_edge(rng):
+    """Number 7 of kind 1: a corrected angle of 0 and of 1 at every place that allows it."""
+    for figure in FIGURES:
+        for place in range(1, figure.angle_count + 1):
+            for result in (0, 1):
+                for _ in range(20):
+                    misclosures = misclosures_within(figure, DEFAULT_LIMIT, rng)
+                    sheet = first_sheet(figure, rng, 0, misclosures)
+                    moved = with_first_result(sheet, place, misclosures, result)
+                    if moved:
+                        yield f"corrected angle {place} of {result} {label(1, figure)}", moved
+                        break
+
+
+def needles_near_180_degrees(figure, limit, result, rng):
+    """Closing sheets without end in which an angle near 180 degrees has this corrected angle, with its place."""
+    while True:
+        misclosures = misclosures_within(figure, limit, rng)
+        found = closing_angles(figure, misclosures, needle_choice(rng))
+        largest = max(found[0]) if found else 0
+        if largest > LARGEST_ANGLE - 100:
+            place = found[0].index(largest) + 1
+            moved = with_first_result(Sheet(1, figure, limit, found[0], fixed=found[1]), place, misclosures, result)
+            if moved:
+                yield place, moved
+
+
+def corrected_angles_of_180_degrees(rng):
+    """Number 7 of kind 1, at its high edge."""
+    for figure in FIGURES:
+        for place, sheet in islice(needles_near_180_degrees(figure, 30, LARGEST_ANGLE + 1, rng), 8):
+            yield f"corrected angle {place} of {LARGEST_ANGLE + 1} {label(1, figure)}", sheet
+
+
+def corrected_angles_just_below_180_degrees(rng):
+    """Accepted, which takes small misclosures. No quadrilateral is: the triangle of such an angle holds three more."""
+    for figure in FIGURES[1:]:
+        tries = needles_near_180_degrees(figure, 2, LARGEST_ANGLE, rng)
+        accepted = ((place, sheet) for place, sheet in tries if not refusal_number(work(packed_values(sheet))))
+        for place, sheet in islice(accepted, 3):
+            yield f"corrected angle {place} of {LARGEST_ANGLE} {label(1, figure)}", sheet
+
+
+def adjusted_angles_at_the_edge(rng):
+    """Number 7 of kind 2, at every place: the given angle is free, so the correction is simply taken off."""
+    for figure in FIGURES:
+        for place in range(1, figure.angle_count + 1):
+            for result in (0, 1, LARGEST_ANGLE, LARGEST_ANGLE + 1):
+                angle = 0
+                while not 1 <= angle <= LARGEST_ANGLE:
+                    sheet = second_sheet(figure, rng, LARGEST_TOLERANCE, some_differences(figure, rng, 700))
+                    angle = result - second_pass(sheet).rounded[place - 1]
+                yield f"adjusted angle {place} of {result} {label(2, figure)}", sheet._replace(
+                    angles=with_value(sheet.angles, place, angle)
+                )
+
+
+def sine_misclosures_at_the_tolerance(rng):
+    """Number 9: W at the largest that passes and one beyond. First with large differences at the angles that have no sine
+    sign, which must not count; then with the largest reduced coefficients that there are."""
+    for figure in FIGURES:
+        inner_large = tuple(rng.randint(-700, 700) if sign else LARGEST_DIFFERENCE for sign in figure.sine_signs)
+        cases = [(tolerance, inner_large) for tolerance in (0, 1, LARGEST_TOLERANCE, rng.randint(2, LARGEST_TOLERANCE - 1))]
+        cases += [(LARGEST_TOLERANCE, (largest,) * figure.angle_count) for largest in (-LARGEST_DIFFERENCE, LARGEST_DIFFERENCE)]
+        for tolerance, differences in cases:
+            bound = largest_sine_misclosure(figure, tolerance, differences)
+            for sine_misclosure in (-bound - 1, -bound, bound, bound + 1):
+                sheet = second_sheet(figure, rng, tolerance, differences, sine_misclosure)
+                yield f"W of {sine_misclosure} {label(2, figure)}", sheet
+
+
+def spread(figure, sine_misclosure):
+    """Log-sines as far apart as it takes for a very large W."""
+    most = LARGEST_LOG_SINE - 1
+    log_sines = []
+    for sign in figure.sine_signs:
+        share = min(most, sine_misclosure) if sign == +1 else 0
+        sine_misclosure -= share
+        log_sines.append(1 + share)
+    return tuple(log_sines)
+
+
+def very_large_sine_misclosures(rng):
+    """100·W² passes 2⁶⁴ several times; at these W what is left of it after 64 bits is small."""
+    for figure in FIGURES:
+        count = figure.sine_signs.count(+1)
+        wraps = [isqrt((turns << 62) // 100) for turns in range(1, 15)]
+        wraps += [most + 1 for most in wraps] + [count * (LARGEST_LOG_SINE - 1)]
+        for sine_misclosure in wraps:
+            if sine_misclosure <= count * (LARGEST_LOG_SINE - 1):
+                differences = (LARGEST_DIFFERENCE,) * figure.angle_count
+                sheet = second_sheet(figure, rng, LARGEST_TOLERANCE, differences, 0)
+                yield f"W of {sine_misclosure} {label(2, figure)}", sheet._replace(log_sines=spread(figure, sine_misclosure))
+
+
+def sum_of_conditions(figure, rng):
+    """Signed differences that are a sum of conditions, as the sheet gives them, 0 where the sine sign is."""
+    one, another, third = (rng.randint(-3000, 3000) for _ in range(3))
+    if figure.code == 1:
+        by_pair = (one, one + another, another + third, third)
+        along = [value for value in by_pair for _ in (1, 2)]
+    elif figure.code == 2:
+        corners = (one, another, third)
+        along = [value for i in range(3) for value in (0, corners[i], corners[(i + 1) % 3])]
+    else:
+        along = [value for _ in range(figure.n) for value in (0, one, one)]
+    return tuple(sign * value for sign, value in zip(figure.sine_signs, along))
+
+
+def no_sine_part(rng):
+    """Number 10, whatever W is; the last differs from a sum of conditions by 1 and is accepted or gives 9."""
+    for figure in FIGURES:
+        inner_only = tuple(0 if sign else LARGEST_DIFFERENCE for sign in figure.sine_signs)
+        along = sum_of_conditions(figure, rng)
+        beside = with_value(along, 2, along[1] + 1)
+        for differences in ((0,) * figure.angle_count, inner_only, along, beside):
+            for sine_misclosure in (0, 1, 5_000):
+                yield f"no sine part, W {sine_misclosure} {label(2, figure)}", second_sheet(
+                    figure, rng, 0, differences, sine_misclosure
+                )
+
+
+def halves(rng):
+    """Second corrections of a whole number and a half. With m angles of each sign and all differences 100 the signed ones
+    sum to 0 in every condition, so A is D times d, and the exact correction is W / 2m with the sign of d turned."""
+    for figure in FIGURES:
+        m = figure.sine_signs.count(+1)
+        differences = tuple(100 if sign else 0 for sign in figure.sine_signs)
+        for odd in (-5, -3, -1, 1, 3, 5):
+            yield f"halves, W {odd * m} {label(2, figure)}", second_sheet(figure, rng, LARGEST_TOLERANCE, differences, odd * m)
+
+
+# --- bits, lengths, heads, noise ----------------------------------------------------------------------------------------
+
+
+def flipped(sheet, bit):
+    changed = bytearray(sheet)
+    changed[bit // 8] ^= 0x80 >> bit % 8
+    return bytes(changed)
+
+
+def single_bits_flipped(rng):
+    """Every bit of the shortest sheet; of the others the head, some values, and every filling bit."""
+    for kind, figure in each_kind_and_figure():
+        sheet = packed_values(ordinary_sheet(kind, figure, rng))
+        used, total = used_bits(kind, figure), 8 * len(sheet)
+        shortest = (kind, figure.code) == (1, 1)
+        some = range(total) if shortest else sorted({*range(22), *rng.sample(range(22, used), 24), *range(used, total)})
+        for bit in some:
+            yield f"bit {bit} flipped {label(kind, figure)}", flipped(sheet, bit)
+
+
+def filling_bits_set(rng):
+    """Number 13, alone and before the number of another fault."""
+    for kind, figure in each_kind_and_figure():
+        filling = (1 << -used_bits(kind, figure) % 8) - 1
+        sheet = ordinary_sheet(kind, figure, rng)
+        for values in (sheet, spoil_angle(sheet, rng), spoil_limit(sheet, rng)):
+            plain = packed_values(values)
+            yield f"filling bits set {label(kind, figure)}", plain[:-1] + bytes([plain[-1] | filling])
+
+
+def every_length(rng):
+    """0 to 210 bytes: a short sheet and the longest one, cut off or run on, and noise; then lengths past any buffer."""
+    short = packed_values(ordinary_sheet(1, figure_of(1, 0), rng))
+    longest = packed_values(ordinary_sheet(2, figure_of(3, 8), rng))
+    for length in range(211):
+        yield f"short sheet of length {length}", short[:length].ljust(length, b"\0")
+        yield f"longest sheet of length {length}", longest[:length].ljust(length, b"\0")
+        yield f"noise of length {length}", rng.randbytes(length)
+    for length in (255, 256, 257, 1_000, 4_096, 65_536, 65_537, 300_000):
+        yield f"longest sheet of length {length}", longest.ljust(length, b"\0")
+        yield f"noise of length {length}", rng.randbytes(length)
+
+
+def one_byte_off(rng):
+    for kind, figure in each_kind_and_figure():
+        sheet = packed_values(ordinary_sheet(kind, figure, rng))
+        yield f"one byte short {label(kind, figure)}", sheet[:-1]
+        yield f"one byte long {label(kind, figure)}", sheet + b"\0"
+
+
+def heads(rng):
+    """Every kind, every code and n, on sheets of two bytes and of the right or some other size."""
+    for kind in range(16):
+        body = packed_values(ordinary_sheet(rng.choice((1, 2)), rng.choice(FIGURES), rng))
+        yield f"kind {kind} alone", bytes([kind << 4])
+        yield f"kind {kind} in two bytes", bytes([kind << 4 | 1, 0])
+        yield f"kind {kind}", bytes([kind << 4 | body[0] & 15]) + body[1:]
+    for kind in (1, 2):
+        for code in range(16):
+            for n in range(16):
+                figure = figure_of(code, n) or rng.choice(FIGURES)
+                body = packed_values(ordinary_sheet(kind, figure, rng))
+                yield f"kind {kind} code {code} n {n}", bytes([kind << 4 | code, n << 4 | body[1] & 15]) + body[2:]
+
+
+def noise_under_a_good_head(rng):
+    for kind, figure in each_kind_and_figure():
+        size = sheet_size(kind, figure)
+        head = packed_values(ordinary_sheet(kind, figure, rng))[:2]
+        for body in (b"\0" * size, b"\xff" * size, *(rng.randbytes(size) for _ in range(4))):
+            yield f"noise under {label(kind, figure)}", head + body[2:]
+
+
+# --- two faults at once -------------------------------------------------------------------------------------------------
+
+
+def spoil_limit(sheet, rng):
+    if sheet.kind == 1:
+        return sheet._replace(limit=rng.randint(LARGEST_LIMIT + 1, MOST_IN_LIMIT))
+    return sheet._replace(limit=rng.randint(LARGEST_TOLERANCE + 1, MOST_IN_TOLERANCE))
+
+
+def spoiled(values, outside, rng):
+    """One value outside its range, at any place."""
+    return with_value(values, rng.randint(1, len(values)), rng.choice(outside))
+
+
+def spoil_angle(sheet, rng):
+    return sheet._replace(angles=spoiled(sheet.angles, OUTSIDE_ANGLES, rng))
+
+
+def spoil_fixed_angle(sheet, rng):
+    return sheet._replace(fixed=spoiled(sheet.fixed, OUTSIDE_ANGLES, rng))
+
+
+def spoil_log_sine(sheet, rng):
+    return sheet._replace(log_sines=spoiled(sheet.log_sines, OUTSIDE_LOG_SINES, rng))
+
+
+def spoil_difference(sheet, rng):
+    return sheet._replace(differences=spoiled(sheet.differences, OUTSIDE_DIFFERENCES, rng))
+
+
+def spoilers(kind, figure):
+    if kind == 2:
+        return (spoil_limit, spoil_angle, spoil_log_sine, spoil_difference)
+    return (spoil_limit, spoil_angle, spoil_fixed_angle) if figure.fixed_count else (spoil_limit, spoil_angle)
+
+
+def two_faults(rng):
+    """Every two kinds of fault together: the first number in the reader's order is given, at its lowest place."""
+    for kind, figure in each_kind_and_figure():
+        for one, another in combinations_with_replacement(spoilers(kind, figure), 2):
+            for _ in range(3):
+                yield f"two faults {label(kind, figure)}", another(one(ordinary_sheet(kind, figure, rng), rng), rng)
+
+
+GROUPS = (
+    good_sheets,
+    needles,
+    limits,
+    misclosures_at_the_limit,
+    several_misclosures_beyond,
+    angles_at_the_edge,
+    fixed_angles_at_the_edge,
+    log_sines_at_the_edge,
+    differences_at_the_edge,
+    corrected_angles_at_the_low_edge,
+    corrected_angles_of_180_degrees,
+    corrected_angles_just_below_180_degrees,
+    adjusted_angles_at_the_edge,
+    sine_misclosures_at_the_tolerance,
+    very_large_sine_misclosures,
+    no_sine_part,
+    halves,
+    single_bits_flipped,
+    filling_bits_set,
+    every_length,
+    one_byte_off,
+    heads,
+    noise_under_a_good_head,
+    two_faults,
+)
+
+
+def made_sheets():
+    """Name and bytes of every made sheet. Each group has its own seed, so that one can change without the others."""
+    number = 0
+    for group in GROUPS:
+        rng = random.Random(f"{SEED} {group.__name__}")
+        for name, sheet in group(rng):
+            number += 1
+            yield f"{number}: {name}", sheet if isinstance(sheet, bytes) else packed_values(sheet)
+
+
+def refusal_number(text):
+    """Of a printed answer, 0 if it is no refusal."""
+    words = text.split()
+    return int(words[1]) if words[0] == "refused" else 0
+
+
+def reached(answers):
+    """How many of the (name, text) answers give each refusal number, and the first name that does."""
+    found = {}
+    for name, text in answers:
+        number = refusal_number(text)
+        count, first = found.get(number, (0, name))
+        found[number] = (count + 1, first)
+    return found
+
+
+def print_reached(found):
+    for number in sorted(found):
+        count, first = found[number]
+        print(f"{count:6} {'refused ' + str(number) if number else 'accepted':11} first by {first}")
+    missing = set(range(1, 14)) - found.keys()
+    print(f"       not reached: {sorted(missing)}; no sheet can reach: {sorted(UNREACHABLE)}")
+    return missing == UNREACHABLE
+
+
+def main():
+    answers = [(name, work(sheet)) for name, sheet in made_sheets()]
+    complete = print_reached(reached(answers))
+    print(f"{len(answers)} sheets")
+    return 0 if complete else 1
+
+
+if __name__ == "__main__":
+    raise SystemExit(main())

@@ -1,0 +1,171 @@
+"""Packed sheets, read and written from document 01, "Packed sheets" and "Numbers given when a sheet is turned back"."""
+
+from typing import NamedTuple
+
+from figures import HALF_CIRCLE, Figure, figure_of
+
+KIND_BITS, CODE_BITS, N_BITS = 4, 4, 4
+LIMIT_BITS, TOLERANCE_BITS = 10, 6
+ANGLE_BITS, LOG_SINE_BITS, DIFFERENCE_BITS = 23, 27, 15
+
+LARGEST_ANGLE = HALF_CIRCLE - 1
+LARGEST_LOG_SINE = 100_000_000
+LARGEST_DIFFERENCE = 9_999
+LARGEST_LIMIT = 600
+LARGEST_TOLERANCE = 50
+
+
+class Refused(Exception):
+    """Number and place of document 01's table."""
+
+    def __init__(self, number, place=0):
+        super().__init__(number, place)
+        self.number = number
+        self.place = place
+
+
+class Sheet(NamedTuple):
+    kind: int
+    figure: Figure
+    limit: int  # L of kind 1, e of kind 2
+    angles: tuple
+    fixed: tuple = ()
+    log_sines: tuple = ()
+    differences: tuple = ()
+
+
+def counts(kind, figure):
+    """How many angles, fixed angles, log-sines and differences a sheet of this kind has."""
+    if kind == 1:
+        return figure.angle_count, figure.fixed_count, 0, 0
+    return figure.angle_count, 0, figure.angle_count, figure.angle_count
+
+
+def used_bits(kind, figure):
+    head = KIND_BITS + CODE_BITS + N_BITS
+    if kind == 1:
+        return head + LIMIT_BITS + ANGLE_BITS * (figure.angle_count + figure.fixed_count)
+    return head + TOLERANCE_BITS + (ANGLE_BITS + LOG_SINE_BITS + DIFFERENCE_BITS) * figure.angle_count
+
+
+def sheet_size(kind, figure):
+    """In bytes: zero bits fill the last one."""
+    return (used_bits(kind, figure) + 7) // 8
+
+
+class Bits:
+    """The bits of a sheet, taken one by one, most significant first."""
+
+    def __init__(self, sheet):
+        self.number = int.from_bytes(sheet, "big")
+        self.left = 8 * len(sheet)
+
+    def take(self, width):
+        value = 0
+        for _ in range(width):
+            self.left -= 1
+            value = 2 * value + (self.number >> self.left & 1)
+        return value
+
+    def take_signed(self, width):
+        """Two's complement."""
+        value = self.take(width)
+        return value - (1 << width) if value >= 1 << (width - 1) else value
+
+
+def read_values(bits, kind, figure):
+    if kind == 1:
+        limit = bits.take(LIMIT_BITS)
+        angles = [bits.take(ANGLE_BITS) for _ in range(figure.angle_count)]
+        fixed = [bits.take(ANGLE_BITS) for _ in range(figure.fixed_count)]
+        return Sheet(kind, figure, limit, tuple(angles), fixed=tuple(fixed))
+    tolerance = bits.take(TOLERANCE_BITS)
+    rows = [
+        (bits.take(ANGLE_BITS), bits.take(LOG_SINE_BITS), bits.take_signed(DIFFERENCE_BITS))
+        for _ in range(figure.angle_count)
+    ]
+    angles, log_sines, differences = zip(*rows)
+    return Sheet(kind, figure, tolerance, angles, log_sines=log_sines, differences=differences)
+
+
+def refuse_first(number, tests):
+    """At the lowest place of which the test fails."""
+    for place, passes in enumerate(tests, start=1):
+        if not passes:
+            raise Refused(number, place)
+
+
+def check_ranges(sheet):
+    """Numbers 3, 4, 5, 8, in this order for the reader and the writer alike (document 01, "Units and ranges")."""
+    largest_limit = LARGEST_LIMIT if sheet.kind == 1 else LARGEST_TOLERANCE
+    if not 0 <= sheet.limit <= largest_limit:
+        raise Refused(3)
+    refuse_first(4, [1 <= angle <= LARGEST_ANGLE for angle in sheet.angles])
+    refuse_first(5, [1 <= angle <= LARGEST_ANGLE for angle in sheet.fixed])
+    refuse_first(
+        8,
+        [
+            1 <= log_sine <= LARGEST_LOG_SINE and -LARGEST_DIFFERENCE <= difference <= LARGEST_DIFFERENCE
+            for log_sine, difference in zip(sheet.log_sines, sheet.differences)
+        ],
+    )
+
+
+def read_sheet(sheet):
+    """The reader's order: 12 if under two bytes, then 11, 1, 12, 13, 3, 4, 5, 8.
+
+    Number 2 is about slices that a caller lends for the values; here nothing is lent.
+    """
+    if len(sheet) < 2:
+        raise Refused(12)
+    bits = Bits(sheet)
+    kind, code, n = bits.take(KIND_BITS), bits.take(CODE_BITS), bits.take(N_BITS)
+    if kind not in (1, 2):
+        raise Refused(11)
+    figure = figure_of(code, n)
+    if figure is None:
+        raise Refused(1)
+    if len(sheet) != sheet_size(kind, figure):
+        raise Refused(12)
+    values = read_values(bits, kind, figure)
+    if bits.take(bits.left) != 0:
+        raise Refused(13)
+    check_ranges(values)
+    return values
+
+
+def packed(fields):
+    """Fields (value, width) run on without gaps, most significant bit first; zero bits fill the last byte."""
+    number = total = 0
+    for value, width in fields:
+        assert -(1 << (width - 1)) <= value < 1 << width, (value, width)
+        number = (number << width) | (value & ((1 << width) - 1))
+        total += width
+    filling = -total % 8
+    return (number << filling).to_bytes((total + filling) // 8, "big")
+
+
+def packed_values(sheet):
+    """The bytes of any values that fit their fields, in range or not."""
+    fields = [(sheet.kind, KIND_BITS), (sheet.figure.code, CODE_BITS), (sheet.figure.n, N_BITS)]
+    if sheet.kind == 1:
+        fields.append((sheet.limit, LIMIT_BITS))
+        fields += [(angle, ANGLE_BITS) for angle in sheet.angles + sheet.fixed]
+    else:
+        fields.append((sheet.limit, TOLERANCE_BITS))
+        for row in zip(sheet.angles, sheet.log_sines, sheet.differences):
+            fields += zip(row, (ANGLE_BITS, LOG_SINE_BITS, DIFFERENCE_BITS))
+    return packed(fields)
+
+
+def write_sheet(sheet):
+    """The writer's order: 11, 1, 2, 3, 4, 5, 8."""
+    if sheet.kind not in (1, 2):
+        raise Refused(11)
+    if sheet.figure is None:
+        raise Refused(1)
+    lent = tuple(map(len, (sheet.angles, sheet.fixed, sheet.log_sines, sheet.differences)))
+    if lent != counts(sheet.kind, sheet.figure):
+        raise Refused(2)
+    check_ranges(sheet)
+    return packed_values(sheet)

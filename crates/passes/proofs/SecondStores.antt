@@ -20,15 +20,15 @@ use Rattle.figures.specs.declared.Named.{Named}
 use Rattle.figures.specs.Figure.{angleCount, conditionCount, figureOf}
 use Rattle.figures.specs.Numerators.{mostAngles, mostConditions}
 use Rattle.figures.proofs.Figures.{angle-bound, condition-bound}
-use Rattle.passes.specs.declared.second.SecondAnswer.{SecondAnswer}
-use Rattle.passes.specs.declared.second.SecondAnswer.the-variants.{Done, Refused}
-use Rattle.passes.specs.declared.second.SecondWork.{SecondWork}
-use Rattle.passes.specs.Column.{column}
-use Rattle.passes.specs.Pass.{leastAngle, mostAngle, ofNamed}
-use Rattle.passes.specs.SecondPass.{secondReduced, sineMisclosure, sumOfSquares, secondNumerator, secondRounded, secondAdjusted, secondRest, secondLengths, secondPassVerdict, secondAnswerOf, secondPassAnswer, forAngles, forConditions}
-use Rattle.passes.specs.SecondWork.{secondWorkOf, refusedWork, figureWork, sheetWork, Storable}
-use Rattle.passes.proofs.ColumnLaws.{column-at}
-use Rattle.passes.proofs.SecondAccepted.{AcceptedSheet, sheet-verdict, sheet-accepted, result-within, result-most, rounded-most, rest-most}
+use Rattle.work.specs.declared.second.SecondAnswer.{SecondAnswer}
+use Rattle.work.specs.declared.second.SecondAnswer.the-variants.{Done, Refused}
+use Rattle.work.specs.declared.second.SecondWork.{SecondWork}
+use Rattle.work.specs.Column.{column}
+use Rattle.work.specs.Pass.{leastAngle, mostAngle, ofNamed}
+use Rattle.work.specs.SecondPass.{secondReduced, sineMisclosure, sumOfSquares, secondNumerator, secondRounded, secondAdjusted, secondRest, secondLengths, secondPassVerdict, secondAnswerOf, secondPassAnswer, forAngles, forConditions}
+use Rattle.work.specs.SecondWork.{secondWorkOf, refusedWork, figureWork, sheetWork, Storable}
+use Rattle.work.proofs.ColumnLaws.{column-at}
+use Rattle.work.proofs.SecondAccepted.{AcceptedSheet, sheet-verdict, sheet-accepted, result-within, result-most, rounded-most, rest-most}
 
 condition-few : (f : Figure) → conditionCount f ≤ mostAngles
 condition-few f = le-trans (condition-bound f) (lit≤ tt)

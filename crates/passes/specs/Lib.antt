@@ -1,7 +1,1 @@
-pub mod Column
-pub mod FirstPass
-pub mod Pass
-pub mod SecondPass
-pub mod SecondWork
-pub mod Work
 pub mod Worked

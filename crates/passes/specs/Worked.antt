@@ -19,18 +19,18 @@ use Rattle.sheets.specs.declared.Reading.{Reading}
 use Rattle.sheets.specs.declared.Reading.the-variants.{Read}
 use Rattle.sheets.specs.Judging.{lookOf, readingOf, afterReading}
 use Rattle.sheets.specs.Sheet.{lengthsOf, valuesRead, fixedIn, sineEntriesIn}
-use Rattle.passes.specs.declared.first.FirstWork.{FirstWork}
-use Rattle.passes.specs.declared.second.SecondWork.{SecondWork}
+use Rattle.work.specs.declared.first.FirstWork.{FirstWork}
+use Rattle.work.specs.declared.second.SecondWork.{SecondWork}
 use Rattle.passes.specs.declared.worked.Outcome.{Outcome}
 use Rattle.passes.specs.declared.worked.Outcome.the-variants.{First, Second}
 use Rattle.passes.specs.declared.worked.SheetValues.{SheetValues}
 use Rattle.passes.specs.declared.worked.WorkedSheet.{WorkedSheet}
-use Rattle.passes.specs.Column.{column}
-use Rattle.passes.specs.FirstPass.{firstLengths, firstTests}
-use Rattle.passes.specs.Pass.{given}
-use Rattle.passes.specs.SecondPass.{secondLengths, secondTests}
-use Rattle.passes.specs.SecondWork.{secondWorkOf}
-use Rattle.passes.specs.Work.{firstWorkOf}
+use Rattle.work.specs.Column.{column}
+use Rattle.work.specs.FirstPass.{firstLengths, firstTests}
+use Rattle.work.specs.Pass.{given}
+use Rattle.work.specs.SecondPass.{secondLengths, secondTests}
+use Rattle.work.specs.SecondWork.{secondWorkOf}
+use Rattle.work.specs.FirstWork.{firstWorkOf}
 
 -- no figure has more fixed angles
 abbrev pub mostFixed : ℕ

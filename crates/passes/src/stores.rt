@@ -7,8 +7,8 @@ ghost use lib.Signed.{_≤ℤ_};
 ghost use Rattle.whole.specs.Lists.{listed};
 ghost use Rattle.whole.specs.Sums.{vector};
 ghost use Rattle.figures.specs.Numerators.{mostAngles};
-ghost use Rattle.passes.specs.Column.{Below};
-use crate::columns::Column;
+ghost use Rattle.work.specs.Column.{Below};
+use work::Column;
 
 pub fn store_wide(x: Column, lent: &mut [i64])
     requires { ⌜ length (now lent) ≤ mostAngles ⌝ }

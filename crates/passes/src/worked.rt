@@ -1,13 +1,6 @@
 // A sheet worked through: read by the reader's promise, and then its pass.
 ghost use mathlib.Core.Path.{_≡_};
 ghost use Rattle.passes.specs.Worked.{ReadInto, FullArrays, refusedSheet, firstShown, firstSheet, secondShown, secondSheet, workedFrom, workedOf};
-use crate::columns::Column;
-use crate::columns::column_of;
-use crate::first::FirstWork;
-use crate::first::first_judged;
-use crate::second::SecondWork;
-use crate::second::figure_work;
-use crate::second::right_lengths;
 use figures::Figure;
 use figures::MOST_ANGLES;
 use refusals::Refusal;
@@ -15,6 +8,14 @@ use refusals::Verdict;
 use sheets::Kind;
 use sheets::Look;
 use sheets::Reading;
+use work::Column;
+use work::FirstWork;
+use work::SecondWork;
+use work::column_of;
+use work::figure_work;
+use work::first_judged;
+use work::first_lengths;
+use work::second_lengths;
 
 // What became of a sheet.
 pub enum Outcome {
@@ -94,7 +95,7 @@ fn refused(refusal: Refusal) -> WorkedSheet
 fn first_sheet(f: Figure, limit: u32, angles: &[u32], fixed: &[u32]) -> WorkedSheet
     ensures { λ r. ⌜ r ≡ firstSheet f limit (now (angles .entry)) (now (fixed .entry)) ⌝ }
 {
-    let judged = first_judged(f, true, limit, angles, fixed);
+    let judged = first_judged(f, limit, angles, fixed, first_lengths(f));
     let verdict = judged.verdict;
     match verdict {
         Verdict::Failed(refusal) => refused(refusal),
@@ -139,7 +140,7 @@ fn second_sheet(
         angles,
         log_sines,
         differences,
-        right_lengths(f),
+        second_lengths(f),
     );
     let verdict = work.verdict;
     match verdict {

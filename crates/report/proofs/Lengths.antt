@@ -55,11 +55,11 @@ module _ (f : Figure) where
       let all = length-line figureWord (decimal (pos (description f .code)) ∷ decimal (pos (description f .n)) ∷ denominatorWord ∷ decimal (pos (denominator f)) ∷ []) in
       omega (arith, all, code-digits, n-digits, denominator-digits)
 
-  second-figure-length : (w s : ℤ) → natAbs w < 10 ^ 10 → natAbs s < 10 ^ 18 → length (line (secondFigure f w s)) ≤ 47
+  second-figure-length : (w s : ℤ) → natAbs w < 10 ^ 6 → natAbs s < 10 ^ 18 → length (line (secondFigure f w s)) ≤ 43
   unfolding figureWord wWord sWord
   second-figure-length w s hw hs =
       let all = length-line figureWord (decimal (pos (description f .code)) ∷ decimal (pos (description f .n)) ∷ wWord ∷ decimal w ∷ sWord ∷ decimal s ∷ []) in
-      omega (arith, all, code-digits, n-digits, length-decimal 10 w (lit< tt) hw, length-decimal 18 s (lit< tt) hs)
+      omega (arith, all, code-digits, n-digits, length-decimal 6 w (lit< tt) hw, length-decimal 18 s (lit< tt) hs)
 
 -- ---- All lines
 
@@ -82,9 +82,9 @@ text-length f figure angle condition mostFigure mostAngle mostCondition figure-f
 -- ---- Kind 1
 
 module _ (f : Figure) (given numerators rounded results misclosures rests : ℕ → ℤ)
-    (given-fit : Digits 7 (angleCount f) given) (numerators-fit : Digits 18 (angleCount f) numerators) (rounded-fit : Digits 8 (angleCount f) rounded)
-    (results-fit : Digits 7 (angleCount f) results) (misclosures-fit : Digits 7 (conditionCount f) misclosures) (rests-fit : Digits 7 (conditionCount f) rests) where
-  first-angle-length : (i : ℕ) → i < angleCount f → length (line (firstAngle given numerators rounded results i)) ≤ 51
+    (given-fit : Digits 7 (angleCount f) given) (numerators-fit : Digits 10 (angleCount f) numerators) (rounded-fit : Digits 10 (angleCount f) rounded)
+    (results-fit : Digits 10 (angleCount f) results) (misclosures-fit : Digits 10 (conditionCount f) misclosures) (rests-fit : Digits 10 (conditionCount f) rests) where
+  first-angle-length : (i : ℕ) → i < angleCount f → length (line (firstAngle given numerators rounded results i)) ≤ 48
   first-angle-length i h =
       let all = length-line (decimal (pos (i + 1))) (numbers (given i ∷ numerators i ∷ rounded i ∷ results i ∷ [])) in
       omega (
@@ -92,30 +92,30 @@ module _ (f : Figure) (given numerators rounded results misclosures rests : ℕ 
         all,
         number-digits i (omega (arith, angle-bound f)),
         length-decimal 7 (given i) (lit< tt) (given-fit i h),
-        length-decimal 18 (numerators i) (lit< tt) (numerators-fit i h),
-        length-decimal 8 (rounded i) (lit< tt) (rounded-fit i h),
-        length-decimal 7 (results i) (lit< tt) (results-fit i h),
+        length-decimal 10 (numerators i) (lit< tt) (numerators-fit i h),
+        length-decimal 10 (rounded i) (lit< tt) (rounded-fit i h),
+        length-decimal 10 (results i) (lit< tt) (results-fit i h),
       )
 
-  first-condition-length : (j : ℕ) → j < conditionCount f → length (line (firstCondition misclosures rests j)) ≤ 31
+  first-condition-length : (j : ℕ) → j < conditionCount f → length (line (firstCondition misclosures rests j)) ≤ 37
   unfolding conditionWord
   first-condition-length j h =
       let all = length-line conditionWord (numbers (pos (j + 1) ∷ misclosures j ∷ rests j ∷ [])) in
-      omega (arith, all, number-digits j (omega (arith, condition-bound f)), length-decimal 7 (misclosures j) (lit< tt) (misclosures-fit j h), length-decimal 7 (rests j) (lit< tt) (rests-fit j h))
+      omega (arith, all, number-digits j (omega (arith, condition-bound f)), length-decimal 10 (misclosures j) (lit< tt) (misclosures-fit j h), length-decimal 10 (rests j) (lit< tt) (rests-fit j h))
 
   pub first-length : length (firstText f given numerators rounded results misclosures rests) ≤ longestText
   unfolding firstText firstLines
   first-length =
-      let all = text-length f (firstFigure f) (firstAngle given numerators rounded results) (firstCondition misclosures rests) 26 51 31 (first-figure-length f) first-angle-length first-condition-length in
+      let all = text-length f (firstFigure f) (firstAngle given numerators rounded results) (firstCondition misclosures rests) 26 48 37 (first-figure-length f) first-angle-length first-condition-length in
       omega (arith, all, angle-bound f, condition-bound f)
 
 -- ---- Kind 2
 
 module _ (f : Figure) (w s : ℤ) (given reduced numerators rounded results rests : ℕ → ℤ)
-    (w-fits : natAbs w < 10 ^ 10) (s-fits : natAbs s < 10 ^ 18)
-    (given-fit : Digits 7 (angleCount f) given) (reduced-fit : Digits 9 (angleCount f) reduced) (numerators-fit : Digits 18 (angleCount f) numerators)
-    (rounded-fit : Digits 8 (angleCount f) rounded) (results-fit : Digits 7 (angleCount f) results) (rests-fit : Digits 7 (conditionCount f) rests) where
-  second-angle-length : (i : ℕ) → i < angleCount f → length (line (secondAngle given reduced numerators rounded results i)) ≤ 62
+    (w-fits : natAbs w < 10 ^ 6) (s-fits : natAbs s < 10 ^ 18)
+    (given-fit : Digits 7 (angleCount f) given) (reduced-fit : Digits 8 (angleCount f) reduced) (numerators-fit : Digits 17 (angleCount f) numerators)
+    (rounded-fit : Digits 8 (angleCount f) rounded) (results-fit : Digits 7 (angleCount f) results) (rests-fit : Digits 1 (conditionCount f) rests) where
+  second-angle-length : (i : ℕ) → i < angleCount f → length (line (secondAngle given reduced numerators rounded results i)) ≤ 60
   second-angle-length i h =
       let all = length-line (decimal (pos (i + 1))) (numbers (given i ∷ reduced i ∷ numerators i ∷ rounded i ∷ results i ∷ [])) in
       omega (
@@ -123,22 +123,22 @@ module _ (f : Figure) (w s : ℤ) (given reduced numerators rounded results rest
         all,
         number-digits i (omega (arith, angle-bound f)),
         length-decimal 7 (given i) (lit< tt) (given-fit i h),
-        length-decimal 9 (reduced i) (lit< tt) (reduced-fit i h),
-        length-decimal 18 (numerators i) (lit< tt) (numerators-fit i h),
+        length-decimal 8 (reduced i) (lit< tt) (reduced-fit i h),
+        length-decimal 17 (numerators i) (lit< tt) (numerators-fit i h),
         length-decimal 8 (rounded i) (lit< tt) (rounded-fit i h),
         length-decimal 7 (results i) (lit< tt) (results-fit i h),
       )
 
-  second-condition-length : (j : ℕ) → j < conditionCount f → length (line (secondCondition rests j)) ≤ 22
+  second-condition-length : (j : ℕ) → j < conditionCount f → length (line (secondCondition rests j)) ≤ 16
   unfolding conditionWord
   second-condition-length j h =
       let all = length-line conditionWord (numbers (pos (j + 1) ∷ rests j ∷ [])) in
-      omega (arith, all, number-digits j (omega (arith, condition-bound f)), length-decimal 7 (rests j) (lit< tt) (rests-fit j h))
+      omega (arith, all, number-digits j (omega (arith, condition-bound f)), length-decimal 1 (rests j) (lit< tt) (rests-fit j h))
 
   pub second-length : length (secondText f w s given reduced numerators rounded results rests) ≤ longestText
   unfolding secondText secondLines
   second-length =
-      let all = text-length f (secondFigure f w s) (secondAngle given reduced numerators rounded results) (secondCondition rests) 47 62 22 (second-figure-length f w s w-fits s-fits) second-angle-length second-condition-length in
+      let all = text-length f (secondFigure f w s) (secondAngle given reduced numerators rounded results) (secondCondition rests) 43 60 16 (second-figure-length f w s w-fits s-fits) second-angle-length second-condition-length in
       omega (arith, all, angle-bound f, condition-bound f)
 
 -- ---- Turned back
@@ -158,9 +158,8 @@ numberOf-digits Refusal.NoSuchKind = lit< tt
 numberOf-digits Refusal.WrongSheetLength = lit< tt
 numberOf-digits Refusal.FillingBitSet = lit< tt
 
--- whatever the place, of 64 bits
-pub refused-length : (refusal : Refusal) → placeOf refusal < 2 ^ 64 → length (refusedText refusal) ≤ longestText
+pub refused-length : (refusal : Refusal) → placeOf refusal < 100 → length (refusedText refusal) ≤ longestText
 unfolding refusedText refusedLines refusedWord lines
 refused-length refusal h =
     let all = length-line refusedWord (numbers (pos (numberOf refusal) ∷ pos (placeOf refusal) ∷ [])) in
-    omega (arith, all, length-append (line (refusedWord ∷ numbers (pos (numberOf refusal) ∷ pos (placeOf refusal) ∷ []))) [], length-positive 2 (numberOf refusal) (lit< tt) (numberOf-digits refusal), length-positive 20 (placeOf refusal) (lit< tt) (omega arith))
+    omega (arith, all, length-append (line (refusedWord ∷ numbers (pos (numberOf refusal) ∷ pos (placeOf refusal) ∷ []))) [], length-positive 2 (numberOf refusal) (lit< tt) (numberOf-digits refusal), length-positive 2 (placeOf refusal) (lit< tt) h)

@@ -99,6 +99,6 @@ refusedText refusal = lines (refusedLines refusal)
 
 -- ---- The room for any text
 
--- no text of a worked sheet or of a refusal has more bytes
+-- the text of any bytes has at most so many: `text-fits`, proofs/Longest.antt
 abbrev pub longestText : ℕ
 longestText = 2048

@@ -1,5 +1,5 @@
 -- What the program writes for a sheet: document 01, "Sheets worked through". The lines of the worked sheet, or its refusal.
-use mathlib.Core.Bool.{Bool, true, false, _&&_}
+use mathlib.Core.Bool.{Bool, true, false}
 use mathlib.Core.List.{List, _++_}
 use Prim.Native.Nat.{ℕ}
 use lib.Dec.{leb}
@@ -11,7 +11,7 @@ use Rattle.passes.specs.declared.worked.WorkedSheet.{WorkedSheet}
 use Rattle.passes.specs.Worked.{workedOf}
 use Rattle.report.specs.declared.reporting.Reported.{Reported}
 use Rattle.report.specs.declared.reporting.Reported.the-variants.{Written, NoRoom}
-use Rattle.report.specs.Lines.{firstText, secondText, refusedText, longestText}
+use Rattle.report.specs.Lines.{firstText, secondText, refusedText}
 
 abbrev pub outcomeText : Outcome → WorkedSheet → List ℕ
 outcomeText (First f) s =
@@ -30,7 +30,7 @@ reportText sheet = textOf (workedOf sheet)
 
 -- whether a text has room in what is lent
 abbrev pub hasRoom : (t lent : List ℕ) → Bool
-hasRoom t lent = leb (length t) longestText && leb (length t) (length lent)
+hasRoom t lent = leb (length t) (length lent)
 
 abbrev pub reportedOf : Bool → List ℕ → Reported
 reportedOf true t = Written (length t)

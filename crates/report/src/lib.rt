@@ -3,5 +3,6 @@ mod lines;
 mod put;
 mod reporting;
 
+pub use reporting::LONGEST_TEXT;
 pub use reporting::Reported;
 pub use reporting::report;

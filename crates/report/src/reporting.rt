@@ -10,8 +10,8 @@ use passes::WorkedSheet;
 use passes::worked_sheet;
 use text::put_word;
 
-// No text is longer.
-const LONGEST_TEXT: usize = 2048;
+// The text of any bytes has at most so many.
+pub const LONGEST_TEXT: usize = 2048;
 
 // What became of a text: how many bytes were written, or nothing, for want of room.
 pub enum Reported {
@@ -64,9 +64,6 @@ pub fn report(sheet: &[u8], lent: &mut [u8]) -> Reported
 {
     let mut buffer = [0u8; LONGEST_TEXT];
     let end = worked_lines(&mut buffer, worked_sheet(sheet));
-    if end > LONGEST_TEXT {
-        return Reported::NoRoom;
-    }
     if end > lent.len() {
         return Reported::NoRoom;
     }

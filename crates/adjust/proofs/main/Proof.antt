@@ -4,6 +4,7 @@ use Prim.Native.Nat.{_≤_}
 use borrow.Author.Needs.{needs}
 use lib.ListN.{length, take, replicate}
 use lib.Seq.{length-take-le}
+use Rattle.report.specs.Lines.{longestText}
 use Rattle.report.specs.Report.{reportText}
 use Rattle.report.proofs.Reports.{written-within}
 use Rattle.adjust.proofs.main.Statement.{statement}
@@ -12,7 +13,7 @@ use Rattle.adjust.proofs.main.Tie as tie
 within : (c : tie.After-known-told) → c .before .end .given .0 .0 ≤ length (c .before .before .before .before .report .last .1 .0)
 within c =
     let called = c .before .before .before .before in
-    rw (called .report .kept .1 .0) (written-within (reportText (take (called .before .before .before .before .read-full .result) (called .before .before .before .before .read-full .last .1 .0))) (replicate 2048 0) (c .before .end .given .0 .0) (sym (called .report .ensures .0) ∙ c .before .end .given .1))
+    rw (called .report .kept .1 .0) (written-within (reportText (take (called .before .before .before .before .read-full .result) (called .before .before .before .before .read-full .last .1 .0))) (replicate longestText 0) (c .before .end .given .0 .0) (sym (called .report .ensures .0) ∙ c .before .end .given .1))
 
 slice-aggregate-write-all : tie.Need-slice-aggregate-write-all
 slice-aggregate-write-all c = sym (length-take-le _ _ (within (c .before)))

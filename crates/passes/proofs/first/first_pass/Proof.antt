@@ -14,8 +14,8 @@ use Rattle.figures.specs.declared.Figure.{Figure}
 use Rattle.figures.specs.declared.Named.{Named}
 use Rattle.figures.specs.declared.Named.the-variants.{As, Nothing}
 use Rattle.figures.specs.Figure.{figureOf}
-use Rattle.passes.specs.FirstPass.{firstTests, firstPassTests, firstPassVerdict, misclosuresOf, numeratorsOf, roundedOf, correctedOf, restsOf}
-use Rattle.passes.specs.Pass.{ofNamed, stored}
+use Rattle.work.specs.FirstPass.{firstTests, firstPassTests, firstPassVerdict, misclosuresOf, numeratorsOf, roundedOf, correctedOf, restsOf}
+use Rattle.work.specs.Pass.{ofNamed, stored}
 use Rattle.passes.proofs.first.first_pass.Statement.{statement}
 use Rattle.passes.proofs.first.first_pass.Tie as tie
 

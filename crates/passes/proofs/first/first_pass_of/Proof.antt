@@ -1,6 +1,5 @@
 -- `passes::first::first_pass_of` meets its contract: a refusal comes before any store, and what is stored is the work of the definition.
 use mathlib.Core.Path.{_≡_, refl, sym, ap, _∙_, subst}
-use mathlib.Core.Bool.{Bool}
 use mathlib.Core.List.{List, [], _∷_}
 use Prim.Native.Nat.{ℕ, _≤_}
 use native.Mathlib.Nat.{le-trans}
@@ -18,13 +17,13 @@ use Rattle.figures.specs.declared.Figure.{Figure}
 use Rattle.figures.specs.Figure.{angleCount, conditionCount}
 use Rattle.figures.specs.Numerators.{mostAngles}
 use Rattle.figures.proofs.Figures.{angle-bound, condition-bound}
-use Rattle.passes.specs.declared.first.FirstWork.{FirstWork}
-use Rattle.passes.specs.Column.{column}
-use Rattle.passes.specs.FirstPass.{misclosure, firstNumerator, firstRounded, corrected, firstRest, firstLengths, firstTests}
-use Rattle.passes.specs.Pass.{sameLengths}
-use Rattle.passes.specs.Work.{StoresFit, firstWorkOf, judgedTests}
-use Rattle.passes.proofs.FirstAccepted.{StepsPass, steps-pass, lengths-fit, limit-within, stores-fit}
-use Rattle.passes.proofs.Verdicts.{kept, same-lengths, stored-column}
+use Rattle.work.specs.declared.first.FirstJudged.{FirstJudged}
+use Rattle.work.specs.declared.first.FirstWork.{FirstWork}
+use Rattle.work.specs.Column.{column}
+use Rattle.work.specs.FirstPass.{misclosure, firstNumerator, firstRounded, corrected, firstRest, firstLengths, firstTests}
+use Rattle.work.specs.FirstWork.{StoresFit, firstWorkOf}
+use Rattle.work.proofs.FirstAccepted.{StepsPass, judged-verdict, steps-pass, lengths-fit, limit-within, stores-fit}
+use Rattle.work.proofs.Verdicts.{kept, stored-column}
 use Rattle.passes.proofs.first.first_pass_of.Statement.{statement}
 use Rattle.passes.proofs.first.first_pass_of.Tie as tie
 
@@ -48,44 +47,39 @@ module _ (s : tie.Start) where
       length (now (s .args .angles)) ∷ length (now (s .args .fixed)) ∷ length (now (s .args .misclosures)) ∷ length (now (s .args .numerators))
       ∷ length (now (s .args .rounded)) ∷ length (now (s .args .corrected)) ∷ length (now (s .args .rests)) ∷ []
 
-  abbrev Fits : Bool
-  Fits = sameLengths Lent (firstLengths F)
-
   abbrev Answer : Verdict
   Answer = answerOf (firstTests F Limit Angles Fixed Lent)
 
 -- ---- the verdict and the work of the code are those of the definition
 
 abbrev start : tie.After-first-judged → tie.Start
-start j = j .before .before .before .before .before
+start j = j .before .before .before .before
 
 verdict-is : (j : tie.After-first-judged) → j .first-judged .result .verdict ≡ Answer (start j)
-unfolding firstTests
 verdict-is j =
-    j .first-judged .ensures .0
-    ∙ ap (λ (b : Bool). answerOf (judgedTests (F (start j)) b (Limit (start j)) (Angles (start j)) (Fixed (start j)))) (j .before .lengths-fit .ensures)
+    let s = start j in
+    ap (λ (r : FirstJudged). r .verdict) (j .first-judged .ensures) ∙ judged-verdict (F s) (Limit s) (Angles s) (Fixed s) (Lent s)
 
 -- the sheet is accepted
 module _ (j : tie.After-first-judged) (passed : j .first-judged .result .verdict ≡ Passed) where
   abbrev S : tie.Start
   S = start j
 
-  work-is : j .first-judged .result .work ≡ firstWorkOf (F S) (Angles S) (Fixed S)
-  work-is = j .first-judged .ensures .1 passed
+  steps : StepsPass (F S) (Limit S) (Angles S) (Fixed S) (Lent S)
+  steps = steps-pass (F S) (Limit S) (Angles S) (Fixed S) (Lent S) (sym (verdict-is j) ∙ passed)
 
-  steps : StepsPass (F S) (Fits S) (Limit S) (Angles S) (Fixed S)
-  unfolding firstTests
-  steps = steps-pass (F S) (Fits S) (Limit S) (Angles S) (Fixed S) (sym (verdict-is j) ∙ passed)
+  work-is : j .first-judged .result .work ≡ firstWorkOf (F S) (Angles S) (Fixed S)
+  work-is = ap (λ (r : FirstJudged). r .work) (j .first-judged .ensures) ∙ steps .work-is
 
   -- the lengths of what is lent, by their places in the list
   lent-is : Lent S ≡ firstLengths (F S)
-  lent-is = same-lengths (Lent S) (firstLengths (F S)) (lengths-fit (Fits S) (Limit S) (Angles S) (Fixed S) (steps .0))
+  lent-is = lengths-fit (F S) (Limit S) (Angles S) (Fixed S) (Lent S) (steps .before-work)
 
   fitting : StoresFit (j .first-judged .result .work) (getD (Lent S) 2 0) (getD (Lent S) 3 0) (getD (Lent S) 4 0) (getD (Lent S) 5 0) (getD (Lent S) 6 0)
   fitting =
       subst (λ (l : List ℕ). StoresFit (j .first-judged .result .work) (getD l 2 0) (getD l 3 0) (getD l 4 0) (getD l 5 0) (getD l 6 0)) (sym lent-is)
       (subst (λ (work : FirstWork). StoresFit work (conditionCount (F S)) (angleCount (F S)) (angleCount (F S)) (angleCount (F S)) (conditionCount (F S))) (sym work-is)
-      (stores-fit (F S) (Limit S) (Angles S) (Fixed S) (limit-within (Fits S) (Limit S) (Angles S) (Fixed S) (steps .0)) (steps .1)))
+      (stores-fit (F S) (Limit S) (Angles S) (Fixed S) (limit-within (F S) (Limit S) (Angles S) (Fixed S) (Lent S) (steps .before-work)) (steps .of-work)))
 
   few-conditions : conditionCount (F S) ≤ mostAngles
   few-conditions = le-trans (condition-bound (F S)) (lit≤ tt)
@@ -137,7 +131,6 @@ pub first-pass-of-spec : {M : Type 1} → statement M
 first-pass-of-spec =
     tie.close
     (tie.spec
-    (λ c κs. search needs)
     (λ c κs. search needs)
     (λ c. search needs)
     returns

@@ -7,9 +7,9 @@ use lib.ListN.{length}
 use lib.IntN.{ℤ}
 use mir.Facts.{toZ-ofZ}
 use denote.Ref.{now}
-use Rattle.passes.specs.declared.second.SecondAnswer.{SecondAnswer}
-use Rattle.passes.specs.declared.second.SecondAnswer.the-variants.{Done}
-use Rattle.passes.specs.SecondPass.{storedAfter}
+use Rattle.work.specs.declared.second.SecondAnswer.{SecondAnswer}
+use Rattle.work.specs.declared.second.SecondAnswer.the-variants.{Done}
+use Rattle.work.specs.SecondPass.{storedAfter}
 use Rattle.passes.proofs.SecondStores.{answer-refused, answer-done, storable, stored-reduced, stored-numerators, stored-rounded, stored-adjusted, stored-rests}
 use Rattle.passes.proofs.second.second_pass.Statement.{statement}
 use Rattle.passes.proofs.second.second_pass.Tie as tie

@@ -1,33 +1,37 @@
 -- `passes::worked::first_sheet` meets its contract: the verdict of the figure's tests, and its work where they pass.
 use mathlib.Core.Path.{_≡_, refl, sym, ap, ap₂, _∙_}
-use mathlib.Core.Bool.{Bool, true}
 use mathlib.Core.List.{List}
 use borrow.Author.Needs.{needs}
 use denote.Ref.{now}
 use lib.IntN.{ℤ}
 use Rattle.refusals.specs.declared.Verdict.{Verdict}
 use Rattle.refusals.specs.Order.{answerOf}
-use Rattle.passes.specs.declared.first.FirstWork.{FirstWork}
-use Rattle.passes.specs.Column.{column}
-use Rattle.passes.specs.FirstPass.{firstLengths, firstTests}
-use Rattle.passes.specs.Pass.{given}
-use Rattle.passes.specs.Work.{firstWorkOf, judgedTests}
+use Rattle.work.specs.declared.first.FirstJudged.{FirstJudged}
+use Rattle.work.specs.declared.first.FirstWork.{FirstWork}
+use Rattle.work.specs.Column.{column}
+use Rattle.work.specs.FirstPass.{firstLengths, firstTests}
+use Rattle.work.specs.Pass.{given}
+use Rattle.work.specs.FirstWork.{firstWorkOf, firstJudgedOf}
+use Rattle.work.proofs.FirstAccepted.{judged-verdict, steps-pass}
 use Rattle.passes.specs.Worked.{firstSheet, firstShown, shownIf}
-use Rattle.passes.proofs.Verdicts.{lengths-same}
 use Rattle.passes.proofs.worked.first_sheet.Statement.{statement}
 use Rattle.passes.proofs.worked.first_sheet.Tie as tie
 
 abbrev start : tie.After-first-judged → tie.Start
-start j = j .before .before .before
+start j = j .before .before .before .before
+
+judged-is : (j : tie.After-first-judged)
+    → j .first-judged .result ≡ firstJudgedOf (start j .args .f) (start j .args .limit) (now (start j .args .angles)) (now (start j .args .fixed)) (firstLengths (start j .args .f))
+judged-is j =
+    let s = start j in
+    j .first-judged .ensures ∙ ap (firstJudgedOf (s .args .f) (s .args .limit) (now (s .args .angles)) (now (s .args .fixed))) (j .before .first-lengths .ensures)
 
 verdict-is : (j : tie.After-first-judged)
     → j .first-judged .result .verdict
     ≡ answerOf (firstTests (start j .args .f) (start j .args .limit) (now (start j .args .angles)) (now (start j .args .fixed)) (firstLengths (start j .args .f)))
-unfolding firstTests
 verdict-is j =
     let s = start j in
-    j .first-judged .ensures .0
-    ∙ ap (λ (b : Bool). answerOf (judgedTests (s .args .f) b (s .args .limit) (now (s .args .angles)) (now (s .args .fixed)))) (sym (lengths-same (firstLengths (s .args .f))))
+    ap (λ (r : FirstJudged). r .verdict) (judged-is j) ∙ judged-verdict (s .args .f) (s .args .limit) (now (s .args .angles)) (now (s .args .fixed)) (firstLengths (s .args .f))
 
 -- what is shown goes by the verdict
 shown-by : (j : tie.After-first-judged) (v : Verdict) → j .first-judged .result .verdict ≡ v
@@ -47,14 +51,17 @@ returns-2 : tie.Need-returns-2
 returns-2 c =
     let told = c .before .before in
     let j = told .before .before in
+    let s = start j in
+    let steps = steps-pass (s .args .f) (s .args .limit) (now (s .args .angles)) (now (s .args .fixed)) (firstLengths (s .args .f)) (sym (verdict-is j) ∙ told .enum-told .given .1) in
     c .first-shown .ensures
-    ∙ ap₂ (λ (g : List ℤ) (w : FirstWork). firstShown (start j .args .f) g w) (c .before .column-of .ensures) (j .first-judged .ensures .1 (told .enum-told .given .1))
+    ∙ ap₂ (λ (g : List ℤ) (w : FirstWork). firstShown (s .args .f) g w) (c .before .column-of .ensures) (ap (λ (r : FirstJudged). r .work) (judged-is j) ∙ steps .work-is)
     ∙ shown-by j _ (told .enum-told .given .1)
 
 pub first-sheet-spec : {M : Type 1} → statement M
 first-sheet-spec =
     tie.close
     (tie.spec
+    (λ c κs. search needs)
     (λ c κs. search needs)
     (λ c. search needs)
     (λ c κs. search needs)

@@ -7,13 +7,13 @@ use denote.Ref.{now}
 use lib.IntN.{ℤ}
 use Rattle.refusals.specs.declared.Verdict.{Verdict}
 use Rattle.refusals.specs.Order.{answerOf}
-use Rattle.passes.specs.declared.second.SecondWork.{SecondWork}
-use Rattle.passes.specs.Column.{column}
-use Rattle.passes.specs.SecondPass.{secondLengths, secondTests}
-use Rattle.passes.specs.Pass.{given}
-use Rattle.passes.specs.SecondWork.{secondWorkOf, figureWork}
+use Rattle.work.specs.declared.second.SecondWork.{SecondWork}
+use Rattle.work.specs.Column.{column}
+use Rattle.work.specs.SecondPass.{secondLengths, secondTests}
+use Rattle.work.specs.Pass.{given}
+use Rattle.work.specs.SecondWork.{secondWorkOf, figureWork}
 use Rattle.passes.specs.Worked.{secondSheet, secondShown, shownIf}
-use Rattle.passes.proofs.SecondAccepted.{figure-verdict, accepted}
+use Rattle.work.proofs.SecondAccepted.{figure-verdict, accepted}
 use Rattle.passes.proofs.worked.second_sheet.Statement.{statement}
 use Rattle.passes.proofs.worked.second_sheet.Tie as tie
 
@@ -25,7 +25,7 @@ module _ (j : tie.After-figure-work) where
       ≡ figureWork (start .args .f) (start .args .tolerance) (now (start .args .angles)) (now (start .args .log-sines)) (now (start .args .differences)) (secondLengths (start .args .f))
   work-is =
       j .figure-work .ensures
-      ∙ ap (figureWork (start .args .f) (start .args .tolerance) (now (start .args .angles)) (now (start .args .log-sines)) (now (start .args .differences))) (j .before .right-lengths .ensures)
+      ∙ ap (figureWork (start .args .f) (start .args .tolerance) (now (start .args .angles)) (now (start .args .log-sines)) (now (start .args .differences))) (j .before .second-lengths .ensures)
 
   verdict-is : j .figure-work .result .verdict
       ≡ answerOf (secondTests (start .args .f) (start .args .tolerance) (now (start .args .angles)) (now (start .args .log-sines)) (now (start .args .differences)) (secondLengths (start .args .f)))

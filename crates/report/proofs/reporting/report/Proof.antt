@@ -1,9 +1,8 @@
 -- `report::reporting::report` meets its contract: the text laid by itself, and then where it has room.
-use mathlib.Core.Path.{_≡_, refl, sym, ap, _∙_, subst}
+use mathlib.Core.Path.{sym, ap, _∙_, subst}
 use mathlib.Core.Bool.{Bool}
 use mathlib.Core.List.{List}
 use Prim.Native.Nat.{ℕ, _≤_}
-use native.Mathlib.Omega.{arith}
 use borrow.Author.Needs.{needs}
 use denote.Ref.{now}
 use lib.ListN.{length, replicate}
@@ -12,8 +11,9 @@ use Rattle.text.specs.Holds.{Holds}
 use Rattle.passes.specs.declared.worked.WorkedSheet.{WorkedSheet}
 use Rattle.report.specs.declared.reporting.Reported.the-variants.{Written}
 use Rattle.report.specs.Lines.{longestText}
-use Rattle.report.specs.Report.{textOf, reportText, hasRoom, reportedOf, afterReport}
-use Rattle.report.proofs.Reports.{past-longest, past-lent, length-told, room-there, laid-there}
+use Rattle.report.specs.Report.{textOf, reportText, reportedOf, afterReport}
+use Rattle.report.proofs.Longest.{text-fits}
+use Rattle.report.proofs.Reports.{length-told, end-within, past-lent, room-there, laid-there}
 use Rattle.report.proofs.reporting.report.Statement.{statement}
 use Rattle.report.proofs.reporting.report.Tie as tie
 
@@ -36,34 +36,34 @@ module _ (j : tie.After-worked-lines) where
   held : Holds (replicate longestText 0) text buffer end
   held = subst (λ (s : WorkedSheet). Holds (replicate longestText 0) (textOf s) buffer end) (j .before .worked-sheet .ensures) (j .worked-lines .ensures)
 
+  fits : length text ≤ longestText
+  fits = text-fits (now (start .args .sheet))
+
 returns : tie.Need-returns
 returns c =
     let j = c .before .before in
-    let none = past-longest (text j) (lent j) (buffer j) (end j) (held j) (c .if1 .taken) in
+    let none = past-lent (text j) (buffer j) (end j) (held j) (fits j) (lent j) (c .if1 .taken) in
     (sym (ap (λ (b : Bool). reportedOf b (text j)) none), sym (ap (λ (b : Bool). afterReport b (text j) (lent j)) none))
 
-returns-2 : tie.Need-returns-2
-returns-2 c =
+array-share-prefix-buffer : tie.Need-array-share-prefix-buffer
+array-share-prefix-buffer c =
     let j = c .before .before .before in
-    let none = past-lent (text j) (lent j) (buffer j) (end j) (held j) (c .before .if1 .left) (c .if2 .taken) in
-    (sym (ap (λ (b : Bool). reportedOf b (text j)) none), sym (ap (λ (b : Bool). afterReport b (text j) (lent j)) none))
+    end-within (text j) (buffer j) (end j) (held j) (fits j)
 
 slice-aggregate-put-word : tie.Need-slice-aggregate-put-word
 slice-aggregate-put-word c =
-    let within = c .before .before .before in
-    let j = within .before .before in
-    sym (length-take-le (end j) (buffer j) (rw (held j .size) (within .if1 .left)))
+    let j = c .before .before .before .before in
+    sym (length-take-le (end j) (buffer j) (end-within (text j) (buffer j) (end j) (held j) (fits j)))
 
-returns-3 : tie.Need-returns-3
-returns-3 c =
+returns-2 : tie.Need-returns-2
+returns-2 c =
     let put = c .before .before in
     let room = put .before .before .before in
-    let within = room .before in
-    let j = within .before .before in
-    let there = room-there (text j) (lent j) (buffer j) (end j) (held j) (within .if1 .left) (room .if2 .left) in (
-      ap Written (length-told (text j) (lent j) (buffer j) (end j) (held j) (within .if1 .left)) ∙ sym (ap (λ (b : Bool). reportedOf b (text j)) there),
+    let j = room .before .before in
+    let there = room-there (text j) (buffer j) (end j) (held j) (fits j) (lent j) (room .if1 .left) in (
+      ap Written (length-told (text j) (buffer j) (end j) (held j) (fits j)) ∙ sym (ap (λ (b : Bool). reportedOf b (text j)) there),
       put .put-word .ensures .0
-          ∙ laid-there (text j) (lent j) (buffer j) (end j) (held j) (within .if1 .left) (room .if2 .left)
+          ∙ laid-there (text j) (buffer j) (end j) (held j) (fits j) (lent j) (room .if1 .left)
           ∙ sym (ap (λ (b : Bool). afterReport b (text j) (lent j)) there),
     )
 
@@ -75,9 +75,8 @@ report-spec =
     (λ c κs. search needs)
     (λ c κs. search needs)
     returns
-    returns-2
-    (λ c. search needs)
+    array-share-prefix-buffer
     slice-aggregate-put-word
     (λ c κs. search needs)
     (λ c. search needs)
-    returns-3)
+    returns-2)

@@ -1,0 +1,108 @@
+-- What it says of a sheet that numbers 2, 3, 4 and 8 pass. Assumes nothing.
+use mathlib.Core.Path.{_≡_, refl, sym, ap, _∙_, subst}
+use mathlib.Core.Bool.{Bool, true, false, not}
+use mathlib.Core.List.{List, [], _∷_}
+use mathlib.Core.Logic.{_↔_}
+use Prim.Native.Nat.{ℕ, zero, suc, _^_, _≤_, _<_, zero-le, suc-le-suc}
+use native.Mathlib.Decide.{decLt}
+use native.Mathlib.Nat.{le-trans, lt-of-le-of-lt}
+use native.Mathlib.Omega.{arith}
+use borrow.Author.Tests.{ltb-false, not-false}
+use lib.Dec.{ltb, leb→le, lit<, lit≤}
+use lib.ListN.{length, getD, List·getD-eq-default}
+use lib.IntN.{ℤ, pos, negsuc, negℤ, natAbs}
+use lib.Signed.{_≤ℤ_}
+use Rattle.whole.specs.Sums.{vector}
+use Rattle.refusals.specs.declared.Refusal.{Refusal}
+use Rattle.refusals.specs.declared.Verdict.{Verdict}
+use Rattle.refusals.specs.declared.Verdict.the-variants.{Passed}
+use Rattle.refusals.specs.declared.Lowest.{Lowest}
+use Rattle.refusals.specs.declared.Lowest.the-variants.{Nowhere, At}
+use Rattle.refusals.specs.Order.{answerOf, earlierOf, lowestOutside, lowestSignedOutside, numbered, outside, outsideSigned}
+use Rattle.refusals.proofs.Answers.{answer-of-one, cons-passes}
+use Rattle.refusals.proofs.Places.{lowest-is-nowhere}
+use Rattle.refusals.proofs.Ranges.{within-range, within-signed-range}
+use Rattle.refusals.proofs.Verdicts.{if-passes, at-passes}
+use Rattle.figures.specs.declared.Figure.{Figure}
+use Rattle.work.specs.Column.{Angles}
+use Rattle.work.specs.Pass.{leastAngle, mostAngle, sameLengths, lengthsTest, limitOrToleranceTest, angleTest}
+use Rattle.work.specs.SecondPass.{leastLogSine, mostLogSine, mostDifference, mostTolerance, secondLengths, sineEntryTest}
+use Rattle.work.specs.SecondWork.{SineEntries}
+use Rattle.work.proofs.LengthLaws.{same-lists}
+
+-- ---- values within their range
+
+module _ (values : List ℕ) (least most : ℕ) (none : lowestOutside values least most ≡ Nowhere) where
+  pub value-within : (i : ℕ) → i < length values → (least ≤ getD values i 0) × (getD values i 0 ≤ most)
+  value-within i h =
+      within-range least most (getD values i 0) .0
+      (lowest-is-nowhere (λ place. outside least most (numbered values place 0)) (length values) .0 none (suc i) (suc-le-suc zero-le) h)
+
+  pub value-most : (i : ℕ) → getD values i 0 ≤ most
+  value-most i = go (decLt i (length values))
+    where
+      go : Dec (i < length values) → getD values i 0 ≤ most
+      go (yes h) = value-within i h .1
+      go (no h) = rw (List·getD-eq-default values 0 {n = i} (omega arith)) zero-le
+
+module _ (values : List ℤ) (least most : ℤ) (none : lowestSignedOutside values least most ≡ Nowhere) where
+  pub signed-value-within : (i : ℕ) → i < length values → (least ≤ℤ vector values i) × (vector values i ≤ℤ most)
+  signed-value-within i h =
+      within-signed-range least most (vector values i) .0
+      (lowest-is-nowhere (λ place. outsideSigned least most (numbered values place (pos 0))) (length values) .0 none (suc i) (suc-le-suc zero-le) h)
+
+-- a difference within ±9,999 has no greater magnitude
+difference-most : (z : ℤ) → negℤ (pos mostDifference) ≤ℤ z → z ≤ℤ pos mostDifference → natAbs z ≤ mostDifference
+difference-most (pos n) low high = leb→le n mostDifference (high .le)
+difference-most (negsuc n) low high = suc-le-suc (leb→le n 9998 (low .le))
+
+differences-most : (values : List ℤ) → lowestSignedOutside values (negℤ (pos mostDifference)) (pos mostDifference) ≡ Nowhere → (i : ℕ) → natAbs (vector values i) ≤ mostDifference
+differences-most values none i = go (decLt i (length values))
+  where
+    go : Dec (i < length values) → natAbs (vector values i) ≤ mostDifference
+    go (yes h) =
+        let within = signed-value-within values (negℤ (pos mostDifference)) (pos mostDifference) none i h in
+        difference-most (vector values i) (within .0) (within .1)
+    go (no h) = subst (λ (z : ℤ). natAbs z ≤ mostDifference) (sym (List·getD-eq-default values (pos 0) {n = i} (omega arith))) zero-le
+
+-- the lower of two places is nowhere exactly if both are
+neither-place : (a b : Lowest) → earlierOf a b ≡ Nowhere → (a ≡ Nowhere) × (b ≡ Nowhere)
+neither-place Nowhere b e = (refl, e)
+neither-place (At p) Nowhere e = (e, refl)
+neither-place (At p) (At q) e = (cc, cc)
+
+-- ---- the tests that passed
+
+pub record Entries (f : Figure) (tolerance : ℕ) (angles logSines : List ℕ) (differences : List ℤ) (lent : List ℕ) : Type 0 where
+  pub lengths : lent ≡ secondLengths f
+  pub tolerance-range : tolerance ≤ mostTolerance
+  pub no-angle : lowestOutside angles leastAngle mostAngle ≡ Nowhere
+  pub no-log-sine : lowestOutside logSines leastLogSine mostLogSine ≡ Nowhere
+  pub no-difference : lowestSignedOutside differences (negℤ (pos mostDifference)) (pos mostDifference) ≡ Nowhere
+
+module _ (f : Figure) (tolerance : ℕ) (angles logSines : List ℕ) (differences : List ℤ) (lent : List ℕ) where
+  pub entries-passed : answerOf (lengthsTest lent (secondLengths f) ∷ limitOrToleranceTest mostTolerance tolerance ∷ angleTest angles ∷ sineEntryTest logSines differences ∷ []) ≡ Passed
+      → Entries f tolerance angles logSines differences lent
+  entries-passed e =
+      let two = cons-passes (lengthsTest lent (secondLengths f)) _ .0 e in
+      let three = cons-passes (limitOrToleranceTest mostTolerance tolerance) _ .0 (two .1) in
+      let four = cons-passes (angleTest angles) _ .0 (three .1) in
+      let eight = sym (answer-of-one (sineEntryTest logSines differences)) ∙ four .1 in
+      let nowhere = neither-place _ _ (at-passes Refusal.SineEntryOutOfRange _ .0 eight) in
+      record {
+        lengths = same-lists lent (secondLengths f) (not-false (sameLengths lent (secondLengths f)) (if-passes _ Refusal.WrongLength .0 (two .0)));
+        tolerance-range = ltb-false mostTolerance tolerance (if-passes _ Refusal.LimitOrToleranceOutOfRange .0 (three .0));
+        no-angle = at-passes Refusal.AngleOutOfRange _ .0 (four .0);
+        no-log-sine = nowhere .0;
+        no-difference = nowhere .1;
+      }
+
+  module _ (passed : Entries f tolerance angles logSines differences lent) where
+    pub small-angles : Angles angles
+    small-angles i = lt-of-le-of-lt (value-most angles leastAngle mostAngle (passed .no-angle) i) (lit< tt)
+
+    pub sine-entries : SineEntries logSines differences
+    sine-entries = record {
+      log-sine = value-most logSines leastLogSine mostLogSine (passed .no-log-sine);
+      difference = differences-most differences (passed .no-difference);
+    }

@@ -1,0 +1,152 @@
+-- The verdict of the work is the answer of the one list of tests, and what an accepted sheet says: the work is that of the definitions, and small
+-- enough for the slices that it is stored in. Assumes nothing.
+use mathlib.Core.Path.{_≡_, refl, sym, ap, ap₂, _∙_, subst}
+use mathlib.Core.List.{List, [], _∷_}
+use Prim.Native.Nat.{ℕ, zero, suc, _+_, _*_, _^_, _≤_, _<_, zero-le, suc-le-suc}
+use native.Mathlib.Decide.{decLt}
+use native.Mathlib.Nat.{le-trans, lt-of-le-of-lt}
+use native.Mathlib.Omega.{arith}
+use borrow.Author.Tests.{eq-eqb, eqb-false}
+use lib.ListN.{length, getD}
+use lib.Dec.{leb→le, lit<}
+use lib.IntN.{ℤ, pos, negsuc, negℤ, natAbs, _+ℤ_, _-ℤ_, _*ℤ_, +ℤ-idl, *ℤ-zero}
+use lib.Signed.{_≤ℤ_}
+use Rattle.whole.specs.Lists.{listed}
+use Rattle.whole.specs.Sums.{vector}
+use Rattle.whole.proofs.Lists.{getD-listed}
+use Rattle.whole.proofs.Magnitudes.{natAbs-sub}
+use Rattle.whole.proofs.Ring.{ring, _≐_, _⊕_, _⊖_, _⊗_}
+use Rattle.refusals.specs.declared.Refusal.{Refusal}
+use Rattle.refusals.specs.declared.Verdict.{Verdict}
+use Rattle.refusals.specs.declared.Verdict.the-variants.{Passed, Failed}
+use Rattle.refusals.specs.Order.{answerOf, lowestPlace, numbered, outsideSigned}
+use Rattle.refusals.proofs.Answers.{answer-of-one, answer-of-append, cons-passes}
+use Rattle.refusals.proofs.Ranges.{within-signed-range}
+use Rattle.refusals.proofs.Verdicts.{if-passes, search-passes}
+use Rattle.figures.specs.declared.Figure.{Figure}
+use Rattle.figures.specs.declared.Named.{Named}
+use Rattle.figures.specs.declared.Named.the-variants.{As, Nothing}
+use Rattle.figures.specs.Figure.{denominator, angleCount, conditionCount, membersOf, figureOf}
+use Rattle.figures.specs.Numerators.{conditionSum, sumOver, mostAngles, mostMembers}
+use Rattle.figures.proofs.Figures.{member-count}
+use Rattle.work.specs.declared.second.SecondWork.{SecondWork}
+use Rattle.work.specs.Pass.{leastAngle, mostAngle, given, lengthsTest, limitOrToleranceTest, angleTest, resultTest, ofNamed}
+use Rattle.work.specs.SecondPass.{secondReduced, signedDifference, sineMisclosure, sumOfSquares, differenceSquares, secondNumerator, secondRounded, secondAdjusted, secondRest, mostTolerance, secondLengths, sineEntryTest, sumOfSquaresTest, toleranceTest, secondTests, secondPassTests, secondPassVerdict}
+use Rattle.work.specs.SecondWork.{secondWorkOf, refusedWork, workedAfter, figureWork, sheetWork}
+use Rattle.work.proofs.EntryLaws.{Entries, entries-passed, value-most}
+use Rattle.work.proofs.SecondLaws.{rest-half}
+
+never : (v : Verdict) (r : Refusal) → v ≡ Failed r → v ≡ Passed → ⊥
+never v r f p = let z : _≡_ {A = ℕ} 0 1 = cc in omega arith
+
+-- ---- the verdict
+
+after-verdict : (v : Verdict) (work : SecondWork) → workedAfter v work .verdict ≡ answerOf (v ∷ work .verdict ∷ [])
+unfolding answerOf
+after-verdict Passed work = sym (answer-of-one (work .verdict))
+after-verdict (Failed refusal) work = refl
+
+module _ (f : Figure) (tolerance : ℕ) (angles logSines : List ℕ) (differences : List ℤ) (lent : List ℕ) where
+  abbrev entryTests : List Verdict
+  entryTests = lengthsTest lent (secondLengths f) ∷ limitOrToleranceTest mostTolerance tolerance ∷ angleTest angles ∷ sineEntryTest logSines differences ∷ []
+
+  abbrev sineTests : List Verdict
+  sineTests = sumOfSquaresTest (sumOfSquares f differences) ∷ toleranceTest (sineMisclosure f logSines) tolerance (differenceSquares f differences) ∷ []
+
+  abbrev lastTest : Verdict
+  lastTest = resultTest f (secondAdjusted f angles logSines differences)
+
+  split : answerOf (secondTests f tolerance angles logSines differences lent) ≡ answerOf (answerOf entryTests ∷ answerOf (answerOf sineTests ∷ lastTest ∷ []) ∷ [])
+  unfolding secondTests
+  split =
+      answer-of-append entryTests _
+      ∙ ap (λ (v : Verdict). answerOf (answerOf entryTests ∷ v ∷ []))
+      (answer-of-append sineTests (lastTest ∷ []) ∙ ap (λ (v : Verdict). answerOf (answerOf sineTests ∷ v ∷ [])) (answer-of-one lastTest))
+
+  pub figure-verdict : figureWork f tolerance angles logSines differences lent .verdict ≡ answerOf (secondTests f tolerance angles logSines differences lent)
+  unfolding figureWork
+  figure-verdict =
+      after-verdict (answerOf entryTests) (workedAfter (answerOf sineTests) (secondWorkOf f angles logSines differences))
+      ∙ ap (λ (v : Verdict). answerOf (answerOf entryTests ∷ v ∷ [])) (after-verdict (answerOf sineTests) (secondWorkOf f angles logSines differences))
+      ∙ sym split
+
+  -- the tests of a figure that passed
+  pub record Accepted : Type 0 where
+    pub entries : Entries f tolerance angles logSines differences lent
+    pub squares : sumOfSquaresTest (sumOfSquares f differences) ≡ Passed
+    pub within-tolerance : toleranceTest (sineMisclosure f logSines) tolerance (differenceSquares f differences) ≡ Passed
+    pub results : resultTest f (secondAdjusted f angles logSines differences) ≡ Passed
+    pub work : figureWork f tolerance angles logSines differences lent ≡ secondWorkOf f angles logSines differences
+
+  pub accepted : answerOf (secondTests f tolerance angles logSines differences lent) ≡ Passed → Accepted
+  unfolding figureWork
+  accepted e =
+      let first = cons-passes (answerOf entryTests) _ .0 (sym split ∙ e) in
+      let second = cons-passes (answerOf sineTests) _ .0 (sym (answer-of-one _) ∙ first .1) in
+      let sines = cons-passes _ _ .0 (second .0) in
+      record {
+        entries = entries-passed f tolerance angles logSines differences lent (first .0);
+        squares = sines .0;
+        within-tolerance = sym (answer-of-one _) ∙ sines .1;
+        results = sym (answer-of-one _) ∙ second .1;
+        work = ap₂ (λ (v w : Verdict). workedAfter v (workedAfter w (secondWorkOf f angles logSines differences))) (first .0) (second .0);
+      }
+
+  -- ---- how large the numbers of an accepted sheet are
+
+  module _ (ok : Accepted) where
+    pub squares-positive : 0 < natAbs (sumOfSquares f differences)
+    squares-positive =
+        let nonzero : natAbs (sumOfSquares f differences) ≡ 0 → ⊥ = eqb-false (natAbs (sumOfSquares f differences)) 0 (if-passes _ Refusal.SumOfSquaresIsZero .0 (ok .squares)) in
+        omega arith
+
+    pub result-within : (i : ℕ) → i < angleCount f → (pos leastAngle ≤ℤ secondAdjusted f angles logSines differences i) × (secondAdjusted f angles logSines differences i ≤ℤ pos mostAngle)
+    result-within i h =
+        subst (λ (z : ℤ). (pos leastAngle ≤ℤ z) × (z ≤ℤ pos mostAngle)) (getD-listed (angleCount f) (secondAdjusted f angles logSines differences) i (pos 0) h)
+        (within-signed-range (pos leastAngle) (pos mostAngle) _ .0
+        (search-passes Refusal.ResultOutOfRange (λ place. outsideSigned (pos leastAngle) (pos mostAngle) (numbered (listed (angleCount f) (secondAdjusted f angles logSines differences)) place (pos 0))) (angleCount f) .0
+        (ok .results) (suc i) (suc-le-suc zero-le) h))
+
+    angle-most : (z : ℤ) → pos leastAngle ≤ℤ z → z ≤ℤ pos mostAngle → natAbs z ≤ mostAngle
+    angle-most (pos n) low high = leb→le n mostAngle (high .le)
+    angle-most (negsuc n) low high = absurd (low .le)
+
+    pub result-most : (i : ℕ) → i < angleCount f → natAbs (secondAdjusted f angles logSines differences i) ≤ mostAngle
+    result-most i h = angle-most (secondAdjusted f angles logSines differences i) (result-within i h .0) (result-within i h .1)
+
+    -- a rounded correction is the difference of two angles within range
+    pub rounded-most : (i : ℕ) → i < angleCount f → natAbs (secondRounded f logSines differences i) ≤ mostAngle + mostAngle
+    unfolding secondAdjusted
+    rounded-most i h =
+        let apart : secondRounded f logSines differences i ≡ secondAdjusted f angles logSines differences i -ℤ given angles i = ring 2 (λ a r. r ≐ a ⊕ r ⊖ a) tt (given angles i) (secondRounded f logSines differences i) in
+        rw apart (omega (arith, natAbs-sub (secondAdjusted f angles logSines differences i) (given angles i), result-most i h, value-most angles leastAngle mostAngle (ok .entries .no-angle) i))
+
+    pub rest-most : (j : ℕ) → j < conditionCount f → natAbs (secondRest f logSines differences j) ≤ mostMembers
+    rest-most j h = omega (arith, rest-half f logSines differences j h squares-positive, member-count f j h)
+
+-- ---- the sheet
+
+module _ (code n tolerance : ℕ) (angles logSines : List ℕ) (differences : List ℤ) (lent : List ℕ) where
+  pub sheet-verdict : sheetWork code n tolerance angles logSines differences lent .verdict ≡ secondPassVerdict code n tolerance angles logSines differences lent
+  unfolding sheetWork secondPassVerdict secondPassTests answerOf
+  sheet-verdict = go (figureOf code n)
+    where
+      go : (what : Named) → ofNamed what (refusedWork Refusal.NoSuchFigure) (λ f. figureWork f tolerance angles logSines differences lent) .verdict
+          ≡ answerOf (ofNamed what (Failed Refusal.NoSuchFigure ∷ []) (λ f. Passed ∷ secondTests f tolerance angles logSines differences lent))
+      go Nothing = refl
+      go (As f) = figure-verdict f tolerance angles logSines differences lent
+
+  -- an accepted sheet names a figure, whose tests passed
+  pub record AcceptedSheet : Type 0 where
+    pub figure : Figure
+    pub named : figureOf code n ≡ As figure
+    pub ok : Accepted figure tolerance angles logSines differences lent
+
+  pub sheet-accepted : secondPassVerdict code n tolerance angles logSines differences lent ≡ Passed → AcceptedSheet
+  unfolding secondPassVerdict secondPassTests answerOf
+  sheet-accepted e = go (figureOf code n) refl e
+    where
+      go : (what : Named) → figureOf code n ≡ what
+          → answerOf (ofNamed what (Failed Refusal.NoSuchFigure ∷ []) (λ f. Passed ∷ secondTests f tolerance angles logSines differences lent)) ≡ Passed → AcceptedSheet
+      go Nothing named e = absurd (never (Failed Refusal.NoSuchFigure) Refusal.NoSuchFigure refl e)
+      go (As f) named e = record { figure = f; named = named; ok = accepted f tolerance angles logSines differences lent e }

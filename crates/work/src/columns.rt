@@ -1,0 +1,163 @@
+// Columns of the work: a number for each angle or condition. One function a step, for both passes.
+ghost use mathlib.Core.Path.{_≡_};
+ghost use mathlib.Core.List.{[]};
+ghost use Prim.Native.Nat.{ℕ, _≤_};
+ghost use lib.IntN.{pos, _+ℤ_};
+ghost use lib.ListN.{getD, length};
+ghost use Rattle.whole.specs.Lists.{listed};
+ghost use Rattle.whole.specs.Quotient.{roundedQuotient};
+ghost use Rattle.whole.specs.Sums.{vector};
+ghost use Rattle.refusals.specs.Order.{lowestPlace, numbered, outsideSigned};
+ghost use Rattle.figures.specs.Numerators.{conditionSum, sumOver, mostAngles, mostConditions, mostMembers};
+ghost use Rattle.work.specs.Column.{column, Below, MembersOfFigure};
+ghost use Rattle.work.specs.Pass.{given};
+use figures::Figure;
+use figures::MOST_ANGLES;
+use figures::MOST_CONDITIONS;
+use figures::MOST_MEMBERS;
+use figures::Members;
+use figures::Misclosures;
+use refusals::Lowest;
+
+pub type Column = [i64; MOST_ANGLES];
+
+// The given values, and 0 past their end.
+pub fn column_of(values: &[u32]) -> Column
+    ensures { λ r. ⌜ r ≡ column (given (now (values .entry))) ⌝ }
+{
+    let mut out = [0i64; MOST_ANGLES];
+    let mut i = 0;
+    while i < MOST_ANGLES {
+        out[i] = value_at(values, i);
+        i += 1;
+    }
+    out
+}
+
+pub fn value_at(values: &[u32], i: usize) -> i64
+    ensures { λ r. ⌜ r ≡ given (now (values .entry)) i ⌝ }
+{
+    if i < values.len() {
+        values[i] as i64
+    } else {
+        0
+    }
+}
+
+pub fn sum_of(a: Column, b: Column) -> Column
+    requires { ⌜ Below 62 a ⌝ }
+    requires { ⌜ Below 62 b ⌝ }
+    ensures { λ r. ⌜ r ≡ column (λ i. vector a i +ℤ vector b i) ⌝ }
+{
+    let mut out = [0i64; MOST_ANGLES];
+    let mut i = 0;
+    while i < MOST_ANGLES {
+        out[i] = a[i] + b[i];
+        i += 1;
+    }
+    out
+}
+
+pub fn quotients(numerators: Column, denominator: u64) -> Column
+    ensures { λ r. ⌜ r ≡ column (λ i. roundedQuotient (vector numerators i) denominator) ⌝ }
+{
+    let mut out = [0i64; MOST_ANGLES];
+    let mut i = 0;
+    while i < MOST_ANGLES {
+        out[i] = whole::rounded_quotient(numerators[i], denominator);
+        i += 1;
+    }
+    out
+}
+
+// The sum over the angles of each condition.
+pub fn condition_sums(f: Figure, x: Column) -> Column
+    requires { ⌜ Below 58 x ⌝ }
+    ensures { λ r. ⌜ r ≡ column (conditionSum f (vector x)) ⌝ }
+{
+    let members = figures::members_of(f);
+    let mut out = [0i64; MOST_ANGLES];
+    let mut j = 0;
+    while j < MOST_ANGLES {
+        out[j] = row_sum(members, j, x);
+        j += 1;
+    }
+    out
+}
+
+// The sum over the row of a condition, and 0 past the rows.
+fn row_sum(members: Members, condition: usize, x: Column) -> i64
+    requires { ⌜ MembersOfFigure members ⌝ }
+    requires { ⌜ Below 58 x ⌝ }
+    ensures { λ r. ⌜ r ≡ sumOver (getD members condition []) (vector x) ⌝ }
+{
+    if condition < MOST_CONDITIONS {
+        let row = members[condition];
+        member_sum(row, x)
+    } else {
+        0
+    }
+}
+
+// The sum over the angles that a row of members names; 0 names none.
+fn member_sum(row: [u8; MOST_MEMBERS], x: Column) -> i64
+    requires { ⌜ length row ≤ mostMembers ⌝ }
+    requires { ⌜ ((k : ℕ) → getD row k 0 ≤ mostAngles) ⌝ }
+    requires { ⌜ Below 58 x ⌝ }
+    ensures { λ r. ⌜ r ≡ sumOver row (vector x) ⌝ }
+{
+    let mut total = 0i64;
+    let mut k = 0;
+    while k < MOST_MEMBERS {
+        total += member(row[k], x);
+        k += 1;
+    }
+    total
+}
+
+fn member(number: u8, x: Column) -> i64
+    requires { ⌜ number ≤ mostAngles ⌝ }
+    ensures { λ r. ⌜ r ≡ numbered x number (pos 0) ⌝ }
+{
+    if number == 0 {
+        0
+    } else {
+        let i = number as usize - 1;
+        x[i]
+    }
+}
+
+// The misclosures as the figure's table takes them.
+pub fn narrowed(x: Column) -> Misclosures
+    requires { ⌜ Below 31 x ⌝ }
+    ensures { λ r. ⌜ r ≡ listed mostConditions (vector x) ⌝ }
+{
+    let mut out = [0i32; MOST_CONDITIONS];
+    let mut j = 0;
+    while j < MOST_CONDITIONS {
+        out[j] = x[j] as i32;
+        j += 1;
+    }
+    out
+}
+
+// The lowest of the places 1 to count whose value lies outside least..most.
+pub fn lowest_in_column(x: Column, count: usize, least: i64, most: i64) -> Lowest
+    requires { ⌜ count ≤ mostAngles ⌝ }
+    ensures { λ r. ⌜ r ≡ lowestPlace (λ place. outsideSigned least most (numbered x place (pos 0))) count ⌝ }
+{
+    let mut passed = 0;
+    while passed < count {
+        if is_outside(x[passed], least, most) {
+            return Lowest::At(passed + 1);
+        }
+        passed += 1;
+    }
+    Lowest::Nowhere
+}
+
+fn is_outside(value: i64, least: i64, most: i64) -> bool
+    ensures { λ fails. ⌜ fails ≡ outsideSigned least most value ⌝ }
+{
+    value < least || most < value
+}

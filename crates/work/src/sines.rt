@@ -1,0 +1,141 @@
+// The sine condition of the second pass: document 01, "The two passes", and numbers 8, 9 and 10.
+ghost use mathlib.Core.Path.{_≡_};
+ghost use Prim.Native.Nat.{_<_, _≤_, _^_, _*_};
+ghost use lib.Dec.{ltb};
+ghost use lib.IntN.{pos, natAbs};
+ghost use lib.Signed.{_≤ℤ_};
+ghost use Rattle.whole.specs.Sums.{vector};
+ghost use Rattle.figures.specs.Numerators.{reducedCoefficient};
+ghost use Rattle.work.specs.Column.{column, Below};
+ghost use Rattle.work.specs.SecondPass.{mostTolerance, toleranceOf, sineEntryTest, sumOfSquaresTest, toleranceTest};
+ghost use Rattle.work.specs.SecondWork.{SineEntries, sinesOf};
+use crate::columns::Column;
+use crate::columns::column_of;
+use crate::columns::condition_sums;
+use crate::columns::narrowed;
+use crate::columns::sum_of;
+use crate::sums::dot_product;
+use crate::sums::products;
+use crate::sums::scaled;
+use crate::sums::signed_column;
+use figures::Figure;
+use refusals::Lowest;
+use refusals::Refusal;
+use refusals::Verdict;
+
+// Document 01, "Units and ranges".
+const LEAST_LOG_SINE: u32 = 1;
+
+const MOST_LOG_SINE: u32 = 100000000;
+
+const MOST_DIFFERENCE: i32 = 9999;
+
+const DEFAULT_TOLERANCE: u32 = 10;
+
+// The largest number that 64 bits can hold a hundredfold.
+const MOST_HUNDREDFOLD: u64 = 184467440737095516;
+
+// The reduced coefficients A, W, S and the sum of d².
+pub struct Sines {
+    pub reduced: Column,
+    pub misclosure: i64,
+    pub squares: i64,
+    pub difference_squares: i64,
+}
+
+pub fn sines_of(f: Figure, log_sines: &[u32], differences: &[i32]) -> Sines
+    requires { ⌜ SineEntries (now «log_sines») (now differences) ⌝ }
+    ensures { λ r. ⌜ r ≡ sinesOf f (now («log_sines» .entry)) (now (differences .entry)) ⌝ }
+{
+    let table = figures::signs_of(f);
+    let signs = signed_column(&table);
+    let unsigned = signed_column(differences);
+    let signed = products(signs, unsigned);
+    let reduced = reduced_coefficients(f, signed);
+    let count = figures::counts_of(f).angles;
+    let misclosure = dot_product(signs, column_of(log_sines), count);
+    let squares = dot_product(reduced, reduced, count);
+    let difference_squares = dot_product(signed, signed, count);
+    Sines {
+        reduced,
+        misclosure,
+        squares,
+        difference_squares,
+    }
+}
+
+// D·d plus the first-pass numerator for misclosures equal to each condition's sum of d.
+fn reduced_coefficients(f: Figure, d: Column) -> Column
+    requires { ⌜ Below 14 d ⌝ }
+    ensures { λ r. ⌜ r ≡ column (reducedCoefficient f (vector d)) ⌝ }
+{
+    let sums = narrowed(condition_sums(f, d));
+    let denominator = figures::counts_of(f).denominator as i64;
+    sum_of(scaled(denominator, d), figures::numerators_of(f, sums))
+}
+
+// Number 8.
+pub fn sine_entry_verdict(log_sines: &[u32], differences: &[i32]) -> Verdict
+    ensures { λ r. ⌜ r ≡ sineEntryTest (now («log_sines» .entry)) (now (differences .entry)) ⌝ }
+{
+    let log_sine = refusals::lowest_outside(log_sines, LEAST_LOG_SINE, MOST_LOG_SINE);
+    let difference = refusals::lowest_signed_outside(
+        differences,
+        -MOST_DIFFERENCE,
+        MOST_DIFFERENCE,
+    );
+    match refusals::earlier_place(log_sine, difference) {
+        Lowest::Nowhere => Verdict::Passed,
+        Lowest::At(place) => Verdict::Failed(Refusal::SineEntryOutOfRange(place)),
+    }
+}
+
+// Number 10.
+pub fn squares_verdict(squares: i64) -> Verdict
+    ensures { λ r. ⌜ r ≡ sumOfSquaresTest squares ⌝ }
+{
+    if squares == 0 {
+        Verdict::Failed(Refusal::SumOfSquaresIsZero)
+    } else {
+        Verdict::Passed
+    }
+}
+
+// Number 9.
+pub fn tolerance_verdict(misclosure: i64, tolerance: u32, difference_squares: i64) -> Verdict
+    requires { ⌜ natAbs misclosure < 2 ^ 32 ⌝ }
+    requires { ⌜ tolerance ≤ mostTolerance ⌝ }
+    requires { ⌜ pos 0 ≤ℤ «difference_squares» ⌝ }
+    requires { ⌜ natAbs «difference_squares» < 2 ^ 32 ⌝ }
+    ensures { λ r. ⌜ r ≡ toleranceTest misclosure tolerance «difference_squares» ⌝ }
+{
+    let e = tolerance_of(tolerance) as u64;
+    let w = whole::magnitude(misclosure);
+    let most = e * e * whole::magnitude(difference_squares);
+    if hundredfold_exceeds(w * w, most) {
+        Verdict::Failed(Refusal::SineMisclosureBeyondTolerance)
+    } else {
+        Verdict::Passed
+    }
+}
+
+fn tolerance_of(tolerance: u32) -> u32
+    ensures { λ r. ⌜ r ≡ toleranceOf tolerance ⌝ }
+{
+    if tolerance == 0 {
+        DEFAULT_TOLERANCE
+    } else {
+        tolerance
+    }
+}
+
+// 100·a is more than most. Where 100·a passes 64 bits, it is more than any such number.
+fn hundredfold_exceeds(a: u64, most: u64) -> bool
+    ensures { λ r. ⌜ r ≡ ltb most (100 * a) ⌝ }
+{
+    if MOST_HUNDREDFOLD < a {
+        true
+    } else {
+        most < 100 * a
+    }
+}

@@ -40,9 +40,9 @@ use Rattle.work.proofs.ProductLaws.{product-magnitude}
 use Rattle.work.proofs.SecondAccepted.{Accepted, accepted, result-most, rounded-most, rest-most}
 use Rattle.work.proofs.SineLaws.{denominator-bound, coefficient-magnitude}
 use Rattle.work.proofs.ToleranceLaws.{squares-natural, squares-magnitude, within-tolerance}
-use Rattle.report.specs.Lines.{longestText}
+use Rattle.lines.specs.Lines.{longestText}
 use Rattle.report.specs.Report.{textOf, reportText}
-use Rattle.report.proofs.Lengths.{Digits, first-length, second-length, refused-length}
+use Rattle.lines.proofs.Lengths.{Digits, first-length, second-length, refused-length}
 use Rattle.report.proofs.PlaceBounds.{PlaceWithin, angles-few, fixed-few, log-sines-few, differences-few, head-within, reader-within, first-within, second-within}
 
 abbrev Fits : WorkedSheet → Type 0

@@ -13,7 +13,7 @@ use Rattle.text.specs.Text.{laid}
 use Rattle.text.specs.Holds.{Holds}
 use Rattle.text.proofs.Laying.{laid-room, holds-length, holds-taken}
 use Rattle.report.specs.declared.reporting.Reported.the-variants.{Written}
-use Rattle.report.specs.Lines.{longestText}
+use Rattle.lines.specs.Lines.{longestText}
 use Rattle.report.specs.Report.{reportText, hasRoom, reportedOf, afterReport}
 use Rattle.report.proofs.Longest.{text-fits}
 

@@ -1,3 +1,1 @@
-pub mod Lays
-pub mod Lines
 pub mod Report

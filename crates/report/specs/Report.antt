@@ -11,7 +11,7 @@ use Rattle.passes.specs.declared.worked.WorkedSheet.{WorkedSheet}
 use Rattle.passes.specs.Worked.{workedOf}
 use Rattle.report.specs.declared.reporting.Reported.{Reported}
 use Rattle.report.specs.declared.reporting.Reported.the-variants.{Written, NoRoom}
-use Rattle.report.specs.Lines.{firstText, secondText, refusedText}
+use Rattle.lines.specs.Lines.{firstText, secondText, refusedText}
 
 abbrev pub outcomeText : Outcome → WorkedSheet → List ℕ
 outcomeText (First f) s =

@@ -2,9 +2,9 @@
 ghost use mathlib.Core.Path.{_≡_};
 ghost use Rattle.text.specs.Holds.{Holds};
 ghost use Rattle.report.specs.Report.{textOf, reportText, hasRoom, reportedOf, afterReport};
-use crate::lines::first_lines;
-use crate::lines::refused_lines;
-use crate::lines::second_lines;
+use lines::first_lines;
+use lines::refused_lines;
+use lines::second_lines;
 use passes::Outcome;
 use passes::WorkedSheet;
 use passes::worked_sheet;

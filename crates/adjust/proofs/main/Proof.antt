@@ -4,7 +4,7 @@ use Prim.Native.Nat.{_≤_}
 use borrow.Author.Needs.{needs}
 use lib.ListN.{length, take, replicate}
 use lib.Seq.{length-take-le}
-use Rattle.report.specs.Lines.{longestText}
+use Rattle.lines.specs.Lines.{longestText}
 use Rattle.report.specs.Report.{reportText}
 use Rattle.report.proofs.Reports.{written-within}
 use Rattle.adjust.proofs.main.Statement.{statement}

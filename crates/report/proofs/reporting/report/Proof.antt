@@ -10,7 +10,7 @@ use lib.Seq.{length-take-le}
 use Rattle.text.specs.Holds.{Holds}
 use Rattle.passes.specs.declared.worked.WorkedSheet.{WorkedSheet}
 use Rattle.report.specs.declared.reporting.Reported.the-variants.{Written}
-use Rattle.report.specs.Lines.{longestText}
+use Rattle.lines.specs.Lines.{longestText}
 use Rattle.report.specs.Report.{textOf, reportText, reportedOf, afterReport}
 use Rattle.report.proofs.Longest.{text-fits}
 use Rattle.report.proofs.Reports.{length-told, end-within, past-lent, room-there, laid-there}

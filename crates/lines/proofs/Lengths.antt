@@ -1,0 +1,165 @@
+-- How long the texts are at most: each line by the digits of its numbers, and so many lines as the largest figure has. Assumes nothing.
+use mathlib.Core.Bool.{Bool, _&&_}
+use mathlib.Core.List.{List, [], _∷_, _++_}
+use Prim.Native.Nat.{ℕ, _+_, _*_, _^_, _≤_, _<_}
+use native.Mathlib.Omega.{arith}
+use lib.Dec.{T, ltb, ltb→lt, lit<}
+use lib.IntN.{ℤ, pos, natAbs}
+use lib.ListN.{length, length-append}
+use Rattle.whole.specs.Lists.{listed}
+use Rattle.whole.proofs.Computed.{and-left, and-right}
+use Rattle.refusals.specs.declared.Refusal.{Refusal}
+use Rattle.refusals.specs.Numbers.{numberOf, placeOf}
+use Rattle.figures.specs.declared.Figure.{Figure}
+use Rattle.figures.specs.Figure.{description, denominator, angleCount, conditionCount}
+use Rattle.figures.proofs.Figures.{each-figure, angle-bound, condition-bound}
+use Rattle.text.specs.Text.{decimal, line, lines}
+use Rattle.text.proofs.Numbers.{length-decimal, length-positive}
+use Rattle.text.proofs.Lines.{lines-append, length-line, length-lines}
+use Rattle.lines.specs.Lines.{figureWord, denominatorWord, wWord, sWord, conditionWord, refusedWord, numbers, firstFigure, firstAngle, firstCondition, firstLines, firstText, secondFigure, secondAngle, secondCondition, secondLines, secondText, refusedLines, refusedText, longestText}
+
+-- each of the first `count` numbers has at most so many digits
+abbrev pub Digits : (most count : ℕ) → (ℕ → ℤ) → Type 0
+Digits most count f = (i : ℕ) → i < count → natAbs (f i) < 10 ^ most
+
+-- ---- The figure's line
+
+named-shortly : Figure → Bool
+named-shortly f = ltb (description f .code) 10 && (ltb (description f .n) 10 && ltb (denominator f) 100)
+
+module _ (f : Figure) where
+  short : T (named-shortly f)
+  unfolding named-shortly
+  short = each-figure named-shortly tt f
+
+  code-digits : length (decimal (pos (description f .code))) ≤ 1
+  unfolding named-shortly
+  code-digits =
+      length-positive 1 (description f .code) (lit< tt)
+      (ltb→lt (description f .code) 10 (and-left (ltb (description f .code) 10) (ltb (description f .n) 10 && ltb (denominator f) 100) short))
+
+  others : T (ltb (description f .n) 10 && ltb (denominator f) 100)
+  unfolding named-shortly
+  others = and-right (ltb (description f .code) 10) (ltb (description f .n) 10 && ltb (denominator f) 100) short
+
+  n-digits : length (decimal (pos (description f .n))) ≤ 1
+  n-digits = length-positive 1 (description f .n) (lit< tt) (ltb→lt (description f .n) 10 (and-left (ltb (description f .n) 10) (ltb (denominator f) 100) others))
+
+  denominator-digits : length (decimal (pos (denominator f))) ≤ 2
+  denominator-digits = length-positive 2 (denominator f) (lit< tt) (ltb→lt (denominator f) 100 (and-right (ltb (description f .n) 10) (ltb (denominator f) 100) others))
+
+  -- of kind 1: figure 3 8 denominator 48
+  first-figure-length : length (line (firstFigure f)) ≤ 26
+  unfolding figureWord denominatorWord
+  first-figure-length =
+      let all = length-line figureWord (decimal (pos (description f .code)) ∷ decimal (pos (description f .n)) ∷ denominatorWord ∷ decimal (pos (denominator f)) ∷ []) in
+      omega (arith, all, code-digits, n-digits, denominator-digits)
+
+  second-figure-length : (w s : ℤ) → natAbs w < 10 ^ 6 → natAbs s < 10 ^ 18 → length (line (secondFigure f w s)) ≤ 43
+  unfolding figureWord wWord sWord
+  second-figure-length w s hw hs =
+      let all = length-line figureWord (decimal (pos (description f .code)) ∷ decimal (pos (description f .n)) ∷ wWord ∷ decimal w ∷ sWord ∷ decimal s ∷ []) in
+      omega (arith, all, code-digits, n-digits, length-decimal 6 w (lit< tt) hw, length-decimal 18 s (lit< tt) hs)
+
+-- ---- All lines
+
+number-digits : (i : ℕ) → i < 24 → length (decimal (pos (i + 1))) ≤ 2
+number-digits i h = length-positive 2 (i + 1) (lit< tt) (omega arith)
+
+-- a figure's line, then a line for each angle and for each condition
+text-length : (f : Figure) (figure : List (List ℕ)) (angle condition : ℕ → List (List ℕ)) (mostFigure mostAngle mostCondition : ℕ)
+    → length (line figure) ≤ mostFigure
+    → ((i : ℕ) → i < angleCount f → length (line (angle i)) ≤ mostAngle)
+    → ((j : ℕ) → j < conditionCount f → length (line (condition j)) ≤ mostCondition)
+    → length (lines (figure ∷ (listed (angleCount f) angle ++ listed (conditionCount f) condition))) ≤ mostFigure + (angleCount f * mostAngle + conditionCount f * mostCondition)
+unfolding lines
+text-length f figure angle condition mostFigure mostAngle mostCondition figure-fits angle-fits condition-fits =
+    let angles = listed (angleCount f) angle in
+    let conditions = listed (conditionCount f) condition in
+    rw (length-append (line figure) (lines (angles ++ conditions)), lines-append angles conditions, length-append (lines angles) (lines conditions))
+    (omega (arith, length-lines mostAngle (angleCount f) angle angle-fits, length-lines mostCondition (conditionCount f) condition condition-fits))
+
+-- ---- Kind 1
+
+module _ (f : Figure) (given numerators rounded results misclosures rests : ℕ → ℤ)
+    (given-fit : Digits 7 (angleCount f) given) (numerators-fit : Digits 10 (angleCount f) numerators) (rounded-fit : Digits 10 (angleCount f) rounded)
+    (results-fit : Digits 10 (angleCount f) results) (misclosures-fit : Digits 10 (conditionCount f) misclosures) (rests-fit : Digits 10 (conditionCount f) rests) where
+  first-angle-length : (i : ℕ) → i < angleCount f → length (line (firstAngle given numerators rounded results i)) ≤ 48
+  first-angle-length i h =
+      let all = length-line (decimal (pos (i + 1))) (numbers (given i ∷ numerators i ∷ rounded i ∷ results i ∷ [])) in
+      omega (
+        arith,
+        all,
+        number-digits i (omega (arith, angle-bound f)),
+        length-decimal 7 (given i) (lit< tt) (given-fit i h),
+        length-decimal 10 (numerators i) (lit< tt) (numerators-fit i h),
+        length-decimal 10 (rounded i) (lit< tt) (rounded-fit i h),
+        length-decimal 10 (results i) (lit< tt) (results-fit i h),
+      )
+
+  first-condition-length : (j : ℕ) → j < conditionCount f → length (line (firstCondition misclosures rests j)) ≤ 37
+  unfolding conditionWord
+  first-condition-length j h =
+      let all = length-line conditionWord (numbers (pos (j + 1) ∷ misclosures j ∷ rests j ∷ [])) in
+      omega (arith, all, number-digits j (omega (arith, condition-bound f)), length-decimal 10 (misclosures j) (lit< tt) (misclosures-fit j h), length-decimal 10 (rests j) (lit< tt) (rests-fit j h))
+
+  pub first-length : length (firstText f given numerators rounded results misclosures rests) ≤ longestText
+  unfolding firstText firstLines
+  first-length =
+      let all = text-length f (firstFigure f) (firstAngle given numerators rounded results) (firstCondition misclosures rests) 26 48 37 (first-figure-length f) first-angle-length first-condition-length in
+      omega (arith, all, angle-bound f, condition-bound f)
+
+-- ---- Kind 2
+
+module _ (f : Figure) (w s : ℤ) (given reduced numerators rounded results rests : ℕ → ℤ)
+    (w-fits : natAbs w < 10 ^ 6) (s-fits : natAbs s < 10 ^ 18)
+    (given-fit : Digits 7 (angleCount f) given) (reduced-fit : Digits 8 (angleCount f) reduced) (numerators-fit : Digits 17 (angleCount f) numerators)
+    (rounded-fit : Digits 8 (angleCount f) rounded) (results-fit : Digits 7 (angleCount f) results) (rests-fit : Digits 1 (conditionCount f) rests) where
+  second-angle-length : (i : ℕ) → i < angleCount f → length (line (secondAngle given reduced numerators rounded results i)) ≤ 60
+  second-angle-length i h =
+      let all = length-line (decimal (pos (i + 1))) (numbers (given i ∷ reduced i ∷ numerators i ∷ rounded i ∷ results i ∷ [])) in
+      omega (
+        arith,
+        all,
+        number-digits i (omega (arith, angle-bound f)),
+        length-decimal 7 (given i) (lit< tt) (given-fit i h),
+        length-decimal 8 (reduced i) (lit< tt) (reduced-fit i h),
+        length-decimal 17 (numerators i) (lit< tt) (numerators-fit i h),
+        length-decimal 8 (rounded i) (lit< tt) (rounded-fit i h),
+        length-decimal 7 (results i) (lit< tt) (results-fit i h),
+      )
+
+  second-condition-length : (j : ℕ) → j < conditionCount f → length (line (secondCondition rests j)) ≤ 16
+  unfolding conditionWord
+  second-condition-length j h =
+      let all = length-line conditionWord (numbers (pos (j + 1) ∷ rests j ∷ [])) in
+      omega (arith, all, number-digits j (omega (arith, condition-bound f)), length-decimal 1 (rests j) (lit< tt) (rests-fit j h))
+
+  pub second-length : length (secondText f w s given reduced numerators rounded results rests) ≤ longestText
+  unfolding secondText secondLines
+  second-length =
+      let all = text-length f (secondFigure f w s) (secondAngle given reduced numerators rounded results) (secondCondition rests) 43 60 16 (second-figure-length f w s w-fits s-fits) second-angle-length second-condition-length in
+      omega (arith, all, angle-bound f, condition-bound f)
+
+-- ---- Turned back
+
+numberOf-digits : (refusal : Refusal) → numberOf refusal < 100
+numberOf-digits Refusal.NoSuchFigure = lit< tt
+numberOf-digits Refusal.WrongLength = lit< tt
+numberOf-digits Refusal.LimitOrToleranceOutOfRange = lit< tt
+numberOf-digits (Refusal.AngleOutOfRange angle) = lit< tt
+numberOf-digits (Refusal.FixedAngleOutOfRange fixed) = lit< tt
+numberOf-digits (Refusal.MisclosureBeyondLimit condition) = lit< tt
+numberOf-digits (Refusal.ResultOutOfRange angle) = lit< tt
+numberOf-digits (Refusal.SineEntryOutOfRange angle) = lit< tt
+numberOf-digits Refusal.SineMisclosureBeyondTolerance = lit< tt
+numberOf-digits Refusal.SumOfSquaresIsZero = lit< tt
+numberOf-digits Refusal.NoSuchKind = lit< tt
+numberOf-digits Refusal.WrongSheetLength = lit< tt
+numberOf-digits Refusal.FillingBitSet = lit< tt
+
+pub refused-length : (refusal : Refusal) → placeOf refusal < 100 → length (refusedText refusal) ≤ longestText
+unfolding refusedText refusedLines refusedWord lines
+refused-length refusal h =
+    let all = length-line refusedWord (numbers (pos (numberOf refusal) ∷ pos (placeOf refusal) ∷ [])) in
+    omega (arith, all, length-append (line (refusedWord ∷ numbers (pos (numberOf refusal) ∷ pos (placeOf refusal) ∷ []))) [], length-positive 2 (numberOf refusal) (lit< tt) (numberOf-digits refusal), length-positive 2 (placeOf refusal) (lit< tt) h)

@@ -1,0 +1,5 @@
+pub mod Cases
+pub mod Laid
+pub mod Lengths
+pub mod ReadingBack
+pub mod Texts

@@ -75,7 +75,15 @@ pub fn condition_sums(f: Figure, x: Column) -> Column
     requires { ⌜ Below 58 x ⌝ }
     ensures { λ r. ⌜ r ≡ column (conditionSum f (vector x)) ⌝ }
 {
-    let members = figures::members_of(f);
+    row_sums(figures::members_of(f), &x)
+}
+
+fn row_sums(members: Members, x: &[i64]) -> Column
+    requires { ⌜ MembersOfFigure members ⌝ }
+    requires { ⌜ length (now x) ≡ mostAngles ⌝ }
+    requires { ⌜ Below 58 (now x) ⌝ }
+    ensures { λ r. ⌜ r ≡ column (λ j. sumOver (getD members j []) (vector (now (x .entry)))) ⌝ }
+{
     let mut out = [0i64; MOST_ANGLES];
     let mut j = 0;
     while j < MOST_ANGLES {
@@ -86,10 +94,11 @@ pub fn condition_sums(f: Figure, x: Column) -> Column
 }
 
 // The sum over the row of a condition, and 0 past the rows.
-fn row_sum(members: Members, condition: usize, x: Column) -> i64
+fn row_sum(members: Members, condition: usize, x: &[i64]) -> i64
     requires { ⌜ MembersOfFigure members ⌝ }
-    requires { ⌜ Below 58 x ⌝ }
-    ensures { λ r. ⌜ r ≡ sumOver (getD members condition []) (vector x) ⌝ }
+    requires { ⌜ length (now x) ≡ mostAngles ⌝ }
+    requires { ⌜ Below 58 (now x) ⌝ }
+    ensures { λ r. ⌜ r ≡ sumOver (getD members condition []) (vector (now (x .entry))) ⌝ }
 {
     if condition < MOST_CONDITIONS {
         let row = members[condition];
@@ -100,11 +109,12 @@ fn row_sum(members: Members, condition: usize, x: Column) -> i64
 }
 
 // The sum over the angles that a row of members names; 0 names none.
-fn member_sum(row: [u8; MOST_MEMBERS], x: Column) -> i64
+fn member_sum(row: [u8; MOST_MEMBERS], x: &[i64]) -> i64
     requires { ⌜ length row ≤ mostMembers ⌝ }
     requires { ⌜ ((k : ℕ) → getD row k 0 ≤ mostAngles) ⌝ }
-    requires { ⌜ Below 58 x ⌝ }
-    ensures { λ r. ⌜ r ≡ sumOver row (vector x) ⌝ }
+    requires { ⌜ length (now x) ≡ mostAngles ⌝ }
+    requires { ⌜ Below 58 (now x) ⌝ }
+    ensures { λ r. ⌜ r ≡ sumOver row (vector (now (x .entry))) ⌝ }
 {
     let mut total = 0i64;
     let mut k = 0;
@@ -115,9 +125,10 @@ fn member_sum(row: [u8; MOST_MEMBERS], x: Column) -> i64
     total
 }
 
-fn member(number: u8, x: Column) -> i64
+fn member(number: u8, x: &[i64]) -> i64
     requires { ⌜ number ≤ mostAngles ⌝ }
-    ensures { λ r. ⌜ r ≡ numbered x number (pos 0) ⌝ }
+    requires { ⌜ length (now x) ≡ mostAngles ⌝ }
+    ensures { λ r. ⌜ r ≡ numbered (now (x .entry)) number (pos 0) ⌝ }
 {
     if number == 0 {
         0

@@ -1,73 +1,29 @@
--- `work::columns::condition_sums` meets its contract. The invariant: the sums passed are filled in.
-use mathlib.Core.Path.{refl, sym, ap, _∙_, subst}
+-- `work::columns::condition_sums` meets its contract: the rows of the figure's members, summed.
+use mathlib.Core.Path.{sym, ap, _∙_, subst}
 use mathlib.Core.List.{List, []}
-use Prim.Native.Nat.{ℕ, _-_}
-use native.Mathlib.Omega.{arith}
+use Prim.Native.Nat.{ℕ}
 use borrow.Author.Needs.{needs}
 use lib.ListN.{getD}
-use mir.Facts.{toZ-ofZ}
 use Rattle.whole.specs.Sums.{vector}
-use Rattle.whole.proofs.Lists.{Filled, filled-none, filled-more, filled-all}
-use Rattle.figures.specs.Numerators.{sumOver, mostAngles}
+use Rattle.figures.specs.Numerators.{sumOver}
 use Rattle.work.specs.Column.{column, MembersOfFigure}
 use Rattle.work.proofs.ColumnLaws.{column-ext}
 use Rattle.work.proofs.MemberLaws.{members-of-figure, condition-row}
 use Rattle.work.proofs.columns.condition_sums.Statement.{statement}
 use Rattle.work.proofs.columns.condition_sums.Tie as tie
 
-abbrev Inv-loop : tie.InvT-loop
-Inv-loop x members out₀ j₀ out j = Filled mostAngles (λ k. sumOver (getD members k []) (vector x)) j out
+row-sums-requires : tie.Need-row-sums-requires
+row-sums-requires c κs =
+    let called = c .before in
+    (subst MembersOfFigure (sym (called .members-of .ensures)) (members-of-figure (called .before .args .f)), (search needs, called .before .pre))
 
-abbrev μ-loop : tie.MeasureT-loop
-μ-loop x members out₀ j₀ out j = mostAngles - j
-
-members-of-requires : tie.Need-members-of-requires Inv-loop μ-loop
-members-of-requires c κs = search needs
-
-loop-holds : tie.Need-loop-holds Inv-loop μ-loop
-loop-holds c = filled-none mostAngles _ _ refl
-
-row-sum-requires : tie.Need-row-sum-requires Inv-loop μ-loop
-row-sum-requires c κs =
-    let called = c .before .before in
-    (subst MembersOfFigure (sym (called .members-of .ensures)) (members-of-figure (called .before .args .f)), called .before .pre)
-
-mul-out : tie.Need-mul-out Inv-loop μ-loop
-mul-out c = omega arith
-
-array-set-from-out : tie.Need-array-set-from-out Inv-loop μ-loop
-array-set-from-out c = omega arith
-
-add-j : tie.Need-add-j Inv-loop μ-loop
-add-j c = omega arith
-
-loop-less : tie.Need-loop-less Inv-loop μ-loop
-loop-less c = omega arith
-
-loop-again : tie.Need-loop-again Inv-loop μ-loop
-loop-again c = filled-more (c .before .before .loop .inv) (c .before .loop-test .taken) (toZ-ofZ (record { sfits = c .row-sum .ok }) ∙ c .row-sum .ensures)
-
-returns : tie.Need-returns Inv-loop μ-loop
-unfolding column
+returns : tie.Need-returns
 returns c =
     let called = c .before .before in
-    let x = vector (called .before .args .x) in
-    filled-all (c .before .loop .inv) (c .loop-test .left)
-    ∙ ap (λ (members : List (List ℕ)). column (λ k. sumOver (getD members k []) x)) (called .members-of .ensures)
+    let x = vector (called .before .args .t2) in
+    c .row-sums .ensures
+    ∙ ap (λ (members : List (List ℕ)). column (λ j. sumOver (getD members j []) x)) (called .members-of .ensures)
     ∙ column-ext _ _ (λ j h. condition-row (called .before .args .f) x j)
 
 pub condition-sums-spec : {M : Type 1} → statement M
-condition-sums-spec =
-    tie.close
-    (tie.spec
-    Inv-loop
-    μ-loop
-    members-of-requires
-    loop-holds
-    row-sum-requires
-    mul-out
-    array-set-from-out
-    add-j
-    loop-less
-    loop-again
-    returns)
+condition-sums-spec = tie.close (tie.spec (λ c κs. search needs) (λ c. search needs) row-sums-requires returns)

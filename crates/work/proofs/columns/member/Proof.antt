@@ -4,6 +4,7 @@ use mathlib.Core.List.{List}
 use Prim.Native.Nat.{ℕ, zero, suc, _-_}
 use native.Mathlib.Omega.{arith}
 use borrow.Author.Needs.{needs}
+use denote.Ref.{now}
 use lib.ListN.{getD}
 use lib.IntN.{ℤ, pos}
 use mir.Facts.{toZ-ofZ}
@@ -23,15 +24,15 @@ sub-i c = search needs
 mul-result : tie.Need-mul-result
 mul-result c = search needs
 
-array-copy-out-result : tie.Need-array-copy-out-result
-array-copy-out-result c = search needs
+shared-slice-copy-out-result : tie.Need-shared-slice-copy-out-result
+shared-slice-copy-out-result c = search needs
 
 returns : tie.Need-returns
-returns c = sym (ap (λ (m : ℕ). numbered (c .before .args .t2) m (pos 0)) (c .if1 .taken))
+returns c = sym (ap (λ (m : ℕ). numbered (now (c .before .args .x)) m (pos 0)) (c .if1 .taken))
 
 returns-2 : tie.Need-returns-2
 returns-2 c =
-    toZ-ofZ (record { sfits = c .result .given }) ∙ from-index (c .before .before .args .t2) (c .before .before .args .number) (c .before .if1 .left)
+    toZ-ofZ (record { sfits = c .result .given }) ∙ from-index (now (c .before .before .args .x)) (c .before .before .args .number) (c .before .if1 .left)
 
 pub member-spec : {M : Type 1} → statement M
-member-spec = tie.close (tie.spec sub-i mul-result array-copy-out-result returns returns-2)
+member-spec = tie.close (tie.spec sub-i mul-result shared-slice-copy-out-result returns returns-2)

@@ -1,17 +1,17 @@
 -- `work::columns::member_sum` meets its contract. The invariant: the total is the sum over the members passed, each below 2⁵⁸.
-use mathlib.Core.Path.{_≡_, refl, sym, ap, _∙_}
+use mathlib.Core.Path.{_≡_, refl, ap, _∙_}
 use mathlib.Core.List.{List}
 use Prim.Native.Nat.{ℕ, _*_, _^_, _-_, _≤_}
 use native.Mathlib.Omega.{arith}
 use borrow.Author.Needs.{needs}
-use lib.ListN.{getD, take}
+use denote.Ref.{now}
+use lib.ListN.{take}
 use lib.Seq.{take-all}
-use lib.IntN.{ℤ, pos, natAbs, _+ℤ_}
+use lib.IntN.{ℤ, natAbs, _+ℤ_}
 use mir.Syntax.{w64}
 use mir.Val.{toZ, ofZ}
 use mir.Facts.{toZ-ofZ}
 use Rattle.whole.specs.Sums.{vector}
-use Rattle.refusals.specs.Order.{numbered}
 use Rattle.figures.specs.Numerators.{sumOver, mostMembers}
 use Rattle.work.proofs.ColumnLaws.{More, more}
 use Rattle.work.proofs.columns.member_sum.Statement.{statement}
@@ -32,14 +32,17 @@ array-read-member : tie.Need-array-read-member Inv-loop μ-loop
 array-read-member c = omega arith
 
 member-requires : tie.Need-member-requires Inv-loop μ-loop
-member-requires c κs = c .before .before .pre .1 .0 (c .before .loop .k)
+member-requires c κs =
+    let start = c .before .before in
+    (start .pre .1 .0 (c .before .loop .k), start .pre .1 .1 .0)
 
 turn : (c : tie.After-member Inv-loop μ-loop)
-    → More (c .before .before .before .args .t1) (c .before .before .before .args .x) (c .before .before .loop .k)
+    → More (c .before .before .before .args .t1) (now (c .before .before .before .args .x)) (c .before .before .loop .k)
     (toZ w64 (c .before .before .loop .total) +ℤ toZ w64 (ofZ w64 (c .member .result)))
 turn c =
     let at = c .before .before in
-    more (at .before .args .t1) (at .before .args .x) (at .loop .k) (toZ w64 (at .loop .total)) (toZ w64 (ofZ w64 (c .member .result))) (at .before .pre .1 .1)
+    let start = at .before in
+    more (start .args .t1) (now (start .args .x)) (at .loop .k) (toZ w64 (at .loop .total)) (toZ w64 (ofZ w64 (c .member .result))) (start .pre .1 .1 .1)
     (c .before .loop-test .taken) (at .loop .inv .1) (at .loop .inv .2) (toZ-ofZ (record { sfits = c .member .ok }) ∙ c .member .ensures)
 
 add-total : tie.Need-add-total Inv-loop μ-loop
@@ -56,8 +59,8 @@ loop-again c = (omega arith, turn c .sum, turn c .within)
 
 returns : tie.Need-returns Inv-loop μ-loop
 returns c =
-    let row = c .before .before .args .t1 in
-    c .before .loop .inv .1 ∙ ap (λ (s : List ℕ). sumOver s (vector (c .before .before .args .x))) (take-all (c .before .loop .k) row (omega arith))
+    let args = c .before .before .args in
+    c .before .loop .inv .1 ∙ ap (λ (s : List ℕ). sumOver s (vector (now (args .x)))) (take-all (c .before .loop .k) (args .t1) (omega arith))
 
 pub member-sum-spec : {M : Type 1} → statement M
 member-sum-spec =

@@ -4,6 +4,7 @@ use mathlib.Core.List.{List, []}
 use Prim.Native.Nat.{ℕ}
 use native.Mathlib.Omega.{arith}
 use borrow.Author.Needs.{needs}
+use denote.Ref.{now}
 use lib.ListN.{List·getD-eq-default}
 use lib.IntN.{ℤ}
 use Rattle.whole.specs.Sums.{vector}
@@ -20,7 +21,7 @@ array-copy-out-row c = search needs
 member-sum-requires : tie.Need-member-sum-requires
 member-sum-requires c κs =
     let start = c .before .before in
-    (start .pre .0 .members-in-row (start .args .condition), (start .pre .0 .numbers (start .args .condition), start .pre .1))
+    (start .pre .0 .members-in-row (start .args .condition), (start .pre .0 .numbers (start .args .condition), (start .pre .1 .0, start .pre .1 .1)))
 
 returns : tie.Need-returns
 returns c = search needs
@@ -30,7 +31,7 @@ unfolding sumOver
 returns-2 c =
     let start = c .before in
     let past = List·getD-eq-default (start .args .t1) [] {n = start .args .condition} (omega (arith, start .pre .0 .rows)) in
-    sym (ap {B = ℤ} (λ (row : List ℕ). sumOver row (vector (start .args .x))) past)
+    sym (ap {B = ℤ} (λ (row : List ℕ). sumOver row (vector (now (start .args .x)))) past)
 
 pub row-sum-spec : {M : Type 1} → statement M
 row-sum-spec = tie.close (tie.spec mul-row array-copy-out-row member-sum-requires returns returns-2)

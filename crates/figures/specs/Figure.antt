@@ -11,6 +11,7 @@ use Rattle.figures.specs.declared.Named.{Named}
 use Rattle.figures.specs.declared.Named.the-variants.{As, Nothing}
 use Rattle.figures.specs.declared.Target.{Target}
 use Rattle.figures.specs.declared.Target.the-variants.{HalfTurn, FullTurn, FixedAngle, NoCondition}
+use Rattle.figures.specs.declared.Name.{Name}
 use Rattle.figures.specs.declared.Counts.{Counts}
 use Rattle.figures.specs.Rows.{eachOf, quadrilateralRows, quadrilateralSigns, pointInTriangleRows, centralPolygonRows, triangleSigns}
 
@@ -125,6 +126,9 @@ unfoldable pub figureOf : ℕ → ℕ → Named
 figureOf code n = namedAmong allFigures code n
 
 -- ---- what the code asks of a figure
+
+abbrev pub nameOf : Figure → Name
+nameOf f = record { code = description f .code; n = description f .n }
 
 abbrev pub denominator : Figure → ℕ
 denominator f = description f .denominator

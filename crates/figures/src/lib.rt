@@ -3,7 +3,7 @@
 ghost use mathlib.Core.Path.{_≡_};
 ghost use lib.Dec.{T};
 ghost use Rattle.whole.specs.Sums.{vector};
-ghost use Rattle.figures.specs.Figure.{figureOf, countsOf};
+ghost use Rattle.figures.specs.Figure.{figureOf, nameOf, countsOf};
 ghost use Rattle.figures.specs.Numerators.{paddedRows, paddedMembers, paddedTargets, paddedSigns, paddedNumerators};
 
 mod apply;
@@ -71,6 +71,12 @@ pub enum Target {
     NoCondition,
 }
 
+// The code and n that name a figure.
+pub struct Name {
+    pub code: u32,
+    pub n: u32,
+}
+
 pub struct Counts {
     pub denominator: u32,
     pub angles: usize,
@@ -106,6 +112,21 @@ fn polygon_of(n: u32) -> Named
         7 => Named::As(Figure::CentralHeptagon),
         8 => Named::As(Figure::CentralOctagon),
         _ => Named::Nothing,
+    }
+}
+
+pub fn name_of(f: Figure) -> Name
+    ensures { λ r. ⌜ r ≡ nameOf f ⌝ }
+{
+    match f {
+        Figure::Quadrilateral => Name { code: 1, n: 0 },
+        Figure::PointInTriangle => Name { code: 2, n: 3 },
+        Figure::CentralTriangle => Name { code: 3, n: 3 },
+        Figure::CentralQuadrilateral => Name { code: 3, n: 4 },
+        Figure::CentralPentagon => Name { code: 3, n: 5 },
+        Figure::CentralHexagon => Name { code: 3, n: 6 },
+        Figure::CentralHeptagon => Name { code: 3, n: 7 },
+        Figure::CentralOctagon => Name { code: 3, n: 8 },
     }
 }
 

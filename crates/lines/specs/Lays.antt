@@ -9,7 +9,6 @@ use Rattle.text.specs.Holds.{Holds}
 use Rattle.figures.specs.declared.Figure.{Figure}
 use Rattle.figures.specs.Figure.{description, angleCount, conditionCount}
 use Rattle.lines.specs.Lines.{figureWord, conditionWord}
-use Rattle.lines.specs.declared.printed.Name.{Name}
 
 -- Whatever was laid from the buffer's start up to a position, then it is laid there with s after it, up to the new position.
 pub record Lays (s buffer : List ℕ) (at : ℕ) (buffer′ : List ℕ) (at′ : ℕ) : Type 0 where
@@ -38,9 +37,6 @@ tablesText f angles angleWidth conditions conditionWidth =
     joined (angleCount f) (rowLine [] angles angleWidth) ++ joined (conditionCount f) (rowLine (conditionWord ++ (space ∷ [])) conditions conditionWidth)
 
 -- how the figure's line begins
-abbrev pub nameOf : Figure → Name
-nameOf f = record { code = pos (description f .code); n = pos (description f .n) }
-
 unfoldable pub figureStart : Figure → List ℕ
 figureStart f =
     (figureWord ++ (space ∷ [])) ++ ((decimal (pos (description f .code)) ++ (space ∷ [])) ++ (decimal (pos (description f .n)) ++ (space ∷ [])))

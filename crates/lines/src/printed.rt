@@ -5,7 +5,7 @@ ghost use Prim.Native.Nat.{_≤_, _<_};
 ghost use Rattle.whole.specs.Sums.{vector};
 ghost use Rattle.text.specs.Text.{line};
 ghost use Rattle.text.specs.Holds.{Holds};
-ghost use Rattle.lines.specs.Lays.{Lays, nameOf, figureStart, tablesText};
+ghost use Rattle.lines.specs.Lays.{Lays, figureStart, tablesText};
 ghost use Rattle.lines.specs.Lines.{firstFigure, secondFigure, firstText, secondText, refusedText};
 use crate::put::Column;
 use crate::put::Columns;
@@ -21,35 +21,14 @@ use refusals::Refusal;
 // In place of a column that a table has not.
 const NONE: Column = [0; MOST_ANGLES];
 
-struct Name {
-    code: i64,
-    n: i64,
-}
-
-// The code and n that name a figure.
-fn name_of(f: Figure) -> Name
-    ensures { λ r. ⌜ r ≡ nameOf f ⌝ }
-{
-    match f {
-        Figure::Quadrilateral => Name { code: 1, n: 0 },
-        Figure::PointInTriangle => Name { code: 2, n: 3 },
-        Figure::CentralTriangle => Name { code: 3, n: 3 },
-        Figure::CentralQuadrilateral => Name { code: 3, n: 4 },
-        Figure::CentralPentagon => Name { code: 3, n: 5 },
-        Figure::CentralHexagon => Name { code: 3, n: 6 },
-        Figure::CentralHeptagon => Name { code: 3, n: 7 },
-        Figure::CentralOctagon => Name { code: 3, n: 8 },
-    }
-}
-
 // How the figure's line begins.
 fn put_figure(buffer: &mut [u8], f: Figure) -> usize
     ensures { λ r. ⌜ Lays (figureStart f) (now (buffer .entry)) 0 (now (buffer .exit)) r ⌝ }
 {
-    let name = name_of(f);
+    let name = figures::name_of(f);
     let after_word = put_word(buffer, 0, b"figure ");
-    let after_code = put_part(buffer, after_word, name.code, b' ');
-    put_part(buffer, after_code, name.n, b' ')
+    let after_code = put_natural(buffer, after_word, name.code as u64, b' ');
+    put_natural(buffer, after_code, name.n as u64, b' ')
 }
 
 // The lines of the angles, and of the conditions.

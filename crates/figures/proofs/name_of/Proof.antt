@@ -1,9 +1,9 @@
--- `lines::printed::name_of` meets its contract: each figure's code and n are those of its description.
+-- `figures::name_of` meets its contract: each figure's code and n are those of its description.
 use mathlib.Core.Path.{sym, ap}
 use borrow.Author.Needs.{needs}
-use Rattle.lines.specs.Lays.{nameOf}
-use Rattle.lines.proofs.printed.name_of.Statement.{statement}
-use Rattle.lines.proofs.printed.name_of.Tie as tie
+use Rattle.figures.specs.Figure.{nameOf}
+use Rattle.figures.proofs.name_of.Statement.{statement}
+use Rattle.figures.proofs.name_of.Tie as tie
 
 pub name-of-spec : {M : Type 1} → statement M
 name-of-spec =

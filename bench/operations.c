@@ -1,0 +1,118 @@
+#include "operations.h"
+
+#include <stdio.h>
+#include <stdlib.h>
+#include <string.h>
+
+#include "peer.h"
+
+const struct library ours = {"library", bienguloc_look, bienguloc_read, bienguloc_write, bienguloc_first_pass, bienguloc_second_pass,
+    bienguloc_report};
+const struct library peer = {"peer", peer_look, peer_read, peer_write, peer_first_pass, peer_second_pass, peer_report};
+
+const char *const operation_names[OPERATIONS] = {"look", "read", "write", "first pass", "second pass", "report",
+    "a sheet worked through"};
+
+enum { MOST_TASKS = 1024 };
+
+bool takes(enum operation operation, const struct task *task)
+{
+    const uint32_t kind = task->head[BIENGULOC_HEAD_KIND];
+    return (operation != FIRST_PASS || kind == 1) && (operation != SECOND_PASS || kind == 2);
+}
+
+static uint32_t look(const struct library *library, const struct task *task, uint32_t *head)
+{
+    return library->look(task->sheet, task->size, head, BIENGULOC_LOOK_HEAD);
+}
+
+static uint32_t read_values(const struct library *library, const struct task *task, const uint32_t *head, struct values *values)
+{
+    const size_t sines = head[BIENGULOC_HEAD_LOG_SINES];
+    return library->read(task->sheet, task->size, values->head, BIENGULOC_READ_HEAD, values->angles, head[BIENGULOC_HEAD_ANGLES],
+        values->fixed, head[BIENGULOC_HEAD_FIXED], values->log_sines, sines, values->differences, sines);
+}
+
+static uint32_t write_values(const struct library *library, const struct task *task, struct desk *desk)
+{
+    const struct values *v = &task->values;
+    const size_t sines = task->head[BIENGULOC_HEAD_LOG_SINES];
+    return library->write(v->head[0], v->head[1], v->head[2], v->head[3], v->angles, task->head[BIENGULOC_HEAD_ANGLES], v->fixed,
+        task->head[BIENGULOC_HEAD_FIXED], v->log_sines, sines, v->differences, sines, desk->sheet, task->size);
+}
+
+static uint32_t first_pass(const struct library *library, const uint32_t *head, const struct values *v, struct desk *desk)
+{
+    const size_t angles = head[BIENGULOC_HEAD_ANGLES], conditions = head[BIENGULOC_HEAD_CONDITIONS];
+    return library->first_pass(v->head[1], v->head[2], v->head[3], v->angles, angles, v->fixed, head[BIENGULOC_HEAD_FIXED],
+        desk->misclosures, conditions, desk->numerators, angles, desk->rounded, angles, desk->results, angles, desk->rests, conditions);
+}
+
+static uint32_t second_pass(const struct library *library, const uint32_t *head, const struct values *v, struct desk *desk)
+{
+    const size_t angles = head[BIENGULOC_HEAD_ANGLES];
+    return library->second_pass(v->head[1], v->head[2], v->head[3], v->angles, angles, v->log_sines, angles, v->differences, angles,
+        desk->sums, 2, desk->reduced, angles, desk->wide_numerators, angles, desk->rounded, angles, desk->results, angles, desk->rests,
+        head[BIENGULOC_HEAD_CONDITIONS]);
+}
+
+/* As a controller does: a look for the counts, the values, the pass of the sheet's kind. */
+static uint32_t whole_sheet(const struct library *library, const struct task *task, struct desk *desk)
+{
+    uint32_t answer = look(library, task, desk->head);
+    if (answer == BIENGULOC_DONE)
+        answer = read_values(library, task, desk->head, &desk->values);
+    if (answer != BIENGULOC_DONE)
+        return answer;
+    const bool first = desk->head[BIENGULOC_HEAD_KIND] == 1;
+    return (first ? first_pass : second_pass)(library, desk->head, &desk->values, desk);
+}
+
+uint32_t operate(const struct library *library, enum operation operation, const struct task *task, struct desk *desk)
+{
+    switch (operation) {
+    case LOOK:
+        return look(library, task, desk->head);
+    case READ:
+        return read_values(library, task, task->head, &desk->values);
+    case WRITE:
+        return write_values(library, task, desk);
+    case FIRST_PASS:
+        return first_pass(library, task->head, &task->values, desk);
+    case SECOND_PASS:
+        return second_pass(library, task->head, &task->values, desk);
+    case REPORT:
+        return library->report(task->sheet, task->size, desk->text, sizeof desk->text, &desk->written, 1);
+    case WHOLE_SHEET:
+        return whole_sheet(library, task, desk);
+    case OPERATIONS:
+        break;
+    }
+    return BIENGULOC_DONE;
+}
+
+static void unpack_line(const char *line, struct task *task)
+{
+    unsigned byte;
+    for (task->size = 0; task->size < sizeof task->sheet && sscanf(line + 2 * task->size, "%2x", &byte) == 1; task->size++)
+        task->sheet[task->size] = (uint8_t)byte;
+    if (look(&ours, task, task->head) != BIENGULOC_DONE || read_values(&ours, task, task->head, &task->values) != BIENGULOC_DONE) {
+        fprintf(stderr, "the library turns back a sheet of the bench: %s", line);
+        exit(2);
+    }
+}
+
+struct task *read_tasks(const char *path, size_t *count)
+{
+    char line[2 * BIENGULOC_LONGEST_SHEET + 2];
+    struct task *tasks = calloc(MOST_TASKS, sizeof *tasks);
+    FILE *file = fopen(path, "r");
+    if (!file || !tasks) {
+        perror(path);
+        exit(2);
+    }
+    for (*count = 0; *count < MOST_TASKS && fgets(line, sizeof line, file); ++*count)
+        unpack_line(line, &tasks[*count]);
+    fclose(file);
+    return tasks;
+}

@@ -1,0 +1,685 @@
+/* The operations of the library in plain C, from document 01: figures by table, the central polygon by its formula, bits through a
+ * 64-bit register, results held back until every test has passed. */
+#include "peer.h"
+
+#include <stdbool.h>
+#include <string.h>
+
+enum {
+    MOST_ANGLES = 24,
+    MOST_CONDITIONS = 9,
+    MOST_FIXED = 3,
+    LONGEST_TEXT = 2048,
+    HALF_CIRCLE = 6480000,
+    MOST_LOG_SINE = 100000000,
+    MOST_DIFFERENCE = 9999,
+    MOST_LIMIT = 600,
+    MOST_TOLERANCE = 50,
+    DEFAULT_LIMIT = 150,
+    DEFAULT_TOLERANCE = 10,
+    ANGLE_BITS = 23,
+    LOG_SINE_BITS = 27,
+    DIFFERENCE_BITS = 15
+};
+
+enum refusal_number {
+    NO_FIGURE = 1,
+    WRONG_LENGTH,
+    LIMIT_RANGE,
+    ANGLE_RANGE,
+    FIXED_RANGE,
+    MISCLOSURE,
+    RESULT_RANGE,
+    SINE_RANGE,
+    TOLERANCE,
+    NO_SINE_PART,
+    NO_KIND,
+    SHEET_LENGTH,
+    FILLING
+};
+
+struct figure {
+    uint32_t code, n;
+    uint32_t angles, conditions, fixed;
+    int32_t denominator;
+};
+
+/* A sheet's values, as the reader finds them. */
+struct values {
+    uint32_t kind, limit;
+    const struct figure *figure;
+    uint32_t angles[MOST_ANGLES], fixed[MOST_FIXED], log_sines[MOST_ANGLES];
+    int32_t differences[MOST_ANGLES];
+};
+
+struct first_work {
+    int32_t misclosures[MOST_CONDITIONS], numerators[MOST_ANGLES], rounded[MOST_ANGLES], rests[MOST_CONDITIONS];
+    uint32_t corrected[MOST_ANGLES];
+};
+
+struct second_work {
+    int64_t sine_misclosure, square_sum, reduced[MOST_ANGLES], numerators[MOST_ANGLES];
+    int32_t signed_differences[MOST_ANGLES], rounded[MOST_ANGLES], rests[MOST_CONDITIONS];
+    uint32_t adjusted[MOST_ANGLES];
+};
+
+static const struct figure quadrilateral = {1, 0, 8, 3, 0, 8};
+static const struct figure point_in_triangle = {2, 3, 9, 6, 3, 10};
+static const struct figure polygons[] = {
+    {3, 3, 9, 4, 0, 18},
+    {3, 4, 12, 5, 0, 24},
+    {3, 5, 15, 6, 0, 30},
+    {3, 6, 18, 7, 0, 36},
+    {3, 7, 21, 8, 0, 42},
+    {3, 8, 24, 9, 0, 48},
+};
+
+/* Rows for angles 1 and 2, 3 and 4, 5 and 6, 7 and 8. */
+static const int32_t quadrilateral_rows[4][3] = {{-3, 2, -1}, {-1, -2, 1}, {1, -2, -1}, {-1, 2, -3}};
+
+/* Three triangles, three fixed angles. */
+static const int32_t point_rows[9][6] = {
+    {-6, -2, -2, 4, 4, 2},
+    {-2, 0, 2, -5, 1, -1},
+    {-2, 2, 0, 1, -5, -1},
+    {-2, -6, -2, 2, 4, 4},
+    {2, -2, 0, -1, -5, 1},
+    {0, -2, 2, -1, 1, -5},
+    {-2, -2, -6, 4, 2, 4},
+    {0, 2, -2, 1, -1, -5},
+    {2, 0, -2, -5, -1, 1},
+};
+
+static const int32_t alternate_signs[MOST_ANGLES] = {1, -1, 1, -1, 1, -1, 1, -1};
+static const int32_t triangle_signs[MOST_ANGLES] = {0, 1, -1, 0, 1, -1, 0, 1, -1, 0, 1, -1, 0, 1, -1, 0, 1, -1, 0, 1, -1, 0, 1, -1};
+
+static uint32_t refused(enum refusal_number number, uint32_t place)
+{
+    return 256u * (uint32_t)number + place;
+}
+
+static const struct figure *figure_of(uint32_t code, uint32_t n)
+{
+    if (code == 1 && n == 0)
+        return &quadrilateral;
+    if (code == 2 && n == 3)
+        return &point_in_triangle;
+    if (code == 3 && n >= 3 && n <= 8)
+        return &polygons[n - 3];
+    return NULL;
+}
+
+static const int32_t *sine_signs(const struct figure *f)
+{
+    return f->code == 1 ? alternate_signs : triangle_signs;
+}
+
+/* The lowest place of a value outside low..high, or 0. */
+static uint32_t lowest_outside(const uint32_t *values, uint32_t count, uint32_t low, uint32_t high)
+{
+    for (uint32_t i = 0; i < count; i++)
+        if (values[i] < low || values[i] > high)
+            return i + 1;
+    return 0;
+}
+
+static uint32_t lowest_bad_sine(const uint32_t *log_sines, const int32_t *differences, uint32_t count)
+{
+    for (uint32_t i = 0; i < count; i++) {
+        bool fits = log_sines[i] >= 1 && log_sines[i] <= MOST_LOG_SINE;
+        if (!fits || differences[i] < -MOST_DIFFERENCE || differences[i] > MOST_DIFFERENCE)
+            return i + 1;
+    }
+    return 0;
+}
+
+/* Numbers 3, 4, 5, 8, which reader, writer and passes share; a pass or kind without fixed angles or log-sines has counts of 0. */
+static uint32_t judge_ranges(uint32_t limit, uint32_t most_limit, const uint32_t *angles, uint32_t angle_count, const uint32_t *fixed,
+    uint32_t fixed_count, const uint32_t *log_sines, const int32_t *differences, uint32_t sine_count)
+{
+    if (limit > most_limit)
+        return refused(LIMIT_RANGE, 0);
+    uint32_t place = lowest_outside(angles, angle_count, 1, HALF_CIRCLE - 1);
+    if (place)
+        return refused(ANGLE_RANGE, place);
+    place = lowest_outside(fixed, fixed_count, 1, HALF_CIRCLE - 1);
+    if (place)
+        return refused(FIXED_RANGE, place);
+    place = lowest_bad_sine(log_sines, differences, sine_count);
+    return place ? refused(SINE_RANGE, place) : 0;
+}
+
+/* --- the passes --- */
+
+static void quadrilateral_sums(const int32_t *v, int32_t *sums)
+{
+    for (int i = 0; i < 3; i++)
+        sums[i] = v[2 * i] + v[2 * i + 1] + v[2 * i + 2] + v[2 * i + 3];
+}
+
+static void corner_sums(const int32_t *v, int32_t *sums)
+{
+    sums[0] = v[8] + v[1];
+    sums[1] = v[2] + v[4];
+    sums[2] = v[5] + v[7];
+}
+
+/* The sum of the values in each condition. */
+static void condition_sums(const struct figure *f, const int32_t *v, int32_t *sums)
+{
+    if (f->code == 1) {
+        quadrilateral_sums(v, sums);
+        return;
+    }
+    int32_t horizon = 0;
+    for (uint32_t i = 0; i < f->n; i++) {
+        sums[i] = v[3 * i] + v[3 * i + 1] + v[3 * i + 2];
+        horizon += v[3 * i];
+    }
+    if (f->code == 2)
+        corner_sums(v, sums + 3);
+    else
+        sums[f->n] = horizon;
+}
+
+static void polygon_numerators(const struct figure *f, const int32_t *w, int32_t *numerators)
+{
+    int32_t total = 0;
+    for (uint32_t i = 0; i < f->n; i++)
+        total += w[i];
+    int32_t horizon = w[f->n], twice_n = 2 * (int32_t)f->n;
+    for (uint32_t i = 0; i < f->n; i++) {
+        numerators[3 * i] = -twice_n * w[i] + 2 * total - 6 * horizon;
+        numerators[3 * i + 1] = numerators[3 * i + 2] = -twice_n * w[i] - total + 3 * horizon;
+    }
+}
+
+static void point_numerators(const int32_t *w, int32_t *numerators)
+{
+    for (int i = 0; i < 9; i++) {
+        int32_t sum = 0;
+        for (int j = 0; j < 6; j++)
+            sum += point_rows[i][j] * w[j];
+        numerators[i] = sum;
+    }
+}
+
+static void first_numerators(const struct figure *f, const int32_t *w, int32_t *numerators)
+{
+    if (f->code == 3) {
+        polygon_numerators(f, w, numerators);
+    } else if (f->code == 2) {
+        point_numerators(w, numerators);
+    } else {
+        for (int i = 0; i < 4; i++) {
+            const int32_t *row = quadrilateral_rows[i];
+            numerators[2 * i] = numerators[2 * i + 1] = row[0] * w[0] + row[1] * w[1] + row[2] * w[2];
+        }
+    }
+}
+
+static void subtract_targets(const struct figure *f, const uint32_t *fixed, int32_t *sums)
+{
+    uint32_t triangles = f->code == 1 ? 3 : f->n;
+    for (uint32_t i = 0; i < triangles; i++)
+        sums[i] -= HALF_CIRCLE;
+    for (uint32_t j = 0; j < f->fixed; j++)
+        sums[3 + j] -= (int32_t)fixed[j];
+    if (f->code == 3)
+        sums[f->n] -= 2 * HALF_CIRCLE;
+}
+
+/* Nearest whole number, halves away from zero. */
+static int32_t rounded_tenths(int32_t numerator, int32_t denominator)
+{
+    int32_t half = denominator / 2; /* every D is even */
+    return numerator < 0 ? -((half - numerator) / denominator) : (half + numerator) / denominator;
+}
+
+static int64_t rounded_wide(int64_t numerator, int64_t denominator)
+{
+    int64_t magnitude = numerator < 0 ? -numerator : numerator;
+    int64_t nearest = (2 * magnitude + denominator) / (2 * denominator);
+    return numerator < 0 ? -nearest : nearest;
+}
+
+static bool is_angle(int64_t tenths)
+{
+    return tenths >= 1 && tenths < HALF_CIRCLE;
+}
+
+/* Numbers 6 and 7, once every value is known to lie in its range. */
+static uint32_t work_first(const struct figure *f, uint32_t limit, const uint32_t *angles, const uint32_t *fixed, struct first_work *out)
+{
+    const int32_t most = limit ? (int32_t)limit : DEFAULT_LIMIT;
+    condition_sums(f, (const int32_t *)angles, out->misclosures);
+    subtract_targets(f, fixed, out->misclosures);
+    for (uint32_t j = 0; j < f->conditions; j++)
+        if (out->misclosures[j] < -most || out->misclosures[j] > most)
+            return refused(MISCLOSURE, j + 1);
+    first_numerators(f, out->misclosures, out->numerators);
+    for (uint32_t i = 0; i < f->angles; i++) {
+        out->rounded[i] = rounded_tenths(out->numerators[i], f->denominator);
+        int32_t corrected = (int32_t)angles[i] + out->rounded[i];
+        if (!is_angle(corrected))
+            return refused(RESULT_RANGE, i + 1);
+        out->corrected[i] = (uint32_t)corrected;
+    }
+    condition_sums(f, out->rounded, out->rests);
+    for (uint32_t j = 0; j < f->conditions; j++)
+        out->rests[j] += out->misclosures[j];
+    return 0;
+}
+
+static bool beyond_tolerance(int64_t sine_misclosure, uint32_t tolerance, int64_t difference_squares)
+{
+    __extension__ typedef unsigned __int128 wide;
+    const wide magnitude = (wide)(sine_misclosure < 0 ? -sine_misclosure : sine_misclosure);
+    return 100 * magnitude * magnitude > (wide)(tolerance * tolerance) * (wide)difference_squares;
+}
+
+/* W and A; the answer is the sum of the squares of d. */
+static int64_t reduce_sines(const struct figure *f, const uint32_t *log_sines, const int32_t *differences, struct second_work *out)
+{
+    const int32_t *signs = sine_signs(f);
+    int32_t *d = out->signed_differences, sums[MOST_CONDITIONS], taken[MOST_ANGLES];
+    int64_t squares = 0;
+    out->sine_misclosure = out->square_sum = 0;
+    for (uint32_t i = 0; i < f->angles; i++) {
+        d[i] = signs[i] * differences[i];
+        squares += (int64_t)d[i] * d[i];
+        out->sine_misclosure += (int64_t)signs[i] * log_sines[i];
+    }
+    condition_sums(f, d, sums);
+    first_numerators(f, sums, taken);
+    for (uint32_t i = 0; i < f->angles; i++) {
+        out->reduced[i] = f->denominator * d[i] + taken[i];
+        out->square_sum += out->reduced[i] * out->reduced[i];
+    }
+    return squares;
+}
+
+/* Numbers 10, 9 and 7, once every value is known to lie in its range. */
+static uint32_t work_second(const struct figure *f, uint32_t tolerance, const uint32_t *angles, const uint32_t *log_sines,
+    const int32_t *differences, struct second_work *out)
+{
+    const int64_t squares = reduce_sines(f, log_sines, differences, out);
+    if (out->square_sum == 0)
+        return refused(NO_SINE_PART, 0);
+    if (beyond_tolerance(out->sine_misclosure, tolerance ? tolerance : DEFAULT_TOLERANCE, squares))
+        return refused(TOLERANCE, 0);
+    const int64_t factor = -100 * (int64_t)f->denominator * out->sine_misclosure;
+    for (uint32_t i = 0; i < f->angles; i++) {
+        out->numerators[i] = factor * out->reduced[i];
+        const int64_t rounded = rounded_wide(out->numerators[i], out->square_sum);
+        const int64_t adjusted = (int64_t)angles[i] + rounded;
+        if (!is_angle(adjusted))
+            return refused(RESULT_RANGE, i + 1);
+        out->rounded[i] = (int32_t)rounded;
+        out->adjusted[i] = (uint32_t)adjusted;
+    }
+    condition_sums(f, out->rounded, out->rests);
+    return 0;
+}
+
+uint32_t peer_first_pass(uint32_t code, uint32_t n, uint32_t limit, const uint32_t *angles, size_t angle_count, const uint32_t *fixed,
+    size_t fixed_count, int32_t *misclosures, size_t misclosure_count, int32_t *numerators, size_t numerator_count, int32_t *rounded,
+    size_t rounded_count, uint32_t *corrected, size_t corrected_count, int32_t *rests, size_t rest_count)
+{
+    const struct figure *f = figure_of(code, n);
+    if (!f)
+        return refused(NO_FIGURE, 0);
+    const size_t a = f->angles, c = f->conditions;
+    if (angle_count != a || fixed_count != f->fixed || misclosure_count != c || numerator_count != a || rounded_count != a
+        || corrected_count != a || rest_count != c)
+        return refused(WRONG_LENGTH, 0);
+    struct first_work work;
+    uint32_t answer = judge_ranges(limit, MOST_LIMIT, angles, f->angles, fixed, f->fixed, NULL, NULL, 0);
+    if (!answer)
+        answer = work_first(f, limit, angles, fixed, &work);
+    if (answer)
+        return answer;
+    memcpy(misclosures, work.misclosures, c * sizeof *misclosures);
+    memcpy(numerators, work.numerators, a * sizeof *numerators);
+    memcpy(rounded, work.rounded, a * sizeof *rounded);
+    memcpy(corrected, work.corrected, a * sizeof *corrected);
+    memcpy(rests, work.rests, c * sizeof *rests);
+    return 0;
+}
+
+uint32_t peer_second_pass(uint32_t code, uint32_t n, uint32_t tolerance, const uint32_t *angles, size_t angle_count,
+    const uint32_t *log_sines, size_t log_sine_count, const int32_t *differences, size_t difference_count, int64_t *sums,
+    size_t sum_count, int64_t *reduced, size_t reduced_count, int64_t *numerators, size_t numerator_count, int32_t *rounded,
+    size_t rounded_count, uint32_t *adjusted, size_t adjusted_count, int32_t *rests, size_t rest_count)
+{
+    const struct figure *f = figure_of(code, n);
+    if (!f)
+        return refused(NO_FIGURE, 0);
+    const size_t a = f->angles;
+    if (angle_count != a || log_sine_count != a || difference_count != a || sum_count != 2 || reduced_count != a
+        || numerator_count != a || rounded_count != a || adjusted_count != a || rest_count != f->conditions)
+        return refused(WRONG_LENGTH, 0);
+    struct second_work work;
+    uint32_t answer = judge_ranges(tolerance, MOST_TOLERANCE, angles, f->angles, NULL, 0, log_sines, differences, f->angles);
+    if (!answer)
+        answer = work_second(f, tolerance, angles, log_sines, differences, &work);
+    if (answer)
+        return answer;
+    sums[0] = work.sine_misclosure;
+    sums[1] = work.square_sum;
+    memcpy(reduced, work.reduced, a * sizeof *reduced);
+    memcpy(numerators, work.numerators, a * sizeof *numerators);
+    memcpy(rounded, work.rounded, a * sizeof *rounded);
+    memcpy(adjusted, work.adjusted, a * sizeof *adjusted);
+    memcpy(rests, work.rests, f->conditions * sizeof *rests);
+    return 0;
+}
+
+/* --- packed sheets --- */
+
+struct bits_in {
+    const uint8_t *next;
+    uint64_t held;
+    unsigned count;
+};
+
+static uint32_t take(struct bits_in *in, unsigned width)
+{
+    while (in->count < width) {
+        in->held = in->held << 8 | *in->next++;
+        in->count += 8;
+    }
+    in->count -= width;
+    return (uint32_t)(in->held >> in->count) & ((1u << width) - 1);
+}
+
+struct bits_out {
+    uint8_t *next;
+    uint64_t held;
+    unsigned count;
+};
+
+static void put(struct bits_out *out, unsigned width, uint32_t value)
+{
+    out->held = out->held << width | value;
+    out->count += width;
+    while (out->count >= 8) {
+        out->count -= 8;
+        *out->next++ = (uint8_t)(out->held >> out->count);
+    }
+}
+
+static size_t sheet_size(uint32_t kind, const struct figure *f)
+{
+    const size_t row = ANGLE_BITS + LOG_SINE_BITS + DIFFERENCE_BITS;
+    const size_t bits = kind == 1 ? 22 + ANGLE_BITS * (size_t)(f->angles + f->fixed) : 18 + row * f->angles;
+    return (bits + 7) / 8;
+}
+
+/* The kind and figure of a sheet, into v; 12 of one without a head, then 11 and 1. */
+static uint32_t take_head(const uint8_t *sheet, size_t size, struct values *v)
+{
+    if (size < 2)
+        return refused(SHEET_LENGTH, 0);
+    v->kind = sheet[0] >> 4;
+    if (v->kind != 1 && v->kind != 2)
+        return refused(NO_KIND, 0);
+    v->figure = figure_of(sheet[0] & 15, sheet[1] >> 4);
+    return v->figure ? 0 : refused(NO_FIGURE, 0);
+}
+
+/* Number 13 is tested before the values, so the filling is looked at once all fields are taken. */
+static uint32_t take_values(const uint8_t *sheet, struct values *v)
+{
+    const struct figure *f = v->figure;
+    struct bits_in in = {sheet + 2, sheet[1] & 15, 4};
+    v->limit = take(&in, v->kind == 1 ? 10 : 6);
+    if (v->kind == 1) {
+        for (uint32_t i = 0; i < f->angles; i++)
+            v->angles[i] = take(&in, ANGLE_BITS);
+        for (uint32_t i = 0; i < f->fixed; i++)
+            v->fixed[i] = take(&in, ANGLE_BITS);
+    } else {
+        for (uint32_t i = 0; i < f->angles; i++) {
+            v->angles[i] = take(&in, ANGLE_BITS);
+            v->log_sines[i] = take(&in, LOG_SINE_BITS);
+            const int32_t raw = (int32_t)take(&in, DIFFERENCE_BITS);
+            v->differences[i] = raw < 1 << 14 ? raw : raw - (1 << 15);
+        }
+    }
+    return take(&in, in.count) ? refused(FILLING, 0) : 0;
+}
+
+static uint32_t judge_values(const struct values *v)
+{
+    const struct figure *f = v->figure;
+    if (v->kind == 1)
+        return judge_ranges(v->limit, MOST_LIMIT, v->angles, f->angles, v->fixed, f->fixed, NULL, NULL, 0);
+    return judge_ranges(v->limit, MOST_TOLERANCE, v->angles, f->angles, NULL, 0, v->log_sines, v->differences, f->angles);
+}
+
+uint32_t peer_look(const uint8_t *sheet, size_t size, uint32_t *head, size_t head_count)
+{
+    struct values v;
+    const uint32_t answer = take_head(sheet, size, &v);
+    if (answer)
+        return answer;
+    if (head_count != 7)
+        return refused(WRONG_LENGTH, 0);
+    const struct figure *f = v.figure;
+    head[0] = v.kind;
+    head[1] = f->code;
+    head[2] = f->n;
+    head[3] = f->angles;
+    head[4] = v.kind == 1 ? f->fixed : 0;
+    head[5] = v.kind == 1 ? 0 : f->angles;
+    head[6] = f->conditions;
+    return 0;
+}
+
+uint32_t peer_read(const uint8_t *sheet, size_t size, uint32_t *head, size_t head_count, uint32_t *angles, size_t angle_count,
+    uint32_t *fixed, size_t fixed_count, uint32_t *log_sines, size_t log_sine_count, int32_t *differences, size_t difference_count)
+{
+    struct values v;
+    uint32_t answer = take_head(sheet, size, &v);
+    if (answer)
+        return answer;
+    const struct figure *f = v.figure;
+    if (size != sheet_size(v.kind, f))
+        return refused(SHEET_LENGTH, 0);
+    const size_t fixed_here = v.kind == 1 ? f->fixed : 0, sines_here = v.kind == 1 ? 0 : f->angles;
+    if (head_count != 4 || angle_count != f->angles || fixed_count != fixed_here || log_sine_count != sines_here
+        || difference_count != sines_here)
+        return refused(WRONG_LENGTH, 0);
+    answer = take_values(sheet, &v);
+    if (!answer)
+        answer = judge_values(&v);
+    if (answer)
+        return answer;
+    head[0] = v.kind;
+    head[1] = f->code;
+    head[2] = f->n;
+    head[3] = v.limit;
+    memcpy(angles, v.angles, angle_count * sizeof *angles);
+    memcpy(fixed, v.fixed, fixed_count * sizeof *fixed);
+    memcpy(log_sines, v.log_sines, log_sine_count * sizeof *log_sines);
+    memcpy(differences, v.differences, difference_count * sizeof *differences);
+    return 0;
+}
+
+static void put_first(struct bits_out *out, uint32_t limit, const uint32_t *angles, size_t angle_count, const uint32_t *fixed,
+    size_t fixed_count)
+{
+    put(out, 10, limit);
+    for (size_t i = 0; i < angle_count; i++)
+        put(out, ANGLE_BITS, angles[i]);
+    for (size_t i = 0; i < fixed_count; i++)
+        put(out, ANGLE_BITS, fixed[i]);
+}
+
+static void put_second(struct bits_out *out, uint32_t tolerance, const uint32_t *angles, const uint32_t *log_sines,
+    const int32_t *differences, size_t angle_count)
+{
+    put(out, 6, tolerance);
+    for (size_t i = 0; i < angle_count; i++) {
+        put(out, ANGLE_BITS, angles[i]);
+        put(out, LOG_SINE_BITS, log_sines[i]);
+        put(out, DIFFERENCE_BITS, (uint32_t)differences[i] & 0x7fff);
+    }
+}
+
+static uint32_t judge_written(uint32_t kind, const struct figure *f, uint32_t limit, const uint32_t *angles, size_t angle_count,
+    const uint32_t *fixed, size_t fixed_count, const uint32_t *log_sines, size_t log_sine_count, const int32_t *differences,
+    size_t difference_count, size_t size)
+{
+    const uint32_t fixed_here = kind == 1 ? f->fixed : 0, sines_here = kind == 1 ? 0 : f->angles;
+    if (angle_count != f->angles || fixed_count != fixed_here || log_sine_count != sines_here || difference_count != sines_here
+        || size != sheet_size(kind, f))
+        return refused(WRONG_LENGTH, 0);
+    return judge_ranges(limit, kind == 1 ? MOST_LIMIT : MOST_TOLERANCE, angles, f->angles, fixed, fixed_here, log_sines, differences,
+        sines_here);
+}
+
+uint32_t peer_write(uint32_t kind, uint32_t code, uint32_t n, uint32_t limit_or_tolerance, const uint32_t *angles, size_t angle_count,
+    const uint32_t *fixed, size_t fixed_count, const uint32_t *log_sines, size_t log_sine_count, const int32_t *differences,
+    size_t difference_count, uint8_t *sheet, size_t size)
+{
+    if (kind != 1 && kind != 2)
+        return refused(NO_KIND, 0);
+    const struct figure *f = figure_of(code, n);
+    if (!f)
+        return refused(NO_FIGURE, 0);
+    const uint32_t answer = judge_written(kind, f, limit_or_tolerance, angles, angle_count, fixed, fixed_count, log_sines,
+        log_sine_count, differences, difference_count, size);
+    if (answer)
+        return answer;
+    struct bits_out out = {sheet, 0, 0};
+    put(&out, 12, kind << 8 | code << 4 | n);
+    if (kind == 1)
+        put_first(&out, limit_or_tolerance, angles, angle_count, fixed, fixed_count);
+    else
+        put_second(&out, limit_or_tolerance, angles, log_sines, differences, angle_count);
+    if (out.count)
+        put(&out, 8 - out.count, 0);
+    return 0;
+}
+
+/* --- the printed text --- */
+
+static uint8_t *put_word(uint8_t *at, const char *word)
+{
+    const size_t length = strlen(word);
+    memcpy(at, word, length);
+    return at + length;
+}
+
+static uint8_t *put_number(uint8_t *at, int64_t number)
+{
+    uint8_t digits[20];
+    size_t count = 0;
+    uint64_t left = number < 0 ? 0 - (uint64_t)number : (uint64_t)number;
+    do {
+        digits[count++] = (uint8_t)('0' + left % 10);
+        left /= 10;
+    } while (left);
+    if (number < 0)
+        *at++ = '-';
+    while (count)
+        *at++ = digits[--count];
+    return at;
+}
+
+static uint8_t *put_next(uint8_t *at, int64_t number)
+{
+    *at++ = ' ';
+    return put_number(at, number);
+}
+
+static uint8_t *put_figure(uint8_t *at, const struct figure *f)
+{
+    at = put_next(put_word(at, "figure"), f->code);
+    return put_next(at, f->n);
+}
+
+static uint8_t *put_first_lines(uint8_t *at, const struct values *v, const struct first_work *work)
+{
+    const struct figure *f = v->figure;
+    at = put_next(put_word(put_figure(at, f), " denominator"), f->denominator);
+    *at++ = '\n';
+    for (uint32_t i = 0; i < f->angles; i++) {
+        at = put_next(put_number(at, i + 1), v->angles[i]);
+        at = put_next(at, work->numerators[i]);
+        at = put_next(put_next(at, work->rounded[i]), work->corrected[i]);
+        *at++ = '\n';
+    }
+    for (uint32_t j = 0; j < f->conditions; j++) {
+        at = put_next(put_word(at, "condition"), j + 1);
+        at = put_next(put_next(at, work->misclosures[j]), work->rests[j]);
+        *at++ = '\n';
+    }
+    return at;
+}
+
+static uint8_t *put_second_lines(uint8_t *at, const struct values *v, const struct second_work *work)
+{
+    const struct figure *f = v->figure;
+    at = put_next(put_word(put_figure(at, f), " W"), work->sine_misclosure);
+    at = put_next(put_word(at, " S"), work->square_sum);
+    *at++ = '\n';
+    for (uint32_t i = 0; i < f->angles; i++) {
+        at = put_next(put_number(at, i + 1), v->angles[i]);
+        at = put_next(put_next(at, work->reduced[i]), work->numerators[i]);
+        at = put_next(put_next(at, work->rounded[i]), work->adjusted[i]);
+        *at++ = '\n';
+    }
+    for (uint32_t j = 0; j < f->conditions; j++) {
+        at = put_next(put_next(put_word(at, "condition"), j + 1), work->rests[j]);
+        *at++ = '\n';
+    }
+    return at;
+}
+
+static uint32_t take_sheet(const uint8_t *sheet, size_t size, struct values *v)
+{
+    uint32_t answer = take_head(sheet, size, v);
+    if (!answer && size != sheet_size(v->kind, v->figure))
+        answer = refused(SHEET_LENGTH, 0);
+    if (!answer)
+        answer = take_values(sheet, v);
+    return answer ? answer : judge_values(v);
+}
+
+static uint8_t *put_refusal(uint8_t *at, uint32_t answer)
+{
+    at = put_next(put_next(put_word(at, "refused"), answer / 256), answer % 256);
+    *at++ = '\n';
+    return at;
+}
+
+/* Where the lines end. */
+static uint8_t *put_lines(uint8_t *at, const uint8_t *sheet, size_t size)
+{
+    struct values v;
+    uint32_t answer = take_sheet(sheet, size, &v);
+    if (answer)
+        return put_refusal(at, answer);
+    if (v.kind == 1) {
+        struct first_work work;
+        answer = work_first(v.figure, v.limit, v.angles, v.fixed, &work);
+        return answer ? put_refusal(at, answer) : put_first_lines(at, &v, &work);
+    }
+    struct second_work work;
+    answer = work_second(v.figure, v.limit, v.angles, v.log_sines, v.differences, &work);
+    return answer ? put_refusal(at, answer) : put_second_lines(at, &v, &work);
+}
+
+uint32_t peer_report(const uint8_t *sheet, size_t size, uint8_t *text, size_t room, uint64_t *written, size_t written_count)
+{
+    uint8_t lines[LONGEST_TEXT];
+    const size_t length = (size_t)(put_lines(lines, sheet, size) - lines);
+    if (length > room || written_count != 1)
+        return refused(WRONG_LENGTH, 0);
+    memcpy(text, lines, length);
+    *written = length;
+    return 0;
+}

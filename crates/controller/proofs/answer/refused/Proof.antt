@@ -1,0 +1,22 @@
+-- `controller::answer::refused` meets its contract: a number of the table and a place below 256 fit 32 bits.
+use Prim.Native.Nat.{ℕ, _+_, _*_}
+use mathlib.Core.Path.{ap₂}
+use native.Mathlib.Omega.{arith}
+use borrow.Author.Needs.{needs}
+use Rattle.controller.specs.Answer.{placeStep, numberAndPlace}
+use Rattle.controller.proofs.Answers.{from-table}
+use Rattle.controller.proofs.answer.refused.Statement.{statement}
+use Rattle.controller.proofs.answer.refused.Tie as tie
+
+mul-result : tie.Need-mul-result
+mul-result c = record { fits = omega (arith, c .before .number-of .ensures, from-table (c .before .before .args .refusal) .last) }
+
+add-result : tie.Need-add-result
+add-result c = record { fits = omega (arith, c .before .number-of .ensures, c .place-of .ensures, c .before .before .pre, from-table (c .before .before .args .refusal) .last) }
+
+returns : tie.Need-returns
+unfolding numberAndPlace
+returns c = ap₂ (λ (number place : ℕ). number * placeStep + place) (c .before .number-of .ensures) (c .place-of .ensures)
+
+pub refused-spec : {M : Type 1} → statement M
+refused-spec = tie.close (tie.spec (λ c κs. search needs) (λ c κs. search needs) (λ c. search needs) mul-result add-result returns)

@@ -1,0 +1,4 @@
+pub mod Answer
+pub mod Heads
+pub mod Reporting
+pub mod Working

@@ -1,0 +1,65 @@
+// A look at the head of a sheet: what it is for, and how long the slices are that its values need.
+ghost use mathlib.Core.Path.{_≡_};
+ghost use lib.ListN.{length};
+ghost use Rattle.sheets.specs.Sheet.{numberOfKind};
+ghost use Rattle.controller.specs.Answer.{afterAnswer};
+ghost use Rattle.controller.specs.Heads.{lookAnswer, lookHead, headLooked};
+use crate::answer::DONE;
+use crate::answer::refused;
+use crate::stores::store;
+use figures::Figure;
+use figures::counts_of;
+use figures::name_of;
+use refusals::Refusal;
+use sheets::Kind;
+use sheets::Look;
+use sheets::lengths_of;
+use sheets::look_at;
+
+// Kind, code, n, and how many angles, fixed angles, log-sines and conditions.
+const HEAD_LENGTH: usize = 7;
+
+pub fn number_of_kind(kind: Kind) -> u32
+    ensures { λ number. ⌜ number ≡ numberOfKind kind ⌝ }
+{
+    match kind {
+        Kind::FirstPass => 1,
+        Kind::SecondPass => 2,
+    }
+}
+
+fn head_of(kind: Kind, figure: Figure) -> [u32; HEAD_LENGTH]
+    ensures { λ head. ⌜ head ≡ lookHead kind figure ⌝ }
+{
+    let number = number_of_kind(kind);
+    let name = name_of(figure);
+    let lengths = lengths_of(kind, figure);
+    let counts = counts_of(figure);
+    [
+        number,
+        name.code,
+        name.n,
+        lengths.angles as u32,
+        lengths.fixed as u32,
+        lengths.log_sines as u32,
+        counts.conditions as u32,
+    ]
+}
+
+// Does not look at the sheet's size: the reader does.
+#[no_mangle]
+pub extern "C" fn bienguloc_look(sheet: &[u8], head: &mut [u32]) -> u32
+    ensures { λ answer. ⌜ answer ≡ lookAnswer (now (sheet .entry)) (length (now (head .entry))) ⌝ }
+    ensures { λ answer. ⌜ now (head .exit) ≡ afterAnswer answer (headLooked (now (sheet .entry))) (now (head .entry)) ⌝ }
+{
+    match look_at(sheet) {
+        Look::Refused(refusal) => refused(refusal),
+        Look::Head(kind, figure) => {
+            if head.len() != HEAD_LENGTH {
+                return refused(Refusal::WrongLength);
+            }
+            store(&head_of(kind, figure), head);
+            DONE
+        }
+    }
+}

@@ -1,0 +1,36 @@
+// The writer for C.
+ghost use mathlib.Core.Path.{_≡_};
+ghost use lib.ListN.{length};
+ghost use Rattle.sheets.specs.Sheet.{valuesFrom};
+ghost use Rattle.sheets.specs.Judging.{writingOf, sheetGiven};
+ghost use Rattle.controller.specs.Answer.{answerNumber, afterAnswer};
+use crate::answer::answered;
+use sheets::write_sheet;
+
+#[no_mangle]
+pub extern "C" fn bienguloc_write(
+    kind: u32,
+    code: u32,
+    n: u32,
+    limit_or_tolerance: u32,
+    angles: &[u32],
+    fixed: &[u32],
+    log_sines: &[u32],
+    differences: &[i32],
+    sheet: &mut [u8],
+) -> u32
+    ensures { λ answer. ⌜ answer ≡ answerNumber (writingOf kind code n (valuesFrom «limit_or_tolerance» (now (angles .entry)) (now (fixed .entry)) (now («log_sines» .entry)) (now (differences .entry))) (length (now (sheet .entry)))) ⌝ }
+    ensures { λ answer. ⌜ now (sheet .exit) ≡ afterAnswer answer (sheetGiven kind code n (valuesFrom «limit_or_tolerance» (now (angles .entry)) (now (fixed .entry)) (now («log_sines» .entry)) (now (differences .entry)))) (now (sheet .entry)) ⌝ }
+{
+    answered(write_sheet(
+        kind,
+        code,
+        n,
+        limit_or_tolerance,
+        angles,
+        fixed,
+        log_sines,
+        differences,
+        sheet,
+    ))
+}

@@ -1,0 +1,76 @@
+/* Works one packed sheet, from a file or standard input, and prints the corrected angles in degrees, minutes and seconds:
+ *
+ *     controller [SHEET]
+ *
+ * or, of a sheet that is turned back, the refusal's number and place. */
+#include <inttypes.h>
+#include <stdio.h>
+
+#include "bienguloc.h"
+
+/* Everything that the library is lent, with room for the largest figure. */
+struct desk {
+    uint32_t head[BIENGULOC_LOOK_HEAD], read_head[BIENGULOC_READ_HEAD];
+    uint32_t angles[BIENGULOC_MOST_ANGLES], fixed[BIENGULOC_MOST_FIXED], log_sines[BIENGULOC_MOST_ANGLES];
+    int32_t differences[BIENGULOC_MOST_ANGLES];
+    int32_t misclosures[BIENGULOC_MOST_CONDITIONS], rests[BIENGULOC_MOST_CONDITIONS];
+    int32_t numerators[BIENGULOC_MOST_ANGLES], rounded[BIENGULOC_MOST_ANGLES];
+    int64_t sums[2], reduced[BIENGULOC_MOST_ANGLES], wide_numerators[BIENGULOC_MOST_ANGLES];
+    uint32_t results[BIENGULOC_MOST_ANGLES];
+};
+
+static uint32_t first_pass(struct desk *d, size_t angles, size_t conditions)
+{
+    const uint32_t *h = d->read_head;
+    return bienguloc_first_pass(h[BIENGULOC_HEAD_CODE], h[BIENGULOC_HEAD_N], h[BIENGULOC_HEAD_LIMIT_OR_TOLERANCE],
+        d->angles, angles, d->fixed, d->head[BIENGULOC_HEAD_FIXED],
+        d->misclosures, conditions, d->numerators, angles, d->rounded, angles, d->results, angles, d->rests, conditions);
+}
+
+static uint32_t second_pass(struct desk *d, size_t angles, size_t conditions)
+{
+    const uint32_t *h = d->read_head;
+    return bienguloc_second_pass(h[BIENGULOC_HEAD_CODE], h[BIENGULOC_HEAD_N], h[BIENGULOC_HEAD_LIMIT_OR_TOLERANCE],
+        d->angles, angles, d->log_sines, angles, d->differences, angles,
+        d->sums, 2, d->reduced, angles, d->wide_numerators, angles, d->rounded, angles, d->results, angles, d->rests, conditions);
+}
+
+/* A look gives the counts, the reader the values, the pass of the sheet's kind the results. */
+static uint32_t work(const uint8_t *sheet, size_t size, struct desk *d)
+{
+    uint32_t answer = bienguloc_look(sheet, size, d->head, BIENGULOC_LOOK_HEAD);
+    if (answer != BIENGULOC_DONE)
+        return answer;
+    const size_t angles = d->head[BIENGULOC_HEAD_ANGLES], sines = d->head[BIENGULOC_HEAD_LOG_SINES];
+    answer = bienguloc_read(sheet, size, d->read_head, BIENGULOC_READ_HEAD, d->angles, angles,
+        d->fixed, d->head[BIENGULOC_HEAD_FIXED], d->log_sines, sines, d->differences, sines);
+    if (answer != BIENGULOC_DONE)
+        return answer;
+    const size_t conditions = d->head[BIENGULOC_HEAD_CONDITIONS];
+    return d->head[BIENGULOC_HEAD_KIND] == 1 ? first_pass(d, angles, conditions) : second_pass(d, angles, conditions);
+}
+
+static void print_angle(uint32_t number, uint32_t tenths)
+{
+    printf("%2" PRIu32 "  %3" PRIu32 " %02" PRIu32 " %02" PRIu32 ".%" PRIu32 "\n", number, tenths / 36000, tenths / 600 % 60,
+        tenths / 10 % 60, tenths % 10);
+}
+
+int main(int argc, char **argv)
+{
+    /* One byte more than the longest sheet, so that a sheet that is too long is seen. */
+    uint8_t sheet[BIENGULOC_LONGEST_SHEET + 1];
+    static struct desk desk;
+    FILE *file = argc > 1 ? fopen(argv[1], "rb") : stdin;
+    if (!file) {
+        perror(argv[1]);
+        return 2;
+    }
+    const size_t size = fread(sheet, 1, sizeof sheet, file);
+    const uint32_t answer = work(sheet, size, &desk);
+    if (answer != BIENGULOC_DONE)
+        printf("refused %" PRIu32 " %" PRIu32 "\n", BIENGULOC_NUMBER(answer), BIENGULOC_PLACE(answer));
+    for (uint32_t i = 0; answer == BIENGULOC_DONE && i < desk.head[BIENGULOC_HEAD_ANGLES]; i++)
+        print_angle(i + 1, desk.results[i]);
+    return ferror(file) ? 2 : 0;
+}

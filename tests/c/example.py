@@ -1,0 +1,62 @@
+#!/usr/bin/env python3
+"""Runs examples/controller.c on every sample sheet and some made ones, and compares what it prints with the independent computation.
+
+    tests/c/example.py COMMAND ..      the command reads one sheet from standard input, or from a file named after it
+"""
+
+import subprocess
+import sys
+from itertools import islice
+from pathlib import Path
+
+ROOT = Path(__file__).resolve().parent.parent.parent
+sys.path.insert(0, str(ROOT / "tests"))
+
+from independent import first_pass, second_pass  # noqa: E402
+from made_sheets import made_sheets  # noqa: E402
+from packed import Refused, read_sheet  # noqa: E402
+
+EVERY = 29  # of the made sheets
+
+
+def degrees(number, tenths):
+    """An angle's line: number, degrees, minutes, seconds."""
+    minutes, seconds = divmod(tenths, 600)
+    return f"{number:2}  {minutes // 60:3} {minutes % 60:02} {seconds // 10:02}.{seconds % 10}\n"
+
+
+def expected(sheet):
+    try:
+        values = read_sheet(sheet)
+        done = (first_pass if values.kind == 1 else second_pass)(values)
+    except Refused as refusal:
+        return f"refused {refusal.number} {refusal.place}\n"
+    return "".join(degrees(number, tenths) for number, tenths in enumerate(done.results, start=1))
+
+
+def printed(command, sheet=b""):
+    done = subprocess.run(command, input=sheet, stdout=subprocess.PIPE, timeout=60, check=False)
+    return done.stdout.decode(errors="replace") if done.returncode == 0 else f"status {done.returncode}"
+
+
+def checks(command):
+    """Name, what is printed and what should be."""
+    for path in sorted((ROOT / "sheets").glob("*.sheet")):
+        yield path.name, printed([*command, str(path)]), expected(path.read_bytes())
+    for name, sheet in islice(made_sheets(), 0, None, EVERY):
+        yield name, printed(command, sheet), expected(sheet)
+
+
+def main():
+    passed = failed = 0
+    for name, found, right in checks(sys.argv[1:]):
+        passed += found == right
+        failed += found != right
+        if found != right:
+            print(f"FAILED the example on {name}\nexpected\n{right}it printed\n{found}")
+    print(f"{passed} passed, {failed} failed")
+    return 0 if passed and not failed else 1
+
+
+if __name__ == "__main__":
+    sys.exit(main())

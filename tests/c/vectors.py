@@ -1,0 +1,270 @@
+#!/usr/bin/env python3
+"""Calls of the library, each with what the independent computation of tests/ says it must answer and store.
+
+    tests/c/vectors.py ALL SOME     writes them to the file ALL, and every fiftieth to the file SOME
+
+A call is a line and a line for each slice, in the order of the header:
+
+    FUNCTION  COUNT NUMBERS..  ANSWER  SLICES  NAME
+    MODE TYPE COUNT VALUES..
+
+Modes: `sheet` a sheet that is read; `in` values that are given; `out` values that must be stored; `room` a slice lent to a call that
+is refused, so that nothing may be stored; `text` the lines of a report, whose slice may be longer. Bytes are in hexadecimal.
+The same calls come out every time.
+"""
+
+import random
+import sys
+from pathlib import Path
+
+ROOT = Path(__file__).resolve().parent.parent.parent
+sys.path.insert(0, str(ROOT / "tests"))
+
+from figures import figure_of  # noqa: E402
+from independent import first_pass, second_pass, work  # noqa: E402
+from made_sheets import each_kind_and_figure, label, made_sheets, ordinary_sheet, with_value  # noqa: E402
+from packed import Refused, check_ranges, counts, read_sheet, sheet_size, write_sheet  # noqa: E402
+
+SEED = 1978
+EVERY = 50
+
+# Outside the range, and beside a value within it where bits are lost: 2^23 and 2^27 are past the fields, 2^31 and 2^32 - 1 at the ends.
+ODD_ANGLES = (0, 6_480_000, 2**23 + 1_620_000, 2**31, 2**31 + 1_620_000, 2**32 - 1)
+ODD_LOG_SINES = (0, 100_000_001, 2**27 + 50_000_000, 2**31 + 50_000_000, 2**32 - 1)
+ODD_DIFFERENCES = (-(2**31), -(2**15) + 100, -10_000, 10_000, 2**15 + 100, 2**31 - 1)
+ODD_LIMITS = (601, 1_023, 1_024 + 150, 2**16 + 150, 2**31, 2**32 - 1)
+ODD_TOLERANCES = (51, 63, 64 + 10, 256 + 10, 2**31, 2**32 - 1)
+ODD_NAMES = ((0, 0), (1, 3), (2, 0), (2, 4), (3, 2), (3, 9), (4, 3), (257, 0), (1, 256), (3, 2**31 + 3), (3, 2**32 - 5), (2**32 - 1,) * 2)
+ODD_KINDS = (0, 3, 17, 18, 256 + 1, 2**31 + 2, 2**32 - 1)
+
+
+def answered(compute):
+    """Answer and result of a computation: 0 and what it gives, or number * 256 + place and nothing."""
+    try:
+        return 0, compute()
+    except Refused as refusal:
+        return 256 * refusal.number + refusal.place, None
+
+
+# --- the lines of a call ------------------------------------------------------------------------------------------------
+
+
+def listed(mode, value_type, values):
+    if value_type == "u8":
+        return f"{mode} u8 {len(values)} {bytes(values).hex()}".rstrip()
+    return " ".join(map(str, (mode, value_type, len(values), *values)))
+
+
+def stored(value_type, count, values):
+    """A slice that is written to, unless the call is refused."""
+    return f"room {value_type} {count}" if values is None else listed("out", value_type, values)
+
+
+def lines(function, numbers, answer, slices, name):
+    return "\n".join([" ".join(map(str, (function, len(numbers), *numbers, answer, len(slices), name))), *slices])
+
+
+# --- calls that take a sheet's bytes ------------------------------------------------------------------------------------
+
+
+def named_head(sheet):
+    """Kind and figure that the first two bytes name. Document 01: 12 if under two bytes, then 11, 1."""
+    if len(sheet) < 2:
+        raise Refused(12)
+    if sheet[0] >> 4 not in (1, 2):
+        raise Refused(11)
+    figure = figure_of(sheet[0] & 15, sheet[1] >> 4)
+    if figure is None:
+        raise Refused(1)
+    return sheet[0] >> 4, figure
+
+
+def look_call(name, sheet):
+    answer, found = answered(lambda: named_head(sheet))
+    head = None
+    if found:
+        kind, figure = found
+        angles, fixed, log_sines, _ = counts(kind, figure)
+        head = (kind, figure.code, figure.n, angles, fixed, log_sines, len(figure.conditions))
+    return lines("look", (), answer, [listed("sheet", "u8", sheet), stored("u32", 7, head)], name)
+
+
+def read_call(name, sheet):
+    _, found = answered(lambda: named_head(sheet))
+    lent = counts(*found) if found else (8, 0, 0, 0)
+    answer, values = answered(lambda: read_sheet(sheet))
+    columns = (None,) * 5
+    if values:
+        figure = values.figure
+        head = (values.kind, figure.code, figure.n, values.limit)
+        columns = (head, values.angles, values.fixed, values.log_sines, values.differences)
+    slices = [stored(*row) for row in zip(("u32",) * 4 + ("i32",), (4, *lent), columns)]
+    return lines("read", (), answer, [listed("sheet", "u8", sheet), *slices], name)
+
+
+def report_call(name, sheet):
+    text = work(sheet).encode("ascii")
+    slices = [listed("sheet", "u8", sheet), listed("text", "u8", text), listed("out", "u64", (len(text),))]
+    return lines("report", (), 0, slices, name)
+
+
+# --- calls that take values ---------------------------------------------------------------------------------------------
+
+
+def given(values):
+    """The four lists of values, as the writer takes them."""
+    lists = (values.angles, values.fixed, values.log_sines, values.differences)
+    return [listed("in", value_type, column) for value_type, column in zip(("u32",) * 3 + ("i32",), lists)]
+
+
+def own(values):
+    return values.kind, values.figure.code, values.figure.n
+
+
+def write_call(name, values, head=None):
+    """Under its own kind, code and n, or under others that name nothing."""
+    numbers = (*(head or own(values)), values.limit)
+    named = values._replace(kind=numbers[0], figure=figure_of(*numbers[1:3]))
+    answer, sheet = answered(lambda: write_sheet(named))
+    size = sheet_size(values.kind, values.figure)
+    return lines("write", numbers, answer, [*given(values), stored("u8", size, sheet)], name)
+
+
+def passed(values, figure, one_pass):
+    """A pass over values that may lie outside their ranges: 1, then 3, 4, 5, 8 as the writer has them, then the pass's own."""
+    if figure is None:
+        raise Refused(1)
+    check_ranges(values)
+    return one_pass(values)
+
+
+def first_call(name, values, numbers):
+    answer, done = answered(lambda: passed(values, figure_of(*numbers[:2]), first_pass))
+    angles, conditions = values.figure.angle_count, len(values.figure.conditions)
+    columns = zip(("i32", "i32", "i32", "u32", "i32"), (conditions, angles, angles, angles, conditions), done or (None,) * 5)
+    return lines("first", numbers, answer, [*given(values)[:2], *(stored(*row) for row in columns)], name)
+
+
+def second_call(name, values, numbers):
+    answer, done = answered(lambda: passed(values, figure_of(*numbers[:2]), second_pass))
+    angles, conditions = values.figure.angle_count, len(values.figure.conditions)
+    results = [(done.sine_misclosure, done.square_sum), *done[2:]] if done else (None,) * 6
+    columns = zip(("i64", "i64", "i64", "i32", "u32", "i32"), (2, angles, angles, angles, angles, conditions), results)
+    taken = given(values)
+    return lines("second", numbers, answer, [taken[0], *taken[2:], *(stored(*row) for row in columns)], name)
+
+
+def pass_call(name, values, head=None):
+    numbers = (*(head or own(values))[1:], values.limit)
+    return (first_call if values.kind == 1 else second_call)(name, values, numbers)
+
+
+# --- which calls --------------------------------------------------------------------------------------------------------
+
+
+def sample_sheets():
+    for path in sorted((ROOT / "sheets").glob("*.sheet")):
+        yield path.name, path.read_bytes()
+
+
+def plain_sheets():
+    """All zero and all ones, of every length; and under every good head, at its size."""
+    for length in range(211):
+        yield f"{length} bytes of 0", bytes(length)
+        yield f"{length} bytes of ones", b"\xff" * length
+    for kind, figure in each_kind_and_figure():
+        head = bytes([kind << 4 | figure.code, figure.n << 4])
+        for filling in (b"\0", b"\xff"):
+            yield f"{label(kind, figure)} of {filling.hex()}", head + filling * (sheet_size(kind, figure) - 2)
+
+
+def spoilt_columns(values):
+    """The values with one odd value at a place: every odd value at the first place, and one at each other."""
+    columns = (("angles", ODD_ANGLES), ("fixed", ODD_ANGLES), ("log_sines", ODD_LOG_SINES), ("differences", ODD_DIFFERENCES))
+    for column, odd in columns:
+        given_values = getattr(values, column)
+        for place in range(1, len(given_values) + 1):
+            for value in odd if place == 1 else odd[place % len(odd) :][:1]:
+                yield f"{column} {place} of {value}", values._replace(**{column: with_value(given_values, place, value)})
+
+
+def all_alike(values):
+    """Every value 0, and every bit 1."""
+    for name, unsigned, signed in (("all 0", 0, 0), ("all ones", 2**32 - 1, -1)):
+        fill = {column: (unsigned,) * len(getattr(values, column)) for column in ("angles", "fixed", "log_sines")}
+        yield name, values._replace(**fill, differences=(signed,) * len(values.differences))
+
+
+def odd_values(rng):
+    """Values that no packed sheet can hold beside those that one can, one odd value at a time and two."""
+    for kind, figure in each_kind_and_figure():
+        values = ordinary_sheet(kind, figure, rng)
+        yield "as it should be", values
+        for limit in ODD_LIMITS if kind == 1 else ODD_TOLERANCES:
+            yield f"limit or tolerance {limit}", values._replace(limit=limit)
+        spoilt = [*spoilt_columns(values), *all_alike(values)]
+        yield from spoilt
+        for name, one in rng.sample(spoilt, 4):
+            yield f"{name} and limit or tolerance 700", one._replace(limit=700)
+            yield from ((f"{name} and {then}", both) for then, both in rng.sample([*spoilt_columns(one)], 4))
+
+
+def odd_names(rng):
+    """Kinds that are none, and codes and n that name no figure, some of which do where bits are lost."""
+    for kind, figure in each_kind_and_figure():
+        values = ordinary_sheet(kind, figure, rng)
+        for code, n in ODD_NAMES:
+            name = f"code {code} n {n} with the values of {label(kind, figure)}"
+            yield write_call(name, values, (kind, code, n))
+            yield pass_call(name, values, (kind, code, n))
+        for odd in ODD_KINDS:
+            yield write_call(f"kind {odd} with the values of {label(kind, figure)}", values, (odd, figure.code, figure.n))
+            yield write_call(f"kind {odd} and no figure", values, (odd, 9, 9))
+
+
+def all_calls():
+    for name, sheet in [*sample_sheets(), *made_sheets(), *plain_sheets()]:
+        yield look_call(name, sheet)
+        yield read_call(name, sheet)
+        yield report_call(name, sheet)
+        _, values = answered(lambda sheet=sheet: read_sheet(sheet))
+        if values:
+            yield write_call(name, values)
+            yield pass_call(name, values)
+    rng = random.Random(f"{SEED} odd values")
+    for name, values in odd_values(rng):
+        name = f"{name}, {label(values.kind, values.figure)}"
+        yield write_call(name, values)
+        yield pass_call(name, values)
+    yield from odd_names(rng)
+
+
+MUST_REACH = {
+    "look": {0, 12, 11, 1},
+    "read": {0, 12, 11, 1, 13, 3, 4, 5, 8},
+    "write": {0, 11, 1, 3, 4, 5, 8},
+    "first": {0, 1, 3, 4, 5, 6, 7},
+    "second": {0, 1, 3, 4, 8, 10, 9, 7},
+    "report": {0},
+}
+
+
+def reached(calls):
+    """Which numbers each function answers; 2 is the business of the C program, which lends wrong lengths."""
+    numbers = {function: set() for function in MUST_REACH}
+    for call in calls:
+        first_line = call.split("\n", 1)[0].split()
+        numbers[first_line[0]].add(int(first_line[2 + int(first_line[1])]) // 256)
+    return numbers
+
+
+def main():
+    calls = [*all_calls()]
+    if reached(calls) != MUST_REACH:
+        sys.exit(f"the calls reach {reached(calls)}")
+    for path, written in zip(sys.argv[1:], (calls, calls[::EVERY])):
+        Path(path).write_text("\n".join(written) + "\n", encoding="utf-8")
+
+
+if __name__ == "__main__":
+    main()

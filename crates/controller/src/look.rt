@@ -8,13 +8,13 @@ use crate::answer::DONE;
 use crate::answer::refused;
 use crate::stores::store;
 use figures::Figure;
-use figures::counts_of;
 use figures::name_of;
 use refusals::Refusal;
 use sheets::Kind;
 use sheets::Look;
 use sheets::lengths_of;
 use sheets::look_at;
+use tables::counts_of;
 
 // Kind, code, n, and how many angles, fixed angles, log-sines and conditions.
 const HEAD_LENGTH: usize = 7;

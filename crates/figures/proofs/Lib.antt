@@ -3,6 +3,4 @@ pub mod Certificate
 pub mod Figures
 pub mod LeastSquares
 pub mod Naming
-pub mod Padding
-pub mod Small
 pub mod Theorem

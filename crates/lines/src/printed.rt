@@ -15,8 +15,8 @@ use crate::put::put_part;
 use crate::put::put_rows;
 use crate::put::put_word;
 use figures::Figure;
-use figures::MOST_ANGLES;
 use refusals::Refusal;
+use tables::MOST_ANGLES;
 
 // In place of a column that a table has not.
 const NONE: Column = [0; MOST_ANGLES];
@@ -44,7 +44,7 @@ fn put_tables(
     requires { ⌜ (0 < «angle_width») × («angle_width» ≤ 6) × (0 < «condition_width») × («condition_width» ≤ 6) ⌝ }
     ensures { λ r. ⌜ Lays (tablesText f angles «angle_width» conditions «condition_width») (now (buffer .entry)) at (now (buffer .exit)) r ⌝ }
 {
-    let counts = figures::counts_of(f);
+    let counts = tables::counts_of(f);
     let after_angles = put_rows(buffer, at, b"", counts.angles, angles, angle_width);
     put_rows(
         buffer,
@@ -59,7 +59,7 @@ fn put_tables(
 fn first_figure(buffer: &mut [u8], f: Figure) -> usize
     ensures { λ r. ⌜ Lays (line (firstFigure f)) (now (buffer .entry)) 0 (now (buffer .exit)) r ⌝ }
 {
-    let counts = figures::counts_of(f);
+    let counts = tables::counts_of(f);
     let denominator = counts.denominator as i64;
     let after_name = put_figure(buffer, f);
     put_line(

@@ -7,7 +7,7 @@ ghost use lib.IntN.{pos};
 ghost use Rattle.whole.specs.Sums.{table};
 ghost use Rattle.text.specs.Text.{decimal};
 ghost use Rattle.lines.specs.Lays.{Lays, joined, numbersLine, rowAt, rowLine};
-use figures::MOST_ANGLES;
+use tables::MOST_ANGLES;
 
 // The most numbers of a line: an angle's of kind 2.
 const MOST_NUMBERS: usize = 6;

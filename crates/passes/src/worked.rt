@@ -2,12 +2,12 @@
 ghost use mathlib.Core.Path.{_≡_};
 ghost use Rattle.passes.specs.Worked.{ReadInto, FullArrays, refusedSheet, firstShown, firstSheet, secondShown, secondSheet, workedFrom, workedOf};
 use figures::Figure;
-use figures::MOST_ANGLES;
 use refusals::Refusal;
 use refusals::Verdict;
 use sheets::Kind;
 use sheets::Look;
 use sheets::Reading;
+use tables::MOST_ANGLES;
 use work::Column;
 use work::FirstWork;
 use work::SecondWork;

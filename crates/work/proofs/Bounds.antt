@@ -15,9 +15,9 @@ use Rattle.whole.proofs.Sums.{sum-magnitude}
 use Rattle.figures.specs.declared.Figure.{Figure}
 use Rattle.figures.specs.Figure.{description, conditionCount, membersOf, allFigures}
 use Rattle.figures.specs.Numerators.{sumOver, conditionSum, numerator, mostConditions, mostMembers}
-use Rattle.figures.specs.Small.{smallRow, smallRows}
+use Rattle.tables.specs.Small.{smallRow, smallRows}
 use Rattle.figures.proofs.Figures.{each-figure, condition-bound}
-use Rattle.figures.proofs.Small.{small-at, small-row}
+use Rattle.tables.proofs.Small.{small-at, small-row}
 use Rattle.work.proofs.MemberLaws.{few-members}
 
 sumOver-magnitude : (members : List ℕ) (x : ℕ → ℤ) (most : ℕ) → ((i : ℕ) → natAbs (x i) ≤ most) → natAbs (sumOver members x) ≤ length members * most

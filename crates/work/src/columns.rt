@@ -12,12 +12,12 @@ ghost use Rattle.figures.specs.Numerators.{conditionSum, sumOver, mostAngles, m
 ghost use Rattle.work.specs.Column.{column, Below, MembersOfFigure};
 ghost use Rattle.work.specs.Pass.{given};
 use figures::Figure;
-use figures::MOST_ANGLES;
-use figures::MOST_CONDITIONS;
-use figures::MOST_MEMBERS;
-use figures::Members;
-use figures::Misclosures;
 use refusals::Lowest;
+use tables::MOST_ANGLES;
+use tables::MOST_CONDITIONS;
+use tables::MOST_MEMBERS;
+use tables::Members;
+use tables::Misclosures;
 
 pub type Column = [i64; MOST_ANGLES];
 
@@ -75,7 +75,7 @@ pub fn condition_sums(f: Figure, x: Column) -> Column
     requires { ⌜ Below 58 x ⌝ }
     ensures { λ r. ⌜ r ≡ column (conditionSum f (vector x)) ⌝ }
 {
-    row_sums(figures::members_of(f), &x)
+    row_sums(tables::members_of(f), &x)
 }
 
 fn row_sums(members: Members, x: &[i64]) -> Column

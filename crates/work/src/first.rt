@@ -24,10 +24,10 @@ use crate::tests::first_of_four;
 use crate::tests::limit_or_tolerance_verdict;
 use crate::tests::results_verdict;
 use figures::Figure;
-use figures::MOST_ANGLES;
 use refusals::Lowest;
 use refusals::Refusal;
 use refusals::Verdict;
+use tables::MOST_ANGLES;
 
 // Document 01, "Units and ranges": the misclosure limit in tenths, and what 0 stands for.
 const DEFAULT_LIMIT: u32 = 150;
@@ -60,8 +60,8 @@ fn first_work(f: Figure, angles: &[u32], fixed: &[u32]) -> FirstWork
 {
     let observed = column_of(angles);
     let misclosures = sum_of(condition_sums(f, observed), minus_targets(f, fixed));
-    let numerators = figures::numerators_of(f, narrowed(misclosures));
-    let rounded = quotients(numerators, figures::counts_of(f).denominator as u64);
+    let numerators = tables::numerators_of(f, narrowed(misclosures));
+    let rounded = quotients(numerators, tables::counts_of(f).denominator as u64);
     let corrected = sum_of(observed, rounded);
     let rests = sum_of(misclosures, condition_sums(f, rounded));
     FirstWork {
@@ -121,7 +121,7 @@ fn given_verdict(
 pub fn first_lengths(f: Figure) -> FirstLengths
     ensures { λ r. ⌜ r ≡ firstLengths f ⌝ }
 {
-    let counts = figures::counts_of(f);
+    let counts = tables::counts_of(f);
     let angles = counts.angles;
     let conditions = counts.conditions;
     [
@@ -139,7 +139,7 @@ pub fn first_lengths(f: Figure) -> FirstLengths
 fn work_verdict(f: Figure, limit: u32, misclosures: Column, corrected: Column) -> Verdict
     ensures { λ r. ⌜ r ≡ answerOf (workTests f limit misclosures corrected) ⌝ }
 {
-    let counts = figures::counts_of(f);
+    let counts = tables::counts_of(f);
     let by_condition = misclosures_verdict(misclosures, counts.conditions, limit_in_force(limit));
     refusals::first_to_fail(by_condition, results_verdict(corrected, counts.angles))
 }

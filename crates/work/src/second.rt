@@ -25,11 +25,11 @@ use crate::tests::first_of_four;
 use crate::tests::limit_or_tolerance_verdict;
 use crate::tests::results_verdict;
 use figures::Figure;
-use figures::MOST_ANGLES;
 use figures::Named;
 use refusals::Refusal;
 use refusals::Verdict;
 use refusals::first_to_fail;
+use tables::MOST_ANGLES;
 
 // Document 01, "Units and ranges".
 const MOST_TOLERANCE: u32 = 50;
@@ -112,7 +112,7 @@ fn entries_verdict(
 pub fn second_lengths(f: Figure) -> SecondLengths
     ensures { λ r. ⌜ r ≡ secondLengths f ⌝ }
 {
-    let counts = figures::counts_of(f);
+    let counts = tables::counts_of(f);
     let angles = counts.angles;
     [
         angles,
@@ -155,7 +155,7 @@ fn corrections(f: Figure, angles: &[u32], sines: Sines) -> SecondWork
     requires { ⌜ natAbs (sines .misclosure) < 2 ^ 18 ⌝ }
     ensures { λ r. ⌜ Corrections f (now (angles .entry)) sines r ⌝ }
 {
-    let counts = figures::counts_of(f);
+    let counts = tables::counts_of(f);
     let misclosure = sines.misclosure;
     let squares = sines.squares;
     let reduced = sines.reduced;

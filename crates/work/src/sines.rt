@@ -47,12 +47,12 @@ pub fn sines_of(f: Figure, log_sines: &[u32], differences: &[i32]) -> Sines
     requires { ⌜ SineEntries (now «log_sines») (now differences) ⌝ }
     ensures { λ r. ⌜ r ≡ sinesOf f (now («log_sines» .entry)) (now (differences .entry)) ⌝ }
 {
-    let table = figures::signs_of(f);
+    let table = tables::signs_of(f);
     let signs = signed_column(&table);
     let unsigned = signed_column(differences);
     let signed = products(signs, unsigned);
     let reduced = reduced_coefficients(f, signed);
-    let count = figures::counts_of(f).angles;
+    let count = tables::counts_of(f).angles;
     let misclosure = dot_product(signs, column_of(log_sines), count);
     let squares = dot_product(reduced, reduced, count);
     let difference_squares = dot_product(signed, signed, count);
@@ -70,8 +70,8 @@ fn reduced_coefficients(f: Figure, d: Column) -> Column
     ensures { λ r. ⌜ r ≡ column (reducedCoefficient f (vector d)) ⌝ }
 {
     let sums = narrowed(condition_sums(f, d));
-    let denominator = figures::counts_of(f).denominator as i64;
-    sum_of(scaled(denominator, d), figures::numerators_of(f, sums))
+    let denominator = tables::counts_of(f).denominator as i64;
+    sum_of(scaled(denominator, d), tables::numerators_of(f, sums))
 }
 
 // Number 8.

@@ -6,7 +6,7 @@ ghost use Rattle.whole.specs.Sums.{dot, vector};
 ghost use Rattle.figures.specs.Numerators.{mostAngles};
 ghost use Rattle.work.specs.Column.{column, Below};
 use crate::columns::Column;
-use figures::MOST_ANGLES;
+use tables::MOST_ANGLES;
 
 // The given values, and 0 past their end.
 pub fn signed_column(values: &[i32]) -> Column

@@ -12,10 +12,10 @@ ghost use Rattle.work.specs.FirstPass.{shouldBe};
 use crate::columns::Column;
 use crate::columns::value_at;
 use figures::Figure;
-use figures::MOST_ANGLES;
-use figures::MOST_CONDITIONS;
 use figures::Target;
-use figures::Targets;
+use tables::MOST_ANGLES;
+use tables::MOST_CONDITIONS;
+use tables::Targets;
 
 // 180° and 360° in tenths of an arc second.
 const HALF_TURN: i64 = 6480000;
@@ -25,7 +25,7 @@ const FULL_TURN: i64 = 12960000;
 pub fn minus_targets(f: Figure, fixed: &[u32]) -> Column
     ensures { λ r. ⌜ r ≡ column (λ j. negℤ (shouldBe (targetOf f (suc j)) (now (fixed .entry)))) ⌝ }
 {
-    let targets = figures::targets_of(f);
+    let targets = tables::targets_of(f);
     let mut out = [0i64; MOST_ANGLES];
     let mut j = 0;
     while j < MOST_ANGLES {

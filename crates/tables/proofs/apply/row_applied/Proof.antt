@@ -1,4 +1,4 @@
--- `figures::apply::row_applied` meets its contract. The invariant: the total is the sum of the products passed, each below 100 · 2³¹.
+-- `tables::apply::row_applied` meets its contract. The invariant: the total is the sum of the products passed, each below 100 · 2³¹.
 use mathlib.Core.Path.{_≡_, refl, ap, ap₂, _∙_}
 use Prim.Native.Nat.{ℕ, _*_, _^_, _-_, _≤_, _<_}
 use native.Mathlib.Omega.{arith}
@@ -9,10 +9,10 @@ use mir.Syntax.{w32, w64}
 use mir.Val.{toZ, ofZ}
 use mir.Facts.{toZ-ofZ}
 use Rattle.whole.specs.Sums.{dot, sum, vector}
 use Rattle.figures.specs.Numerators.{mostConditions}
-use Rattle.figures.proofs.Small.{More, more}
-use Rattle.figures.proofs.apply.row_applied.Statement.{statement}
-use Rattle.figures.proofs.apply.row_applied.Tie as tie
+use Rattle.tables.proofs.Small.{More, more}
+use Rattle.tables.proofs.apply.row_applied.Statement.{statement}
+use Rattle.tables.proofs.apply.row_applied.Tie as tie
 
 abbrev Inv-loop : tie.InvT-loop
 Inv-loop row misclosures total₀ j₀ total j =

@@ -1,14 +1,14 @@
--- `figures::apply::rows_applied` meets its contract. The invariant: the numerators passed are filled in.
+-- `tables::apply::rows_applied` meets its contract. The invariant: the numerators passed are filled in.
 use mathlib.Core.Path.{refl, _∙_}
 use Prim.Native.Nat.{_-_}
 use native.Mathlib.Omega.{arith}
 use mir.Facts.{toZ-ofZ}
 use Rattle.whole.specs.Sums.{applied, table, vector}
 use Rattle.whole.proofs.Lists.{Filled, filled-none, filled-more, filled-all}
 use Rattle.figures.specs.Numerators.{mostAngles, mostConditions}
-use Rattle.figures.proofs.Small.{small-row}
-use Rattle.figures.proofs.apply.rows_applied.Statement.{statement}
-use Rattle.figures.proofs.apply.rows_applied.Tie as tie
+use Rattle.tables.proofs.Small.{small-row}
+use Rattle.tables.proofs.apply.rows_applied.Statement.{statement}
+use Rattle.tables.proofs.apply.rows_applied.Tie as tie
 
 abbrev Inv-loop : tie.InvT-loop
 Inv-loop misclosures rows numerators₀ i₀ numerators i = Filled mostAngles (applied mostConditions (table rows) (vector misclosures)) i numerators

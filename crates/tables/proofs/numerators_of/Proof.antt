@@ -1,4 +1,4 @@
--- `figures::numerators_of` meets its contract: the padded table's coefficients are small, and its rows applied are the figure's numerators.
+-- `tables::numerators_of` meets its contract: the padded table's coefficients are small, and its rows applied are the figure's numerators.
 use mathlib.Core.Path.{sym, ap, _∙_, subst}
 use mathlib.Core.List.{List}
 use borrow.Author.Needs.{needs}
@@ -7,11 +7,11 @@ use lib.IntN.{ℤ}
 use Rattle.whole.specs.Lists.{listed}
 use Rattle.whole.specs.Sums.{applied, table, vector}
 use Rattle.whole.proofs.Lists.{listed-ext}
 use Rattle.figures.specs.Numerators.{mostAngles, mostConditions, numerator, paddedRows, paddedNumerators}
-use Rattle.figures.specs.Small.{smallRows}
-use Rattle.figures.proofs.Padding.{padded-small, padded-numerator}
-use Rattle.figures.proofs.numerators_of.Statement.{statement}
-use Rattle.figures.proofs.numerators_of.Tie as tie
+use Rattle.tables.specs.Small.{smallRows}
+use Rattle.tables.proofs.Padding.{padded-small, padded-numerator}
+use Rattle.tables.proofs.numerators_of.Statement.{statement}
+use Rattle.tables.proofs.numerators_of.Tie as tie
 
 rows-of-requires : tie.Need-rows-of-requires
 rows-of-requires c κs = search needs

@@ -14,7 +14,7 @@ use Rattle.whole.specs.Sums.{dot, vector}
 use Rattle.whole.proofs.Computed.{and-left, and-right}
 use Rattle.whole.proofs.Magnitudes.{natAbs-add, magnitude-fits}
 use Rattle.whole.proofs.Sums.{dot-more}
-use Rattle.figures.specs.Small.{smallRow, smallRows}
+use Rattle.tables.specs.Small.{smallRow, smallRows}
 
 pub small-at : (row : List ℤ) → T (smallRow row) → (j : ℕ) → natAbs (vector row j) < 100
 unfolding smallRow

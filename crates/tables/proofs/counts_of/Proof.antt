@@ -1,9 +1,9 @@
--- `figures::counts_of` meets its contract: the constants that belong to each figure's type are the counts of its definition.
+-- `tables::counts_of` meets its contract: the constants that belong to each figure's type are the counts of its definition.
 use mathlib.Core.Path.{sym, ap, _∙_}
 use borrow.Author.Needs.{needs}
 use Rattle.figures.specs.Figure.{countsOf}
-use Rattle.figures.proofs.counts_of.Statement.{statement}
-use Rattle.figures.proofs.counts_of.Tie as tie
+use Rattle.tables.proofs.counts_of.Statement.{statement}
+use Rattle.tables.proofs.counts_of.Tie as tie
 
 pub counts-of-spec : {M : Type 1} → statement M
 counts-of-spec =

@@ -1,4 +1,4 @@
--- `figures::apply::product` meets its contract: the product of two 32-bit numbers fits 64 bits.
+-- `tables::apply::product` meets its contract: the product of two 32-bit numbers fits 64 bits.
 use mir.Syntax.{w32, w64}
 use mir.Facts.{fits-ofZ, sfits-toZ, sfits-widen, toZ-ofZ}
 use mir.Val.{toZ, ofZ}
@@ -6,8 +6,8 @@ use mathlib.Core.Path.{_≡_, ap₂, _∙_}
 use native.Mathlib.Nat.{mul-le-mul-left}
 use lib.IntN.{natAbs, _*ℤ_}
 use Rattle.whole.proofs.Magnitudes.{widened, product-fits, natAbs-mul, fits-magnitude}
-use Rattle.figures.proofs.apply.product.Statement.{statement}
-use Rattle.figures.proofs.apply.product.Tie as tie
+use Rattle.tables.proofs.apply.product.Statement.{statement}
+use Rattle.tables.proofs.apply.product.Tie as tie
 
 cast-result : tie.Need-cast-result
 cast-result c = sfits-widen tt (sfits-toZ (fits-ofZ (c .fits .a)))

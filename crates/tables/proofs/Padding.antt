@@ -12,11 +12,11 @@ use Rattle.whole.specs.Lists.{every, padded}
 use Rattle.whole.specs.Sums.{applied, dot, table, vector}
 use Rattle.whole.proofs.Lists.{length-padded, getD-padded, getD-any}
 use Rattle.whole.proofs.Sums.{applied-rows, sum-shorter}
 use Rattle.figures.specs.declared.Figure.{Figure}
 use Rattle.figures.specs.Figure.{description, angleCount, conditionCount, allFigures}
 use Rattle.figures.specs.Numerators.{numerator, mostAngles, mostConditions, paddedRows}
-use Rattle.figures.specs.Small.{smallRow, smallRows}
+use Rattle.tables.specs.Small.{smallRow, smallRows}
 use Rattle.figures.proofs.Figures.{each-figure, row-count, column-count, condition-bound}
 
 all-small : T (every (λ f. smallRows (paddedRows f)) allFigures)
 unfolding smallRows smallRow

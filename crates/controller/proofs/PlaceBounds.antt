@@ -25,17 +25,22 @@ use Rattle.figures.specs.declared.Named.{Named}
 use Rattle.figures.specs.declared.Named.the-variants.{As, Nothing}
 use Rattle.figures.specs.Figure.{figureOf, angleCount, conditionCount, fixedCount}
 use Rattle.figures.proofs.Figures.{angle-bound, condition-bound}
-use Rattle.sheets.specs.declared.Kind.{Kind}
-use Rattle.sheets.specs.declared.Kind.the-variants.{FirstPass, SecondPass}
-use Rattle.sheets.specs.declared.Lengths.{Lengths}
-use Rattle.sheets.specs.Ranges.{leastAngle, mostAngle, mostLimitOrTolerance}
-use Rattle.sheets.specs.Sheet.{Values, kindOf, lengthsOf, sheetSize, valuesRead, fillingOf}
-use Rattle.sheets.specs.Judging.{isNoKind, kindOrOther, isNoFigure, figureOrOther, kindNumberIn, codeIn, nIn, kindIn, figureIn, lowestSineEntry, headTests, bodyTests, readerTests, valueTests, nameTests, givenTests, writerTests, writingOf, lengthsGiven, sameLengths}
+use Rattle.layout.specs.declared.Kind.{Kind}
+use Rattle.layout.specs.declared.Kind.the-variants.{FirstPass, SecondPass}
+use Rattle.layout.specs.declared.Lengths.{Lengths}
+use Rattle.refusals.specs.Ranges.{leastAngle, mostAngle}
+use Rattle.sheets.specs.Judging.{mostLimitOrTolerance}
+use Rattle.sheets.specs.Sheet.{Values, valuesRead, fillingOf}
+use Rattle.layout.specs.Layout.{kindOf, lengthsOf, sheetSize}
+use Rattle.layout.specs.Head.{isNoKind, kindOrOther, isNoFigure, figureOrOther, kindNumberIn, codeIn, nIn, kindIn, figureIn, headTests, nameTests}
+use Rattle.sheets.specs.Judging.{lowestSineEntry, bodyTests, readerTests, valueTests, givenTests, writerTests, writingOf, lengthsGiven, sameLengths}
 use Rattle.sheets.proofs.Accepted.{equal-lengths}
-use Rattle.sheets.proofs.Positions.{fixed-bound}
+use Rattle.layout.proofs.Sizes.{fixed-bound}
 use Rattle.work.specs.Pass as pass
-use Rattle.work.specs.FirstPass.{mostLimit, corrected, misclosureFails, firstLengths, firstTests, firstPassTests, firstPassVerdict}
-use Rattle.work.specs.SecondPass.{leastLogSine, mostLogSine, mostDifference, mostTolerance, toleranceOf, sumOfSquares, sineMisclosure, differenceSquares, exceeds, secondAdjusted, secondLengths, secondTests, secondPassTests, secondPassVerdict}
+use Rattle.refusals.specs.Ranges.{mostLimit}
+use Rattle.work.specs.FirstPass.{corrected, misclosureFails, firstLengths, firstTests, firstPassTests, firstPassVerdict}
+use Rattle.refusals.specs.Ranges.{leastLogSine, mostLogSine, mostDifference, mostTolerance}
+use Rattle.work.specs.SecondPass.{toleranceOf, sumOfSquares, sineMisclosure, differenceSquares, exceeds, secondAdjusted, secondLengths, secondTests, secondPassTests, secondPassVerdict}
 use Rattle.work.proofs.LengthLaws.{same-lists}
 use Rattle.controller.specs.Answer.{placeStep, placeIn}
 

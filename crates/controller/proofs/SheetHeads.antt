@@ -11,14 +11,16 @@ use Rattle.refusals.specs.declared.Verdict.the-variants.{Passed, Failed}
 use Rattle.refusals.specs.Order.{answerOf, failsIf}
 use Rattle.figures.specs.declared.Figure.{Figure}
 use Rattle.figures.specs.declared.Figure.the-variants.{Quadrilateral, PointInTriangle, CentralTriangle, CentralQuadrilateral, CentralPentagon, CentralHexagon, CentralHeptagon, CentralOctagon}
-use Rattle.sheets.specs.declared.Kind.{Kind}
-use Rattle.sheets.specs.declared.Lengths.{Lengths}
-use Rattle.sheets.specs.declared.Look.{Look}
-use Rattle.sheets.specs.declared.Look.the-variants.{Head}
+use Rattle.layout.specs.declared.Kind.{Kind}
+use Rattle.layout.specs.declared.Lengths.{Lengths}
+use Rattle.layout.specs.declared.Look.{Look}
+use Rattle.layout.specs.declared.Look.the-variants.{Head}
 use Rattle.sheets.specs.declared.Reading.{Reading}
 use Rattle.sheets.specs.declared.Reading.the-variants.{Read}
-use Rattle.sheets.specs.Sheet.{Values, lengthsOf, valuesRead}
-use Rattle.sheets.specs.Judging.{kindIn, figureIn, headTests, readerTests, sameLengths, lookAfter, readingAfter, lookOf, readingOf, afterReading}
+use Rattle.sheets.specs.Sheet.{Values, valuesRead}
+use Rattle.layout.specs.Layout.{lengthsOf}
+use Rattle.layout.specs.Head.{kindIn, figureIn, headTests, lookAfter, lookOf}
+use Rattle.sheets.specs.Judging.{readerTests, sameLengths, readingAfter, readingOf, afterReading}
 use Rattle.sheets.proofs.Accepted.{after-passes, after-fails}
 use Rattle.controller.specs.Answer.{numberAndPlace, answerNumber, afterAnswer}
 use Rattle.controller.specs.Heads.{lookHeadLength, lookAnswer, lookHead, headLooked, readHeadLength, readAnswer, readHead, headRead, valuesIn, lengthsOfNoSheet}

@@ -7,10 +7,12 @@ use Rattle.refusals.specs.declared.Refusal.{Refusal}
 use Rattle.refusals.specs.Order.{answerOf, failsIf}
 use Rattle.figures.specs.declared.Figure.{Figure}
 use Rattle.figures.specs.Figure.{description, conditionCount}
-use Rattle.sheets.specs.declared.Kind.{Kind}
-use Rattle.sheets.specs.declared.Lengths.{Lengths}
-use Rattle.sheets.specs.Sheet.{Values, numberOfKind, lengthsFrom, lengthsOf, valuesRead}
-use Rattle.sheets.specs.Judging.{kindIn, figureIn, headTests, readerTests}
+use Rattle.layout.specs.declared.Kind.{Kind}
+use Rattle.layout.specs.declared.Lengths.{Lengths}
+use Rattle.sheets.specs.Sheet.{Values, valuesRead}
+use Rattle.layout.specs.Layout.{numberOfKind, lengthsFrom, lengthsOf}
+use Rattle.layout.specs.Head.{kindIn, figureIn, headTests}
+use Rattle.sheets.specs.Judging.{readerTests}
 use Rattle.controller.specs.Answer.{answerNumber}
 
 -- ---- a look: kind, code, n, and how many angles, fixed angles, log-sines and conditions

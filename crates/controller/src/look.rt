@@ -1,7 +1,7 @@
 // A look at the head of a sheet: what it is for, and how long the slices are that its values need.
 ghost use mathlib.Core.Path.{_≡_};
 ghost use lib.ListN.{length};
-ghost use Rattle.sheets.specs.Sheet.{numberOfKind};
+ghost use Rattle.layout.specs.Layout.{numberOfKind};
 ghost use Rattle.controller.specs.Answer.{afterAnswer};
 ghost use Rattle.controller.specs.Heads.{lookAnswer, lookHead, headLooked};
 use crate::answer::DONE;

@@ -2,7 +2,7 @@
 ghost use mathlib.Core.Path.{_≡_};
 ghost use lib.ListN.{length};
 ghost use Rattle.sheets.specs.declared.Reading.{Reading};
-ghost use Rattle.sheets.specs.Sheet.{lengthsFrom};
+ghost use Rattle.layout.specs.Layout.{lengthsFrom};
 ghost use Rattle.sheets.specs.Judging.{readingOf};
 ghost use Rattle.controller.specs.Answer.{afterAnswer};
 ghost use Rattle.controller.specs.Heads.{lengthsOfNoSheet, readAnswer, readHead, headRead, valuesIn};

@@ -15,6 +15,7 @@ use Rattle.whole.proofs.Order.{zero-≤ℤ-pos, ≤ℤ-trans}
 use Rattle.refusals.specs.declared.Refusal.{Refusal}
 use Rattle.refusals.specs.declared.Verdict.{Verdict}
 use Rattle.refusals.specs.declared.Verdict.the-variants.{Passed, Failed}
+use Rattle.refusals.specs.Ranges.{leastAngle}
 use Rattle.figures.specs.declared.Figure.{Figure}
 use Rattle.figures.specs.declared.Named.{Named}
 use Rattle.figures.specs.Figure.{angleCount, conditionCount, figureOf}
@@ -24,7 +25,7 @@ use Rattle.work.specs.declared.second.SecondAnswer.{SecondAnswer}
 use Rattle.work.specs.declared.second.SecondAnswer.the-variants.{Done, Refused}
 use Rattle.work.specs.declared.second.SecondWork.{SecondWork}
 use Rattle.work.specs.Column.{column}
-use Rattle.work.specs.Pass.{leastAngle, mostAngle, ofNamed}
+use Rattle.work.specs.Pass.{ofNamed}
 use Rattle.work.specs.SecondPass.{secondReduced, sineMisclosure, sumOfSquares, secondNumerator, secondRounded, secondAdjusted, secondRest, secondLengths, secondPassVerdict, secondAnswerOf, secondPassAnswer, forAngles, forConditions}
 use Rattle.work.specs.SecondWork.{secondWorkOf, refusedWork, figureWork, sheetWork, Storable}
 use Rattle.work.proofs.ColumnLaws.{column-at}

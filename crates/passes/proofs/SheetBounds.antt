@@ -5,9 +5,9 @@ use Rattle.whole.specs.Lists.{every}
 use Rattle.figures.specs.declared.Figure.{Figure}
 use Rattle.figures.specs.Figure.{fixedCount, allFigures}
 use Rattle.figures.proofs.Figures.{each-figure, angle-bound}
-use Rattle.sheets.specs.declared.Kind.{Kind}
-use Rattle.sheets.specs.declared.Kind.the-variants.{FirstPass, SecondPass}
-use Rattle.sheets.specs.Sheet.{lengthsOf}
+use Rattle.layout.specs.declared.Kind.{Kind}
+use Rattle.layout.specs.declared.Kind.the-variants.{FirstPass, SecondPass}
+use Rattle.layout.specs.Layout.{lengthsOf}
 
 all-few : T (every (λ f. leb (fixedCount f) 3) allFigures)
 all-few = tt

@@ -11,14 +11,16 @@ use Rattle.refusals.specs.Order.{answerOf}
 use Rattle.figures.specs.Numerators.{mostAngles}
 use Rattle.figures.specs.declared.Figure.{Figure}
 use Rattle.figures.specs.Figure.{angleCount}
-use Rattle.sheets.specs.declared.Kind.{Kind}
-use Rattle.sheets.specs.declared.Kind.the-variants.{FirstPass, SecondPass}
-use Rattle.sheets.specs.declared.Look.{Look}
-use Rattle.sheets.specs.declared.Look.the-variants.{Head}
+use Rattle.layout.specs.declared.Kind.{Kind}
+use Rattle.layout.specs.declared.Kind.the-variants.{FirstPass, SecondPass}
+use Rattle.layout.specs.declared.Look.{Look}
+use Rattle.layout.specs.declared.Look.the-variants.{Head}
+use Rattle.layout.specs.Head.{lookOf}
+use Rattle.layout.specs.Layout.{lengthsOf, fixedIn, sineEntriesIn}
 use Rattle.sheets.specs.declared.Reading.{Reading}
 use Rattle.sheets.specs.declared.Reading.the-variants.{Read}
-use Rattle.sheets.specs.Judging.{lookOf, readingOf, afterReading}
-use Rattle.sheets.specs.Sheet.{lengthsOf, valuesRead, fixedIn, sineEntriesIn}
+use Rattle.sheets.specs.Judging.{readingOf, afterReading}
+use Rattle.sheets.specs.Sheet.{valuesRead}
 use Rattle.work.specs.declared.first.FirstWork.{FirstWork}
 use Rattle.work.specs.declared.second.SecondWork.{SecondWork}
 use Rattle.passes.specs.declared.worked.Outcome.{Outcome}

@@ -2,8 +2,17 @@
 // answered (document 01, "Numbers given when a sheet is turned back"). Places are counted from 1, as the paper counts
 // angles, fixed angles and conditions.
 mod signed;
+mod units;
 
 pub use signed::lowest_signed_outside;
+pub use units::LEAST_ANGLE;
+pub use units::LEAST_DIFFERENCE;
+pub use units::LEAST_LOG_SINE;
+pub use units::MOST_ANGLE;
+pub use units::MOST_DIFFERENCE;
+pub use units::MOST_LIMIT;
+pub use units::MOST_LOG_SINE;
+pub use units::MOST_TOLERANCE;
 ghost use mathlib.Core.Path.{_≡_};
 ghost use mathlib.Core.List.{[], _∷_};
 ghost use Rattle.refusals.specs.Numbers.{numberOf, placeOf};

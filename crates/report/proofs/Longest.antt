@@ -15,21 +15,24 @@ use Rattle.refusals.specs.declared.Verdict.{Verdict}
 use Rattle.refusals.specs.declared.Verdict.the-variants.{Passed, Failed}
 use Rattle.refusals.specs.Numbers.{placeOf}
 use Rattle.refusals.specs.Order.{answerOf}
+use Rattle.refusals.specs.Ranges.{mostDifference}
 use Rattle.figures.specs.declared.Figure.{Figure}
 use Rattle.figures.specs.Figure.{denominator, angleCount, conditionCount}
 use Rattle.figures.specs.Numerators.{mostAngles}
 use Rattle.figures.proofs.Figures.{angle-bound, condition-bound}
-use Rattle.sheets.specs.declared.Kind.{Kind}
-use Rattle.sheets.specs.declared.Kind.the-variants.{FirstPass, SecondPass}
-use Rattle.sheets.specs.declared.Look.the-variants.{Head}
+use Rattle.layout.specs.declared.Kind.{Kind}
+use Rattle.layout.specs.declared.Kind.the-variants.{FirstPass, SecondPass}
+use Rattle.layout.specs.declared.Look.the-variants.{Head}
+use Rattle.layout.specs.Layout.{lengthsOf}
+use Rattle.layout.specs.Head.{kindIn, figureIn, headTests, lookAfter, lookOf}
 use Rattle.sheets.specs.declared.Reading.the-variants.{Read}
-use Rattle.sheets.specs.Sheet.{lengthsOf, valuesRead}
-use Rattle.sheets.specs.Judging.{kindIn, figureIn, headTests, readerTests, lookAfter, readingAfter, lookOf, readingOf}
+use Rattle.sheets.specs.Sheet.{valuesRead}
+use Rattle.sheets.specs.Judging.{readerTests, readingAfter, readingOf}
 use Rattle.passes.specs.declared.worked.WorkedSheet.{WorkedSheet}
 use Rattle.work.specs.Column.{column}
 use Rattle.work.specs.Pass.{given}
 use Rattle.work.specs.FirstPass.{firstLengths, firstTests}
-use Rattle.work.specs.SecondPass.{mostDifference, sineMisclosure, sumOfSquares, differenceSquares, secondReduced, secondNumerator, secondRounded, secondAdjusted, secondRest, secondLengths, secondTests}
+use Rattle.work.specs.SecondPass.{sineMisclosure, sumOfSquares, differenceSquares, secondReduced, secondNumerator, secondRounded, secondAdjusted, secondRest, secondLengths, secondTests}
 use Rattle.work.specs.SecondWork.{mostDenominator, SineEntries, secondWorkOf}
 use Rattle.work.specs.FirstWork.{StoreFits, firstWorkOf}
 use Rattle.passes.specs.Worked.{refusedSheet, shownIf, firstShown, firstSheet, secondShown, secondSheet, workedRead, workedLook, workedOf}

@@ -16,20 +16,22 @@ use Rattle.refusals.specs.declared.Lowest.{Lowest}
 use Rattle.refusals.specs.declared.Lowest.the-variants.{Nowhere, At}
 use Rattle.refusals.specs.Numbers.{placeOf}
 use Rattle.refusals.specs.Order.{answerOf, failsIf, failsAt, earlierOf, lowestPlace}
+use Rattle.refusals.specs.Ranges.{mostLimit, mostTolerance}
 use Rattle.refusals.proofs.Answers.{answer-of-one, answer-of-append}
 use Rattle.refusals.proofs.Places.{lowest-is}
 use Rattle.figures.specs.declared.Figure.{Figure}
 use Rattle.figures.specs.Figure.{angleCount, figureOf}
 use Rattle.figures.specs.Numerators.{mostAngles}
 use Rattle.figures.proofs.Figures.{angle-bound, condition-bound}
-use Rattle.sheets.specs.declared.Kind.{Kind}
-use Rattle.sheets.specs.declared.Lengths.{Lengths}
-use Rattle.sheets.specs.Ranges.{mostLimitOrTolerance}
-use Rattle.sheets.specs.Sheet.{kindOf, fixedIn, sineEntriesIn, lengthsOf, sheetSize, valuesRead, fillingOf}
-use Rattle.sheets.specs.Judging.{isNoKind, isNoFigure, sameLengths, kindNumberIn, codeIn, nIn, kindIn, figureIn, headTests, bodyTests, readerTests}
+use Rattle.layout.specs.declared.Kind.{Kind}
+use Rattle.layout.specs.declared.Lengths.{Lengths}
+use Rattle.layout.specs.Layout.{kindOf, fixedIn, sineEntriesIn, lengthsOf, sheetSize}
+use Rattle.layout.specs.Head.{isNoKind, isNoFigure, kindNumberIn, codeIn, nIn, kindIn, figureIn, headTests}
+use Rattle.sheets.specs.Sheet.{valuesRead, fillingOf}
+use Rattle.sheets.specs.Judging.{mostLimitOrTolerance, sameLengths, bodyTests, readerTests}
 use Rattle.work.specs.Pass as Pass
-use Rattle.work.specs.FirstPass.{mostLimit, firstLengths, firstTests}
-use Rattle.work.specs.SecondPass.{mostTolerance, toleranceOf, sumOfSquares, sineMisclosure, differenceSquares, exceeds, secondLengths, secondTests}
+use Rattle.work.specs.FirstPass.{firstLengths, firstTests}
+use Rattle.work.specs.SecondPass.{toleranceOf, sumOfSquares, sineMisclosure, differenceSquares, exceeds, secondLengths, secondTests}
 use Rattle.passes.proofs.SheetBounds as SheetBounds
 
 -- ---- one test

@@ -6,32 +6,35 @@ use mathlib.Core.Path.{_≡_, refl, sym, ap, ap₂, subst, _∙_}
 use native.Mathlib.Omega.{arith}
 use borrow.Author.Tests.{eqb-true, eq-eqb, ne-eqb, not-false}
 use lib.Dec.{eqb, lit<}
+use lib.IntN.{pos, negℤ}
 use lib.ListN.{length}
 use Rattle.refusals.specs.declared.Refusal.{Refusal}
 use Rattle.refusals.specs.declared.Verdict.{Verdict}
 use Rattle.refusals.specs.declared.Verdict.the-variants.{Passed, Failed}
 use Rattle.refusals.specs.declared.Lowest.{Lowest}
 use Rattle.refusals.specs.Order.{answerOf, failsIf, earlierOf, lowestOutside, lowestSignedOutside}
+use Rattle.refusals.specs.Ranges.{leastAngle, mostAngle, leastLogSine, mostLogSine, mostDifference}
 use Rattle.refusals.proofs.Answers.{answer-passes, answer-of-append, answer-of-cons, answer-of-one, cons-passes}
 use Rattle.refusals.proofs.Verdicts.{if-passes}
 use Rattle.figures.specs.declared.Figure.{Figure}
 use Rattle.figures.specs.declared.Named.{Named}
 use Rattle.figures.specs.declared.Named.the-variants.{As, Nothing}
 use Rattle.figures.specs.Figure.{figureOf}
-use Rattle.sheets.specs.declared.Kind.{Kind}
-use Rattle.sheets.specs.declared.NamedKind.{NamedKind}
-use Rattle.sheets.specs.declared.NamedKind.the-variants.{Is, NoKind}
-use Rattle.sheets.specs.declared.Lengths.{Lengths}
-use Rattle.sheets.specs.declared.Look.{Look}
-use Rattle.sheets.specs.declared.Look.the-variants.{Head}
+use Rattle.layout.specs.declared.Kind.{Kind}
+use Rattle.layout.specs.declared.NamedKind.{NamedKind}
+use Rattle.layout.specs.declared.NamedKind.the-variants.{Is, NoKind}
+use Rattle.layout.specs.declared.Lengths.{Lengths}
+use Rattle.layout.specs.declared.Look.{Look}
+use Rattle.layout.specs.declared.Look.the-variants.{Head}
+use Rattle.layout.specs.Layout.{kindOf, lengthsFrom, lengthsOf, sheetSize}
+use Rattle.layout.specs.Head.{isNoKind, isNoFigure, kindOrOther, figureOrOther, nameTests, kindNumberIn, codeIn, nIn, kindIn, figureIn, headTests, lookAfter, lookOf, headOf}
+use Rattle.layout.proofs.Naming.{Names, named, long-enough, kind-field, code-field, n-field}
 use Rattle.sheets.specs.declared.Reading.{Reading}
 use Rattle.sheets.specs.declared.Reading.the-variants.{Read}
-use Rattle.sheets.specs.Ranges.{leastAngle, mostAngle, leastLogSine, mostLogSine, leastDifference, mostDifference}
-use Rattle.sheets.specs.Sheet.{Values, kindOf, lengthsFrom, lengthsOf, sheetSize, valuesRead, fillingOf, packedSheet}
-use Rattle.sheets.specs.Judging.{isNoKind, isNoFigure, kindOrOther, figureOrOther, nameTests, rangeTests, valueTests, sameLengths, kindNumberIn, codeIn, nIn, kindIn, figureIn, headTests, bodyTests, readerTests, lookAfter, readingAfter, lookOf, readingOf, afterReading, lengthsGiven, givenTests, headOf, writerTests, writingOf, sheetGiven}
+use Rattle.sheets.specs.Sheet.{Values, valuesRead, fillingOf, packedSheet}
+use Rattle.sheets.specs.Judging.{rangeTests, valueTests, sameLengths, bodyTests, readerTests, readingAfter, readingOf, afterReading, lengthsGiven, givenTests, writerTests, writingOf, sheetGiven}
 use Rattle.sheets.specs.Parts.{readingFrom}
 use Rattle.sheets.proofs.Judged.{values-judged}
-use Rattle.sheets.proofs.Naming.{Names, named, long-enough, kind-field, code-field, n-field}
 
 -- ---- lengths
 
@@ -223,7 +226,7 @@ module _ (kind : Kind) (f : Figure) (v : Values) (size : ℕ) where
       → angle ≡ lowestOutside (v .angles) leastAngle mostAngle
       → fixedAngle ≡ lowestOutside (v .fixed) leastAngle mostAngle
       → logSine ≡ lowestOutside (v .logSines) leastLogSine mostLogSine
-      → difference ≡ lowestSignedOutside (v .differences) leastDifference mostDifference
+      → difference ≡ lowestSignedOutside (v .differences) (negℤ (pos mostDifference)) (pos mostDifference)
       → values ≡ answerOf (rangeTests kind (v .limitOrTolerance) angle fixedAngle (earlierOf logSine difference))
       → verdict ≡ answerOf (lengths ∷ values ∷ [])
       → verdict ≡ answerOf (givenTests kind f v size)

@@ -8,13 +8,14 @@ use mathlib.Core.Path.{_≡_, refl, sym, ap, _∙_}
 use native.Mathlib.Omega.{arith}
 use borrow.Author.Tests.{ltb-true, lt-ltb, eqb-true, eqb-false, eq-eqb, ne-eqb, not-true}
 use lib.Dec.{ltb, eqb}
-use lib.IntN.{ℤ, pos}
+use lib.IntN.{ℤ, pos, negℤ}
 use lib.ListN.{length}
 use lib.Signed.{_<ℤ_}
 use Rattle.refusals.specs.declared.Refusal.{Refusal}
 use Rattle.refusals.specs.declared.Verdict.{Verdict}
 use Rattle.refusals.specs.declared.Verdict.the-variants.{Passed, Failed}
 use Rattle.refusals.specs.Order.{answerOf, failsIf, failsAt, lowestPlace, outside, outsideSigned, numbered}
+use Rattle.refusals.specs.Ranges.{leastAngle, mostAngle, leastLogSine, mostLogSine, mostDifference}
 use Rattle.refusals.proofs.Answers.{cons-fails, cons-passes}
 use Rattle.refusals.proofs.Ranges.{beyond-range, beyond-signed-range}
 use Rattle.refusals.proofs.Verdicts.{if-fails, search-fails}
@@ -23,19 +24,20 @@ use Rattle.figures.specs.declared.Named.{Named}
 use Rattle.figures.specs.declared.Named.the-variants.{As, Nothing}
 use Rattle.figures.specs.Figure.{description, figureOf}
 use Rattle.figures.proofs.Naming.{named-exactly}
-use Rattle.sheets.specs.declared.Kind.{Kind}
-use Rattle.sheets.specs.declared.Kind.the-variants.{FirstPass, SecondPass}
-use Rattle.sheets.specs.declared.NamedKind.{NamedKind}
-use Rattle.sheets.specs.declared.NamedKind.the-variants.{Is, NoKind}
-use Rattle.sheets.specs.declared.Lengths.{Lengths}
-use Rattle.sheets.specs.declared.Look.{Look}
-use Rattle.sheets.specs.declared.Look.the-variants.{Head}
+use Rattle.layout.specs.declared.Kind.{Kind}
+use Rattle.layout.specs.declared.Kind.the-variants.{FirstPass, SecondPass}
+use Rattle.layout.specs.declared.NamedKind.{NamedKind}
+use Rattle.layout.specs.declared.NamedKind.the-variants.{Is, NoKind}
+use Rattle.layout.specs.declared.Lengths.{Lengths}
+use Rattle.layout.specs.declared.Look.{Look}
+use Rattle.layout.specs.declared.Look.the-variants.{Head}
+use Rattle.layout.specs.Layout.{kindOf, lengthsOf, sheetSize}
+use Rattle.layout.specs.Head.{isNoKind, isNoFigure, kindOrOther, figureOrOther, kindNumberIn, codeIn, nIn, kindIn, figureIn, headTests, lookAfter, lookOf}
+use Rattle.layout.proofs.Naming.{kind-exactly}
 use Rattle.sheets.specs.declared.Reading.{Reading}
 use Rattle.sheets.specs.declared.Reading.the-variants.{Read}
-use Rattle.sheets.specs.Ranges.{leastAngle, mostAngle, leastLogSine, mostLogSine, leastDifference, mostDifference, mostLimitOrTolerance}
-use Rattle.sheets.specs.Sheet.{kindOf, lengthsOf, sheetSize, Values, valuesRead, fillingOf}
-use Rattle.sheets.specs.Judging.{isNoKind, isNoFigure, kindOrOther, figureOrOther, sameLengths, valueTests, kindNumberIn, codeIn, nIn, kindIn, figureIn, headTests, bodyTests, readerTests, lookAfter, readingAfter, lookOf, readingOf, lengthsGiven, givenTests, writerTests, writingOf}
-use Rattle.sheets.proofs.Naming.{kind-exactly}
+use Rattle.sheets.specs.Sheet.{Values, valuesRead, fillingOf}
+use Rattle.sheets.specs.Judging.{mostLimitOrTolerance, sameLengths, valueTests, bodyTests, readerTests, readingAfter, readingOf, lengthsGiven, givenTests, writerTests, writingOf}
 use Rattle.sheets.proofs.Accepted.{equal-lengths, lengths-equal}
 
 -- ---- cases, and which of them is given
@@ -87,7 +89,7 @@ valueCases kind v =
     ∷ GivenAt Refusal.AngleOutOfRange (λ p. Beyond leastAngle mostAngle (numbered (v .angles) p 0)) (length (v .angles))
     ∷ GivenAt Refusal.FixedAngleOutOfRange (λ p. Beyond leastAngle mostAngle (numbered (v .fixed) p 0)) (length (v .fixed))
     ∷ GivenAt Refusal.SineEntryOutOfRange
-    (λ p. Beyond leastLogSine mostLogSine (numbered (v .logSines) p 0) ⊎ BeyondSigned leastDifference mostDifference (numbered (v .differences) p (pos 0)))
+    (λ p. Beyond leastLogSine mostLogSine (numbered (v .logSines) p 0) ⊎ BeyondSigned (negℤ (pos mostDifference)) (pos mostDifference) (numbered (v .differences) p (pos 0)))
     (length (v .logSines))
     ∷ []
 
@@ -225,10 +227,10 @@ values-agree kind v = (
           (λ p. beyond-range leastAngle mostAngle (numbered (v .fixed) p 0)),
       (
         at-agrees Refusal.SineEntryOutOfRange
-            (λ p. outside leastLogSine mostLogSine (numbered (v .logSines) p 0) || outsideSigned leastDifference mostDifference (numbered (v .differences) p (pos 0)))
+            (λ p. outside leastLogSine mostLogSine (numbered (v .logSines) p 0) || outsideSigned (negℤ (pos mostDifference)) (pos mostDifference) (numbered (v .differences) p (pos 0)))
             (length (v .logSines))
-            (λ p. either (outside leastLogSine mostLogSine (numbered (v .logSines) p 0)) (outsideSigned leastDifference mostDifference (numbered (v .differences) p (pos 0)))
-            (beyond-range leastLogSine mostLogSine (numbered (v .logSines) p 0)) (beyond-signed-range leastDifference mostDifference (numbered (v .differences) p (pos 0)))),
+            (λ p. either (outside leastLogSine mostLogSine (numbered (v .logSines) p 0)) (outsideSigned (negℤ (pos mostDifference)) (pos mostDifference) (numbered (v .differences) p (pos 0)))
+            (beyond-range leastLogSine mostLogSine (numbered (v .logSines) p 0)) (beyond-signed-range (negℤ (pos mostDifference)) (pos mostDifference) (numbered (v .differences) p (pos 0)))),
         tt,
       ),
     ),

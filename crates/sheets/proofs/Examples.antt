@@ -10,12 +10,14 @@ use Rattle.refusals.specs.Order.{answerOf, lowestPlace}
 use Rattle.bits.specs.Bits.{odd, bits, digit, value, bitsOf, firstByte, bytesFrom, byteCount, fillingWidth, bytesOf, inside, fieldAt, packedBits, totalWidth, halfRange, signedOf, fitsSigned, twosComplement}
 use Rattle.figures.specs.declared.Figure.the-variants.{Quadrilateral}
 use Rattle.figures.specs.Figure.{figureOf}
-use Rattle.sheets.specs.declared.Kind.the-variants.{FirstPass, SecondPass}
-use Rattle.sheets.specs.declared.Lengths.{Lengths}
+use Rattle.layout.specs.declared.Kind.the-variants.{FirstPass, SecondPass}
+use Rattle.layout.specs.declared.Lengths.{Lengths}
+use Rattle.layout.specs.Layout.{layout, bitCount, sheetSize, same, positionOf, held, lengthsOf}
+use Rattle.layout.specs.Head.{headTests}
 use Rattle.sheets.specs.declared.Reading.{Reading}
 use Rattle.sheets.specs.declared.Reading.the-variants.{Read}
-use Rattle.sheets.specs.Sheet.{Values, layout, bitCount, sheetSize, same, positionOf, held, valuesRead, fillingOf, packedSheet, lengthsOf, valuesFrom}
-use Rattle.sheets.specs.Judging.{headTests, bodyTests, readerTests, readingOf}
+use Rattle.sheets.specs.Sheet.{Values, valuesRead, fillingOf, packedSheet, valuesFrom}
+use Rattle.sheets.specs.Judging.{bodyTests, readerTests, readingOf}
 
 empty-sheet : (lent : Lengths) → readingOf [] lent ≡ Reading.Refused Refusal.WrongSheetLength
 unfolding readingOf readerTests headTests answerOf

@@ -13,8 +13,9 @@ use Rattle.bits.proofs.Bytes.{length-bitsOf}
 use Rattle.bits.proofs.Fields.{is-inside, fieldAt-is, bits-fieldAt}
 use Rattle.bits.proofs.Numbers.{bits-zero, value-bits}
 use Rattle.figures.specs.declared.Figure.{Figure}
-use Rattle.sheets.specs.declared.Kind.{Kind}
-use Rattle.sheets.specs.Sheet.{bitCount, sheetSize, fillingOf}
+use Rattle.layout.specs.declared.Kind.{Kind}
+use Rattle.layout.specs.Layout.{bitCount, sheetSize}
+use Rattle.sheets.specs.Sheet.{fillingOf}
 
 module _ (kind : Kind) (f : Figure) (s : List ℕ) (size : length s ≡ sheetSize kind f) where
   abbrev end : ℕ

@@ -5,19 +5,19 @@ use mathlib.Core.Path.{_≡_, refl}
 use native.Mathlib.Omega.{arith}
 use borrow.Author.Tests.{ltb-false}
 use lib.Dec.{ltb, leb→le, lit<}
-use lib.IntN.{ℤ, pos, negsuc}
+use lib.IntN.{ℤ, pos, negsuc, negℤ}
 use lib.ListN.{length, getD}
 use lib.Signed.{mag, _≤ℤ_}
 use Rattle.refusals.specs.declared.Refusal.{Refusal}
 use Rattle.refusals.specs.declared.Verdict.the-variants.{Passed}
 use Rattle.refusals.specs.Order.{answerOf, outside, outsideSigned, numbered}
+use Rattle.refusals.specs.Ranges.{leastAngle, mostAngle, leastLogSine, mostLogSine, mostDifference}
 use Rattle.refusals.proofs.Answers.{answer-passes}
 use Rattle.refusals.proofs.Ranges.{within-range, within-signed-range}
 use Rattle.refusals.proofs.Verdicts.{if-passes, search-passes}
-use Rattle.sheets.specs.declared.Kind.{Kind}
-use Rattle.sheets.specs.Ranges.{leastAngle, mostAngle, leastLogSine, mostLogSine, leastDifference, mostDifference, mostLimitOrTolerance}
+use Rattle.layout.specs.declared.Kind.{Kind}
 use Rattle.sheets.specs.Sheet.{Values}
-use Rattle.sheets.specs.Judging.{valueTests}
+use Rattle.sheets.specs.Judging.{mostLimitOrTolerance, valueTests}
 
 pub record InRange (kind : Kind) (v : Values) : Type 0 where
   pub limitOrTolerance : v .limitOrTolerance ≤ mostLimitOrTolerance kind
@@ -25,7 +25,7 @@ pub record InRange (kind : Kind) (v : Values) : Type 0 where
   pub fixed : (i : ℕ) → i < length (v .fixed) → (leastAngle ≤ getD (v .fixed) i 0) × (getD (v .fixed) i 0 ≤ mostAngle)
   pub logSines : (i : ℕ) → i < length (v .logSines) → (leastLogSine ≤ getD (v .logSines) i 0) × (getD (v .logSines) i 0 ≤ mostLogSine)
   pub differences : (i : ℕ) → i < length (v .logSines)
-      → (leastDifference ≤ℤ getD (v .differences) i (pos 0)) × (getD (v .differences) i (pos 0) ≤ℤ mostDifference)
+      → (negℤ (pos mostDifference) ≤ℤ getD (v .differences) i (pos 0)) × (getD (v .differences) i (pos 0) ≤ℤ pos mostDifference)
 
 neither : (a b : Bool) → (a || b) ≡ false → (a ≡ false) × (b ≡ false)
 neither true b e = (e, cc)
@@ -37,20 +37,20 @@ in-range kind v e =
     let angle = search-passes Refusal.AngleOutOfRange (λ place. outside leastAngle mostAngle (numbered (v .angles) place 0)) (length (v .angles)) .0 (each 1 (lit< tt)) in
     let fixed = search-passes Refusal.FixedAngleOutOfRange (λ place. outside leastAngle mostAngle (numbered (v .fixed) place 0)) (length (v .fixed)) .0 (each 2 (lit< tt)) in
     let sine = search-passes Refusal.SineEntryOutOfRange
-    (λ place. outside leastLogSine mostLogSine (numbered (v .logSines) place 0) || outsideSigned leastDifference mostDifference (numbered (v .differences) place (pos 0)))
+    (λ place. outside leastLogSine mostLogSine (numbered (v .logSines) place 0) || outsideSigned (negℤ (pos mostDifference)) (pos mostDifference) (numbered (v .differences) place (pos 0)))
     (length (v .logSines)) .0 (each 3 (lit< tt)) in
     let both : (i : ℕ) → i < length (v .logSines)
-    → (outside leastLogSine mostLogSine (getD (v .logSines) i 0) ≡ false) × (outsideSigned leastDifference mostDifference (getD (v .differences) i (pos 0)) ≡ false) =
-    λ i l. neither (outside leastLogSine mostLogSine (getD (v .logSines) i 0)) (outsideSigned leastDifference mostDifference (getD (v .differences) i (pos 0))) (sine (suc i) (omega arith) l) in
+    → (outside leastLogSine mostLogSine (getD (v .logSines) i 0) ≡ false) × (outsideSigned (negℤ (pos mostDifference)) (pos mostDifference) (getD (v .differences) i (pos 0)) ≡ false) =
+    λ i l. neither (outside leastLogSine mostLogSine (getD (v .logSines) i 0)) (outsideSigned (negℤ (pos mostDifference)) (pos mostDifference) (getD (v .differences) i (pos 0))) (sine (suc i) (omega arith) l) in
     record {
       limitOrTolerance = ltb-false (mostLimitOrTolerance kind) (v .limitOrTolerance) (if-passes (ltb (mostLimitOrTolerance kind) (v .limitOrTolerance)) Refusal.LimitOrToleranceOutOfRange .0 (each 0 (lit< tt)));
       angles = λ i l. within-range leastAngle mostAngle (getD (v .angles) i 0) .0 (angle (suc i) (omega arith) l);
       fixed = λ i l. within-range leastAngle mostAngle (getD (v .fixed) i 0) .0 (fixed (suc i) (omega arith) l);
       logSines = λ i l. within-range leastLogSine mostLogSine (getD (v .logSines) i 0) .0 (both i l .0);
-      differences = λ i l. within-signed-range leastDifference mostDifference (getD (v .differences) i (pos 0)) .0 (both i l .1);
+      differences = λ i l. within-signed-range (negℤ (pos mostDifference)) (pos mostDifference) (getD (v .differences) i (pos 0)) .0 (both i l .1);
     }
 
 -- a difference within its range fits 15 bits
-pub difference-fits : (d : ℤ) → leastDifference ≤ℤ d → d ≤ℤ mostDifference → mag d < 2 ^ 14
+pub difference-fits : (d : ℤ) → negℤ (pos mostDifference) ≤ℤ d → d ≤ℤ pos mostDifference → mag d < 2 ^ 14
 difference-fits (pos n) l h = omega (arith, leb→le n 9999 (h .le))
 difference-fits (negsuc n) l h = omega (arith, leb→le n 9998 (l .le))

@@ -5,7 +5,7 @@ use mathlib.Core.List.{List}
 use mathlib.Core.Path.{_≡_, refl, sym, ap, ap₂, _∙_}
 use native.Mathlib.Omega.{arith}
 use borrow.Author.Tests.{lt-ltb, le-ltb}
-use lib.IntN.{ℤ, pos}
+use lib.IntN.{ℤ, pos, negℤ}
 use lib.ListN.{length}
 use Rattle.whole.proofs.Lists.{length-listed}
 use Rattle.refusals.specs.declared.Refusal.{Refusal}
@@ -14,18 +14,20 @@ use Rattle.refusals.specs.declared.Verdict.the-variants.{Passed, Failed}
 use Rattle.refusals.specs.declared.Lowest.{Lowest}
 use Rattle.refusals.specs.declared.Lowest.the-variants.{Nowhere, At}
 use Rattle.refusals.specs.Order.{answerOf, earlierOf, lowestPlace, lowestOutside, lowestSignedOutside, outside, outsideSigned, numbered}
+use Rattle.refusals.specs.Ranges.{leastAngle, mostAngle, leastLogSine, mostLogSine, mostDifference}
 use Rattle.refusals.proofs.Places.{lowest-of-either}
 use Rattle.figures.specs.declared.Figure.{Figure}
 use Rattle.figures.proofs.Figures.{angle-bound}
-use Rattle.sheets.specs.declared.Kind.{Kind}
-use Rattle.sheets.specs.declared.Kind.the-variants.{FirstPass, SecondPass}
-use Rattle.sheets.specs.declared.Lengths.{Lengths}
+use Rattle.layout.specs.declared.Kind.{Kind}
+use Rattle.layout.specs.declared.Kind.the-variants.{FirstPass, SecondPass}
+use Rattle.layout.specs.declared.Lengths.{Lengths}
+use Rattle.layout.specs.Layout.{lengthsOf, sineEntriesIn}
+use Rattle.layout.proofs.Sizes.{fixed-bound}
 use Rattle.sheets.specs.declared.columns.Column.{Column}
-use Rattle.sheets.specs.Ranges.{leastLogSine, mostLogSine, leastDifference, mostDifference, leastAngle, mostAngle, mostLimitOrTolerance}
-use Rattle.sheets.specs.Sheet.{Values, lengthsOf, sineEntriesIn, valuesRead}
-use Rattle.sheets.specs.Judging.{rangeTests, valueTests, lowestSineEntry}
+use Rattle.sheets.specs.Sheet.{Values, valuesRead}
+use Rattle.sheets.specs.Judging.{mostLimitOrTolerance, rangeTests, valueTests, lowestSineEntry}
 use Rattle.sheets.specs.Columns.{angleColumn, fixedColumn, logSineColumn, differenceColumn, columnValues, signedColumnValues, mostBits}
-use Rattle.sheets.proofs.Positions.{fixed-bound, angles-read, fixed-read, log-sines-read, differences-read}
+use Rattle.sheets.proofs.Positions.{angles-read, fixed-read, log-sines-read, differences-read}
 
 -- L or e, and the lowest places at which an angle, a fixed angle and a log-sine or difference lie outside
 module _ (kind : Kind) (given : ℕ) (angle fixedAngle sineEntry : Lowest) {most : ℕ} (is-most : most ≡ mostLimitOrTolerance kind) where
@@ -52,10 +54,10 @@ module _ (kind : Kind) (given : ℕ) (angle fixedAngle sineEntry : Lowest) {most
 
 -- the lower of the lowest log-sine and the lowest difference is the lowest angle at which either lies outside
 pub sine-entries : (logSines : List ℕ) (differences : List ℤ) → length logSines ≡ length differences
-    → earlierOf (lowestOutside logSines leastLogSine mostLogSine) (lowestSignedOutside differences leastDifference mostDifference) ≡ lowestSineEntry logSines differences
+    → earlierOf (lowestOutside logSines leastLogSine mostLogSine) (lowestSignedOutside differences (negℤ (pos mostDifference)) (pos mostDifference)) ≡ lowestSineEntry logSines differences
 sine-entries logSines differences e =
     let log-sine : ℕ → Bool = λ place. outside leastLogSine mostLogSine (numbered logSines place 0) in
-    let difference : ℕ → Bool = λ place. outsideSigned leastDifference mostDifference (numbered differences place (pos 0)) in
+    let difference : ℕ → Bool = λ place. outsideSigned (negℤ (pos mostDifference)) (pos mostDifference) (numbered differences place (pos 0)) in
     ap (λ (count : ℕ). earlierOf (lowestPlace log-sine (length logSines)) (lowestPlace difference count)) (sym e)
     ∙ sym (lowest-of-either log-sine difference (length logSines))
 
@@ -65,7 +67,7 @@ pub values-judged : (kind : Kind) (v : Values) {given : ℕ} {angle fixedAngle l
     → angle ≡ lowestOutside (v .angles) leastAngle mostAngle
     → fixedAngle ≡ lowestOutside (v .fixed) leastAngle mostAngle
     → logSine ≡ lowestOutside (v .logSines) leastLogSine mostLogSine
-    → difference ≡ lowestSignedOutside (v .differences) leastDifference mostDifference
+    → difference ≡ lowestSignedOutside (v .differences) (negℤ (pos mostDifference)) (pos mostDifference)
     → verdict ≡ answerOf (rangeTests kind given angle fixedAngle (earlierOf logSine difference)) → verdict ≡ answerOf (valueTests kind v)
 values-judged kind v {fixedAngle} {logSine} {difference} e g a f l d is =
     is ∙ ap₂ (λ (given : ℕ) (angle : Lowest). answerOf (rangeTests kind given angle fixedAngle (earlierOf logSine difference))) g a
@@ -131,9 +133,9 @@ module _ (kind : Kind) (f : Figure) {lengths : Lengths} (is-lengths : lengths �
         → lowest ≡ lowestOutside (valuesRead kind f s .logSines) leastLogSine mostLogSine
     found-log-sine e found = found ∙ ap (λ (l : List ℕ). lowestOutside l leastLogSine mostLogSine) (log-sines-in e refl)
 
-    pub found-difference : {lowest : Lowest} → c ≡ differenceColumn → lowest ≡ lowestSignedOutside (signedColumnValues s c (lengths .differences)) leastDifference mostDifference
-        → lowest ≡ lowestSignedOutside (valuesRead kind f s .differences) leastDifference mostDifference
-    found-difference e found = found ∙ ap (λ (l : List ℤ). lowestSignedOutside l leastDifference mostDifference) (differences-in e refl)
+    pub found-difference : {lowest : Lowest} → c ≡ differenceColumn → lowest ≡ lowestSignedOutside (signedColumnValues s c (lengths .differences)) (negℤ (pos mostDifference)) (pos mostDifference)
+        → lowest ≡ lowestSignedOutside (valuesRead kind f s .differences) (negℤ (pos mostDifference)) (pos mostDifference)
+    found-difference e found = found ∙ ap (λ (l : List ℤ). lowestSignedOutside l (negℤ (pos mostDifference)) (pos mostDifference)) (differences-in e refl)
 
 -- a sheet has as many differences as log-sines
 pub as-many : (kind : Kind) (f : Figure) (s : List ℕ) → length (valuesRead kind f s .logSines) ≡ length (valuesRead kind f s .differences)

@@ -12,13 +12,15 @@ use Rattle.figures.specs.declared.Figure.{Figure}
 use Rattle.figures.specs.Figure.{description, angleCount, fixedCount}
 use Rattle.figures.specs.Rows.{eachOf}
 use Rattle.figures.proofs.Figures.{angle-bound}
-use Rattle.sheets.specs.declared.Kind.{Kind}
-use Rattle.sheets.specs.declared.Kind.the-variants.{FirstPass, SecondPass}
-use Rattle.sheets.specs.declared.Lengths.{Lengths}
-use Rattle.sheets.specs.Sheet.{Place, angle, fixedAngle, logSine, difference, widthOf, limitOrTolerancePlace, layout, numberOfKind, lengthsOf, bitCount, sheetSize, Values, valuesFrom, fieldOf, packedSheet}
+use Rattle.layout.specs.declared.Kind.{Kind}
+use Rattle.layout.specs.declared.Kind.the-variants.{FirstPass, SecondPass}
+use Rattle.layout.specs.declared.Lengths.{Lengths}
+use Rattle.layout.specs.Layout.{Place, angle, fixedAngle, logSine, difference, widthOf, limitOrTolerancePlace, layout, numberOfKind, lengthsOf, bitCount, sheetSize}
+use Rattle.layout.proofs.Sizes.{fixed-bound}
+use Rattle.sheets.specs.Sheet.{Values, valuesFrom, fieldOf, packedSheet}
 use Rattle.sheets.specs.Judging.{lengthsGiven}
 use Rattle.sheets.specs.Parts.{putAll, fieldFrom, headFields, columnFields, bodyFields, bodyStart, BodyFits}
-use Rattle.sheets.proofs.Positions.{narrow, fixed-bound}
+use Rattle.sheets.proofs.Positions.{narrow}
 use Rattle.sheets.proofs.Packing.{put-append, Narrow, filling, packed}
 
 map-each : {A B : Type 0} (g : A → B) (n : ℕ) (r : ℕ → List A) → map g (eachOf n r) ≡ eachOf n (λ i. map g (r i))

@@ -6,8 +6,9 @@ use mathlib.Core.Path.{_≡_, ap, _∙_, _∙⁻¹_}
 use lib.IntN.{ℤ}
 use lib.ListN.{length}
 use Rattle.refusals.specs.declared.Verdict.{Verdict}
+use Rattle.layout.specs.Layout.{lengthsFrom}
 use Rattle.sheets.specs.declared.Reading.{Reading}
-use Rattle.sheets.specs.Sheet.{Values, lengthsFrom, valuesRead}
+use Rattle.sheets.specs.Sheet.{Values, valuesRead}
 use Rattle.sheets.specs.Judging.{readingOf, afterReading, writingOf, afterWriting, sheetGiven}
 
 -- what is answered, and what a lent slice holds after it, as the answer says

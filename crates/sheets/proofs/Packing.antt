@@ -14,8 +14,8 @@ use Rattle.bits.proofs.Bytes.{AreBytes, length-bitsOf}
 use Rattle.bits.proofs.Fields.{is-inside, length-withField, withField-bytes}
 use Rattle.bits.proofs.Packed.{totalWidth-append, widths-append, packed-more, packed-filled}
 use Rattle.figures.specs.Rows.{eachOf}
-use Rattle.sheets.specs.declared.Kind.{Kind}
-use Rattle.sheets.specs.declared.Kind.the-variants.{FirstPass, SecondPass}
+use Rattle.layout.specs.declared.Kind.{Kind}
+use Rattle.layout.specs.declared.Kind.the-variants.{FirstPass, SecondPass}
 use Rattle.sheets.specs.Sheet.{Values}
 use Rattle.sheets.specs.Parts.{putAll, fieldFrom, columnFields, BodyFits}
 

@@ -5,21 +5,20 @@ use mathlib.Core.Bool.{Bool, true, false, cond, _&&_}
 use mathlib.Core.List.{List, [], _∷_, map}
 use mathlib.Core.Path.{_≡_, refl, sym, ap, ap₂, _∙_}
 use native.Mathlib.Nat.{le-of-suc-le-suc, not-suc-le-zero}
-use native.Mathlib.Omega.{arith}
-use lib.Dec.{T, eqb, leb, ltb, eqb→eq, leb→le, ltb→lt, lit≤}
+use lib.Dec.{T, eqb, leb, ltb, eqb→eq, ltb→lt, lit≤}
 use lib.ListN.{length, getD, take}
 use Rattle.whole.specs.Lists.{every, everyBelow}
 use Rattle.whole.proofs.Computed.{and-left, and-right, every-at, every-below}
 use Rattle.whole.proofs.Lists.{listed-ext}
-use Rattle.bits.specs.Bits.{totalWidth, byteCount, fieldAt, signedOf}
+use Rattle.bits.specs.Bits.{totalWidth, fieldAt, signedOf}
 use Rattle.figures.specs.declared.Figure.{Figure}
-use Rattle.figures.specs.declared.Counts.{Counts}
-use Rattle.figures.specs.Figure.{allFigures, angleCount, fixedCount, countsOf}
-use Rattle.figures.proofs.Figures.{each-figure, angle-bound}
-use Rattle.sheets.specs.declared.Kind.{Kind}
-use Rattle.sheets.specs.declared.Kind.the-variants.{FirstPass, SecondPass}
+use Rattle.figures.specs.Figure.{allFigures, angleCount}
+use Rattle.figures.proofs.Figures.{each-figure}
+use Rattle.layout.specs.declared.Kind.{Kind}
+use Rattle.layout.specs.declared.Kind.the-variants.{FirstPass, SecondPass}
+use Rattle.layout.specs.Layout.{Place, theKind, theCode, theN, limit, tolerance, angle, fixedAngle, logSine, difference, widthOf, head, layout, limitOrTolerancePlace, fixedIn, sineEntriesIn, sort, numberOfPlace, same, positionOf, held}
 use Rattle.sheets.specs.declared.columns.Column.{Column}
-use Rattle.sheets.specs.Sheet.{Place, theKind, theCode, theN, limit, tolerance, angle, fixedAngle, logSine, difference, widthOf, head, layout, limitOrTolerancePlace, fixedIn, sineEntriesIn, bitCount, sheetSize, sort, numberOfPlace, same, positionOf, held, valuesRead}
+use Rattle.sheets.specs.Sheet.{valuesRead}
 use Rattle.sheets.specs.Columns.{angleColumn, fixedColumn, logSineColumn, differenceColumn, columnValues, signedColumnValues}
 
 -- ---- places and their indexes
@@ -226,19 +225,6 @@ unfolding valuesRead held positionOf layout same sort numberOfPlace
 limit-or-tolerance-read FirstPass f s = refl
 limit-or-tolerance-read SecondPass f s = refl
 
--- ---- how many bits
-
-pub first-pass-bits : (f : Figure) → bitCount FirstPass f ≡ 22 + 23 * (angleCount f + fixedCount f)
-unfolding bitCount layout totalWidth
-first-pass-bits f =
-    eqb→eq (bitCount FirstPass f) (22 + 23 * (angleCount f + fixedCount f))
-    (each-figure (λ g. eqb (bitCount FirstPass g) (22 + 23 * (angleCount g + fixedCount g))) tt f)
-
-pub second-pass-bits : (f : Figure) → bitCount SecondPass f ≡ 18 + 65 * angleCount f
-unfolding bitCount layout totalWidth
-second-pass-bits f =
-    eqb→eq (bitCount SecondPass f) (18 + 65 * angleCount f) (each-figure (λ g. eqb (bitCount SecondPass g) (18 + 65 * angleCount g)) tt f)
-
 -- ---- the head stands first in every layout
 
 module _ (kind : Kind) (f : Figure) (s : List ℕ) where
@@ -253,27 +239,3 @@ module _ (kind : Kind) (f : Figure) (s : List ℕ) where
   pub n-in-head : held (layout kind f) s theN ≡ held head s theN
   unfolding held layout positionOf same sort numberOfPlace
   n-in-head = refl
-
--- ---- how many values
-
-pub fixed-bound : (f : Figure) → fixedCount f ≤ 3
-fixed-bound f = leb→le (fixedCount f) 3 (each-figure (λ g. leb (fixedCount g) 3) tt f)
-
-pub few-angles : {r : Counts} (f : Figure) → r ≡ countsOf f → r .angles ≤ 24
-few-angles f e = rw e (angle-bound f)
-
-pub few-fixed : {r : Counts} (f : Figure) → r ≡ countsOf f → r .fixed ≤ 3
-few-fixed f e = rw e (fixed-bound f)
-
-pub few-bits : (kind : Kind) (f : Figure) → bitCount kind f ≤ 1_578
-few-bits FirstPass f = omega (arith, first-pass-bits f, angle-bound f, fixed-bound f)
-few-bits SecondPass f = omega (arith, second-pass-bits f, angle-bound f)
-
--- the bytes hold the fields, and less than a byte more
-pub bits-within : (kind : Kind) (f : Figure) → bitCount kind f ≤ 8 * sheetSize kind f
-unfolding sheetSize byteCount
-bits-within kind f = omega arith
-
-pub bits-nearly : (kind : Kind) (f : Figure) → 8 * sheetSize kind f < bitCount kind f + 8
-unfolding sheetSize byteCount
-bits-nearly kind f = omega arith

@@ -21,13 +21,16 @@ use Rattle.bits.proofs.Complement.{twosComplement-signedOf}
 use Rattle.figures.specs.declared.Figure.{Figure}
 use Rattle.figures.specs.Figure.{description, angleCount}
 use Rattle.figures.proofs.Naming.{named-exactly}
-use Rattle.sheets.specs.declared.Kind.{Kind}
-use Rattle.sheets.specs.declared.Lengths.{Lengths}
+use Rattle.layout.specs.declared.Kind.{Kind}
+use Rattle.layout.specs.declared.Lengths.{Lengths}
+use Rattle.layout.specs.Layout.{Place, theKind, theCode, theN, limit, tolerance, angle, fixedAngle, logSine, difference, widthOf, limitOrTolerancePlace, layout, fixedIn, sineEntriesIn, bitCount, sheetSize, numberOfKind, positionOf, held}
+use Rattle.layout.specs.Head.{kindNumberIn, codeIn, nIn}
+use Rattle.layout.proofs.Sizes.{bits-within}
+use Rattle.layout.proofs.Naming.{kind-exactly}
 use Rattle.sheets.specs.declared.Reading.the-variants.{Read}
-use Rattle.sheets.specs.Sheet.{Place, theKind, theCode, theN, limit, tolerance, angle, fixedAngle, logSine, difference, widthOf, limitOrTolerancePlace, layout, fixedIn, sineEntriesIn, bitCount, sheetSize, numberOfKind, numberAt, fieldOf, packedSheet, positionOf, held, valuesRead, fillingOf}
-use Rattle.sheets.specs.Judging.{kindNumberIn, codeIn, nIn, readingOf}
-use Rattle.sheets.proofs.Positions.{same-place, position-by-index, stands-once, counted, each-counted, narrow, kind-in-head, code-in-head, n-in-head, bits-within}
-use Rattle.sheets.proofs.Naming.{kind-exactly}
+use Rattle.sheets.specs.Sheet.{numberAt, fieldOf, packedSheet, valuesRead, fillingOf}
+use Rattle.sheets.specs.Judging.{readingOf}
+use Rattle.sheets.proofs.Positions.{same-place, position-by-index, stands-once, counted, each-counted, narrow, kind-in-head, code-in-head, n-in-head}
 use Rattle.sheets.proofs.Accepted.{Accepted, accepted}
 
 -- a value that is counted is the one of its number

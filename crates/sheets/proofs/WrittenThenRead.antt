@@ -21,15 +21,16 @@ use Rattle.figures.specs.declared.Figure.{Figure}
 use Rattle.figures.specs.Figure.{description, angleCount, figureOf}
 use Rattle.figures.proofs.Figures.{each-figure}
 use Rattle.figures.proofs.Naming.{named-exactly}
-use Rattle.sheets.specs.declared.Kind.{Kind}
-use Rattle.sheets.specs.declared.Kind.the-variants.{FirstPass, SecondPass}
-use Rattle.sheets.specs.declared.Lengths.{Lengths}
+use Rattle.layout.specs.declared.Kind.{Kind}
+use Rattle.layout.specs.declared.Kind.the-variants.{FirstPass, SecondPass}
+use Rattle.layout.specs.declared.Lengths.{Lengths}
+use Rattle.layout.specs.Layout.{Place, theKind, theCode, theN, limit, tolerance, angle, fixedAngle, logSine, difference, widthOf, limitOrTolerancePlace, layout, kindOf, fixedIn, sineEntriesIn, lengthsOf, bitCount, sheetSize, numberOfKind, positionOf, held}
+use Rattle.layout.specs.Head.{kindNumberIn, codeIn, nIn, kindOrOther, figureOrOther}
+use Rattle.layout.proofs.Naming.{kind-exactly}
 use Rattle.sheets.specs.declared.Reading.the-variants.{Read}
-use Rattle.sheets.specs.Ranges.{mostLimitOrTolerance}
-use Rattle.sheets.specs.Sheet.{Place, theKind, theCode, theN, limit, tolerance, angle, fixedAngle, logSine, difference, widthOf, limitOrTolerancePlace, layout, kindOf, fixedIn, sineEntriesIn, lengthsOf, bitCount, sheetSize, Values, valuesFrom, numberOfKind, numberAt, fieldOf, packedSheet, positionOf, held, valuesRead, fillingOf}
-use Rattle.sheets.specs.Judging.{kindNumberIn, codeIn, nIn, valueTests, lengthsGiven, kindOrOther, figureOrOther, readingOf, writingOf, sheetGiven}
+use Rattle.sheets.specs.Sheet.{Values, valuesFrom, numberAt, fieldOf, packedSheet, valuesRead, fillingOf}
+use Rattle.sheets.specs.Judging.{mostLimitOrTolerance, valueTests, lengthsGiven, readingOf, writingOf, sheetGiven}
 use Rattle.sheets.proofs.Positions.{same-place, indexOf, position-by-index, place-at-index, counted, each-counted, narrow, angle-in-column, fixed-in-column, log-sine-in-column, difference-in-column, kind-stands, code-stands, n-stands, limit-stands, kind-in-head, code-in-head, n-in-head}
-use Rattle.sheets.proofs.Naming.{kind-exactly}
 use Rattle.sheets.proofs.Accepted.{Accepted, Given, accepted-back, writer-accepted}
 use Rattle.sheets.proofs.InRange.{InRange, in-range, difference-fits}
 use Rattle.sheets.proofs.Layouts.{fields-widths, fields-bits}

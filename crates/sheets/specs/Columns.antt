@@ -7,8 +7,8 @@ use Rattle.whole.specs.Lists.{listed}
 use Rattle.figures.specs.declared.Figure.{Figure}
 use Rattle.figures.specs.Figure.{angleCount}
 use Rattle.bits.specs.Bits.{fieldAt, signedOf}
-use Rattle.sheets.specs.declared.Kind.{Kind}
-use Rattle.sheets.specs.declared.Kind.the-variants.{FirstPass, SecondPass}
+use Rattle.layout.specs.declared.Kind.{Kind}
+use Rattle.layout.specs.declared.Kind.the-variants.{FirstPass, SecondPass}
 use Rattle.sheets.specs.declared.columns.Column.{Column}
 
 abbrev pub columnFrom : (start step width : ℕ) → Column

@@ -1,5 +1,4 @@
 pub mod Columns
 pub mod Judging
 pub mod Parts
-pub mod Ranges
 pub mod Sheet

@@ -8,12 +8,13 @@ use Rattle.refusals.specs.Order.{answerOf, numbered}
 use Rattle.bits.specs.Bits.{Field, fieldAt, withField, twosComplement}
 use Rattle.figures.specs.declared.Figure.{Figure}
 use Rattle.figures.specs.Rows.{eachOf}
-use Rattle.sheets.specs.declared.Kind.{Kind}
-use Rattle.sheets.specs.declared.Kind.the-variants.{FirstPass, SecondPass}
-use Rattle.sheets.specs.declared.Lengths.{Lengths}
+use Rattle.layout.specs.declared.Kind.{Kind}
+use Rattle.layout.specs.declared.Kind.the-variants.{FirstPass, SecondPass}
+use Rattle.layout.specs.declared.Lengths.{Lengths}
+use Rattle.layout.specs.Layout.{theKind, theCode, theN, limitOrTolerancePlace, widthOf}
 use Rattle.sheets.specs.declared.Reading.{Reading}
 use Rattle.sheets.specs.declared.Reading.the-variants.{Read}
-use Rattle.sheets.specs.Sheet.{Values, theKind, theCode, theN, limitOrTolerancePlace, widthOf, valuesRead}
+use Rattle.sheets.specs.Sheet.{Values, valuesRead}
 use Rattle.sheets.specs.Columns.{mostBits}
 use Rattle.sheets.specs.Judging.{bodyTests, readingAfter}
 

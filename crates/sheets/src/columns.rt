@@ -1,15 +1,15 @@
 // Columns of a sheet: the values of one sort, read off it and searched.
-use crate::ANGLE_WIDTH;
-use crate::DIFFERENCE_WIDTH;
-use crate::FIRST_PASS_BODY_AT;
-use crate::FIRST_PASS_STEP;
-use crate::Kind;
-use crate::LOG_SINE_WIDTH;
-use crate::SECOND_PASS_BODY_AT;
-use crate::SECOND_PASS_STEP;
 use bits::field;
 use bits::signed;
 use figures::Figure;
+use layout::ANGLE_WIDTH;
+use layout::DIFFERENCE_WIDTH;
+use layout::FIRST_PASS_BODY_AT;
+use layout::FIRST_PASS_STEP;
+use layout::Kind;
+use layout::LOG_SINE_WIDTH;
+use layout::SECOND_PASS_BODY_AT;
+use layout::SECOND_PASS_STEP;
 use refusals::Lowest;
 use refusals::lowest_outside;
 use refusals::lowest_signed_outside;

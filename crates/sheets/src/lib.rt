@@ -1,55 +1,24 @@
-// Packed sheets: document 01, "Packed sheets". A sheet's layout is the definition `layout` of specs/Sheet.antt; what is turned back, and in which
-// order, stands in specs/Judging.antt.
+// Packed sheets read and written: document 01, "Packed sheets". The values of a sheet and its bytes are defined in specs/Sheet.antt; what is turned
+// back, and in which order, stands in specs/Judging.antt.
 mod columns;
 mod ranges;
 mod read;
 mod write;
 
-use bits::field;
 use figures::Figure;
-use figures::Named;
-use figures::figure_of;
-pub use ranges::LEAST_ANGLE;
-pub use ranges::LEAST_DIFFERENCE;
-pub use ranges::LEAST_LOG_SINE;
-pub use ranges::MOST_ANGLE;
-pub use ranges::MOST_DIFFERENCE;
-pub use ranges::MOST_LIMIT;
-pub use ranges::MOST_LOG_SINE;
-pub use ranges::MOST_TOLERANCE;
+pub use layout::Kind;
+pub use layout::Lengths;
+pub use layout::Look;
+pub use layout::NamedKind;
+pub use layout::kind_of;
+pub use layout::lengths_of;
+pub use layout::look_at;
+pub use layout::sheet_size;
 pub use read::read_sheet;
 use refusals::Refusal;
-use tables::counts_of;
 pub use write::write_sheet;
 ghost use mathlib.Core.Path.{_≡_};
-ghost use Rattle.sheets.specs.Sheet.{kindOf, lengthsOf, bitCount, sheetSize};
-ghost use Rattle.sheets.specs.Judging.{sameLengths, headOf, lookOf};
-
-// What a sheet is for, and so which values it holds: kind 1 and kind 2.
-pub enum Kind {
-    FirstPass,
-    SecondPass,
-}
-
-// What a kind's number names.
-pub enum NamedKind {
-    Is(Kind),
-    NoKind,
-}
-
-// How many values of each sort.
-pub struct Lengths {
-    pub angles: usize,
-    pub fixed: usize,
-    pub log_sines: usize,
-    pub differences: usize,
-}
-
-// What the head of a sheet says.
-pub enum Look {
-    Head(Kind, Figure),
-    Refused(Refusal),
-}
+ghost use Rattle.sheets.specs.Judging.{sameLengths};
 
 // What the reader answers: L or e as packed, so that 0 stays 0.
 pub enum Reading {
@@ -59,71 +28,6 @@ pub enum Reading {
         limit_or_tolerance: u32,
     },
     Refused(Refusal),
-}
-
-// The widths of the fields, in bits.
-const KIND_WIDTH: u32 = 4;
-
-const CODE_WIDTH: u32 = 4;
-
-const N_WIDTH: u32 = 4;
-
-const LIMIT_WIDTH: u32 = 10;
-
-const TOLERANCE_WIDTH: u32 = 6;
-
-const ANGLE_WIDTH: u32 = 23;
-
-const LOG_SINE_WIDTH: u32 = 27;
-
-const DIFFERENCE_WIDTH: u32 = 15;
-
-// Where the fields of the head begin, and L or e after them.
-const CODE_AT: usize = 4;
-
-const N_AT: usize = 8;
-
-const LIMIT_OR_TOLERANCE_AT: usize = 12;
-
-// Where the first angle begins.
-const FIRST_PASS_BODY_AT: usize = 22;
-
-const SECOND_PASS_BODY_AT: usize = 18;
-
-// An angle's bits in the body: kind 1 has the angle, kind 2 its log-sine and difference too.
-const FIRST_PASS_STEP: usize = 23;
-
-const SECOND_PASS_STEP: usize = 65;
-
-pub fn kind_of(number: u32) -> NamedKind
-    ensures { λ named. ⌜ named ≡ kindOf number ⌝ }
-{
-    match number {
-        1 => NamedKind::Is(Kind::FirstPass),
-        2 => NamedKind::Is(Kind::SecondPass),
-        _ => NamedKind::NoKind,
-    }
-}
-
-// How many values of each sort a sheet holds, and so how long each slice of values is.
-pub fn lengths_of(kind: Kind, figure: Figure) -> Lengths
-    ensures { λ lengths. ⌜ lengths ≡ lengthsOf kind figure ⌝ }
-{
-    let counts = counts_of(figure);
-    match kind {
-        Kind::FirstPass => Lengths {
-            angles: counts.angles,
-            fixed: counts.fixed,
-            log_sines: 0,
-            differences: 0,
-        },
-        Kind::SecondPass => Lengths {
-            angles: counts.angles,
-            fixed: 0,
-            log_sines: counts.angles,
-            differences: counts.angles,
-        },
-    }
 }
 
 fn same_lengths(lent: Lengths, right: Lengths) -> bool
@@ -139,49 +43,4 @@ fn same_lengths(lent: Lengths, right: Lengths) -> bool
         return false;
     }
     lent.differences == right.differences
-}
-
-// How many bits the fields take, without the filling.
-fn bit_count(kind: Kind, figure: Figure) -> usize
-    ensures { λ count. ⌜ count ≡ bitCount kind figure ⌝ }
-{
-    let counts = counts_of(figure);
-    match kind {
-        Kind::FirstPass => FIRST_PASS_BODY_AT + FIRST_PASS_STEP * (counts.angles + counts.fixed),
-        Kind::SecondPass => SECOND_PASS_BODY_AT + SECOND_PASS_STEP * counts.angles,
-    }
-}
-
-// How many bytes a sheet has.
-pub fn sheet_size(kind: Kind, figure: Figure) -> usize
-    ensures { λ size. ⌜ size ≡ sheetSize kind figure ⌝ }
-{
-    (bit_count(kind, figure) + 7) / 8
-}
-
-// The kind and the figure that numbers name, for the reader and the writer.
-fn named_head(kind: u32, code: u32, n: u32) -> Look
-    ensures { λ found. ⌜ found ≡ headOf kind code n ⌝ }
-{
-    let NamedKind::Is(named) = kind_of(kind) else {
-        return Look::Refused(Refusal::NoSuchKind);
-    };
-    match figure_of(code, n) {
-        Named::As(figure) => Look::Head(named, figure),
-        Named::Nothing => Look::Refused(Refusal::NoSuchFigure),
-    }
-}
-
-// The kind and the figure of a sheet, so that slices of the right lengths can be lent for its values; or why the reader turns it back already.
-pub fn look_at(sheet: &[u8]) -> Look
-    ensures { λ found. ⌜ found ≡ lookOf (now (sheet .entry)) ⌝ }
-{
-    if sheet.len() < 2 {
-        return Look::Refused(Refusal::WrongSheetLength);
-    }
-    named_head(
-        field(sheet, 0, KIND_WIDTH),
-        field(sheet, CODE_AT, CODE_WIDTH),
-        field(sheet, N_AT, N_WIDTH),
-    )
 }

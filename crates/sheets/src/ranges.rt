@@ -1,33 +1,14 @@
-// The ranges of document 01, "Units and ranges", and the tests of values against them, which reader and writer share.
-use crate::Kind;
+// The tests of values against the ranges of document 01, "Units and ranges", which reader and writer share.
+use layout::Kind;
 use refusals::Lowest;
+use refusals::MOST_LIMIT;
+use refusals::MOST_TOLERANCE;
 use refusals::Refusal;
 use refusals::Verdict;
 use refusals::earlier_place;
 ghost use mathlib.Core.Path.{_≡_};
 ghost use Rattle.refusals.specs.Order.{answerOf, earlierOf};
-ghost use Rattle.sheets.specs.Ranges.{mostLimitOrTolerance};
-ghost use Rattle.sheets.specs.Judging.{rangeTests};
-
-// Tenths of an arc second.
-pub const LEAST_ANGLE: u32 = 1;
-
-pub const MOST_ANGLE: u32 = 6_479_999;
-
-// Log-sine plus 10, in units of the seventh decimal.
-pub const LEAST_LOG_SINE: u32 = 1;
-
-pub const MOST_LOG_SINE: u32 = 100_000_000;
-
-// Sine difference for 1″, in hundredths of the sixth decimal.
-pub const LEAST_DIFFERENCE: i32 = -9_999;
-
-pub const MOST_DIFFERENCE: i32 = 9_999;
-
-// L in tenths, e in seconds; either may be 0.
-pub const MOST_LIMIT: u32 = 600;
-
-pub const MOST_TOLERANCE: u32 = 50;
+ghost use Rattle.sheets.specs.Judging.{mostLimitOrTolerance, rangeTests};
 
 fn most_limit_or_tolerance(kind: Kind) -> u32
     ensures { λ most. ⌜ most ≡ mostLimitOrTolerance kind ⌝ }

@@ -17,6 +17,7 @@ use Rattle.refusals.specs.declared.Lowest.{Lowest}
 use Rattle.refusals.specs.declared.Refusal.{Refusal}
 use Rattle.refusals.specs.declared.Verdict.{Verdict}
 use Rattle.refusals.specs.Order.{failsAt, lowestPlace, numbered, outsideSigned}
+use Rattle.refusals.specs.Ranges.{leastAngle, mostAngle}
 use Rattle.refusals.proofs.Places.{lowest-agrees}
 use Rattle.figures.specs.declared.Figure.{Figure}
 use Rattle.figures.specs.Figure.{denominator, angleCount}
@@ -24,7 +25,7 @@ use Rattle.figures.specs.Numerators.{conditionSum, mostAngles}
 use Rattle.figures.proofs.Figures.{angle-bound}
 use Rattle.work.specs.declared.second.SecondWork.{SecondWork}
 use Rattle.work.specs.Column.{column, Below, Angles}
-use Rattle.work.specs.Pass.{leastAngle, mostAngle, given, resultTest}
+use Rattle.work.specs.Pass.{given, resultTest}
 use Rattle.work.specs.SecondPass.{secondReduced, sineMisclosure, sumOfSquares, secondNumerator, secondRounded, secondAdjusted, secondRest}
 use Rattle.work.specs.SecondWork.{mostDenominator, Corrections, sinesOf, secondWorkOf}
 use Rattle.work.proofs.ConditionLaws.{condition-agrees}

@@ -19,14 +19,15 @@ use Rattle.refusals.specs.declared.Verdict.the-variants.{Passed}
 use Rattle.refusals.specs.declared.Lowest.{Lowest}
 use Rattle.refusals.specs.declared.Lowest.the-variants.{Nowhere, At}
 use Rattle.refusals.specs.Order.{answerOf, earlierOf, lowestOutside, lowestSignedOutside, numbered, outside, outsideSigned}
+use Rattle.refusals.specs.Ranges.{leastAngle, mostAngle, leastLogSine, mostLogSine, mostDifference, mostTolerance}
 use Rattle.refusals.proofs.Answers.{answer-of-one, cons-passes}
 use Rattle.refusals.proofs.Places.{lowest-is-nowhere}
 use Rattle.refusals.proofs.Ranges.{within-range, within-signed-range}
 use Rattle.refusals.proofs.Verdicts.{if-passes, at-passes}
 use Rattle.figures.specs.declared.Figure.{Figure}
 use Rattle.work.specs.Column.{Angles}
-use Rattle.work.specs.Pass.{leastAngle, mostAngle, sameLengths, lengthsTest, limitOrToleranceTest, angleTest}
-use Rattle.work.specs.SecondPass.{leastLogSine, mostLogSine, mostDifference, mostTolerance, secondLengths, sineEntryTest}
+use Rattle.work.specs.Pass.{sameLengths, lengthsTest, limitOrToleranceTest, angleTest}
+use Rattle.work.specs.SecondPass.{secondLengths, sineEntryTest}
 use Rattle.work.specs.SecondWork.{SineEntries}
 use Rattle.work.proofs.LengthLaws.{same-lists}
 

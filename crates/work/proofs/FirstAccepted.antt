@@ -20,6 +20,7 @@ use Rattle.refusals.specs.declared.Refusal.{Refusal}
 use Rattle.refusals.specs.declared.Verdict.{Verdict}
 use Rattle.refusals.specs.declared.Verdict.the-variants.{Passed, Failed}
 use Rattle.refusals.specs.Order.{answerOf, failsIf, failsAt, lowestPlace, lowestOutside, numbered, outsideSigned}
+use Rattle.refusals.specs.Ranges.{leastAngle, mostAngle, mostLimit}
 use Rattle.refusals.proofs.Answers.{answer-passes, answer-of-append, answer-of-one}
 use Rattle.refusals.proofs.Ranges.{within-signed-range}
 use Rattle.refusals.proofs.Verdicts.{if-passes, search-passes}
@@ -30,8 +31,8 @@ use Rattle.figures.specs.declared.Target.{Target}
 use Rattle.figures.proofs.Figures.{angle-bound, condition-bound, none}
 use Rattle.work.specs.declared.first.FirstJudged.{FirstJudged}
 use Rattle.work.specs.Column.{column, Angles}
-use Rattle.work.specs.FirstPass.{mostLimit, limitOf, shouldBe, misclosure, firstNumerator, firstRounded, corrected, firstRest, firstLengths, firstTests, misclosureTest}
-use Rattle.work.specs.Pass.{leastAngle, mostAngle, given, sameLengths, resultTest}
+use Rattle.work.specs.FirstPass.{limitOf, shouldBe, misclosure, firstNumerator, firstRounded, corrected, firstRest, firstLengths, firstTests, misclosureTest}
+use Rattle.work.specs.Pass.{given, sameLengths, resultTest}
 use Rattle.work.specs.FirstWork.{StoreFits, StoresFit, givenTests, workTests, firstWorkOf, firstWorked, firstJudgedOf, judgedAfter}
 use Rattle.work.proofs.Bounds.{condition-magnitude, numerator-magnitude}
 use Rattle.work.proofs.ColumnLaws.{column-at}

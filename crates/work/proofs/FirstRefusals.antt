@@ -18,6 +18,7 @@ use Rattle.refusals.specs.declared.Verdict.{Verdict}
 use Rattle.refusals.specs.declared.Verdict.the-variants.{Passed, Failed}
 use Rattle.refusals.specs.Numbers.{numberOf}
 use Rattle.refusals.specs.Order.{answerOf, failsIf, failsAt, lowestPlace, lowestOutside, numbered, outside, outsideSigned}
+use Rattle.refusals.specs.Ranges.{leastAngle, mostAngle, mostLimit}
 use Rattle.refusals.proofs.Answers.{EachPasses, FirstToFail, answer-fails, answer-passes}
 use Rattle.refusals.proofs.Places.{LowestFailing}
 use Rattle.refusals.proofs.Verdicts.{if-fails, at-fails, search-fails-at}
@@ -25,8 +26,8 @@ use Rattle.figures.specs.declared.Figure.{Figure}
 use Rattle.figures.specs.declared.Named.{Named}
 use Rattle.figures.specs.declared.Named.the-variants.{As, Nothing}
 use Rattle.figures.specs.Figure.{angleCount, conditionCount, figureOf}
-use Rattle.work.specs.FirstPass.{mostLimit, misclosureFails, corrected, firstLengths, firstTests, firstPassTests, firstPassVerdict}
-use Rattle.work.specs.Pass.{leastAngle, mostAngle, sameLengths, resultFails, ofNamed}
+use Rattle.work.specs.FirstPass.{misclosureFails, corrected, firstLengths, firstTests, firstPassTests, firstPassVerdict}
+use Rattle.work.specs.Pass.{sameLengths, resultFails, ofNamed}
 
 -- a refusal that only the test of index i can give is the answer exactly if that test gives it and every test before it passes
 pub given-by : (tests : List Verdict) (i : ℕ) (r : Refusal) → i < length tests → ((j : ℕ) → j < length tests → getD tests j Passed ≡ Failed r → j ≡ i)

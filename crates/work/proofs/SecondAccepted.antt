@@ -20,6 +20,7 @@ use Rattle.refusals.specs.declared.Refusal.{Refusal}
 use Rattle.refusals.specs.declared.Verdict.{Verdict}
 use Rattle.refusals.specs.declared.Verdict.the-variants.{Passed, Failed}
 use Rattle.refusals.specs.Order.{answerOf, lowestPlace, numbered, outsideSigned}
+use Rattle.refusals.specs.Ranges.{leastAngle, mostAngle, mostTolerance}
 use Rattle.refusals.proofs.Answers.{answer-of-one, answer-of-append, cons-passes}
 use Rattle.refusals.proofs.Ranges.{within-signed-range}
 use Rattle.refusals.proofs.Verdicts.{if-passes, search-passes}
@@ -30,8 +31,8 @@ use Rattle.figures.specs.Figure.{denominator, angleCount, conditionCount, membe
 use Rattle.figures.specs.Numerators.{conditionSum, sumOver, mostAngles, mostMembers}
 use Rattle.figures.proofs.Figures.{member-count}
 use Rattle.work.specs.declared.second.SecondWork.{SecondWork}
-use Rattle.work.specs.Pass.{leastAngle, mostAngle, given, lengthsTest, limitOrToleranceTest, angleTest, resultTest, ofNamed}
-use Rattle.work.specs.SecondPass.{secondReduced, signedDifference, sineMisclosure, sumOfSquares, differenceSquares, secondNumerator, secondRounded, secondAdjusted, secondRest, mostTolerance, secondLengths, sineEntryTest, sumOfSquaresTest, toleranceTest, secondTests, secondPassTests, secondPassVerdict}
+use Rattle.work.specs.Pass.{given, lengthsTest, limitOrToleranceTest, angleTest, resultTest, ofNamed}
+use Rattle.work.specs.SecondPass.{secondReduced, signedDifference, sineMisclosure, sumOfSquares, differenceSquares, secondNumerator, secondRounded, secondAdjusted, secondRest, secondLengths, sineEntryTest, sumOfSquaresTest, toleranceTest, secondTests, secondPassTests, secondPassVerdict}
 use Rattle.work.specs.SecondWork.{secondWorkOf, refusedWork, workedAfter, figureWork, sheetWork}
 use Rattle.work.proofs.EntryLaws.{Entries, entries-passed, value-most}
 use Rattle.work.proofs.SecondLaws.{rest-half}

@@ -9,6 +9,7 @@ use lib.Signed.{_≤ℤ_}
 use Rattle.whole.specs.Sums.{dot, squares}
 use Rattle.refusals.specs.declared.Verdict.{Verdict}
 use Rattle.refusals.specs.declared.Verdict.the-variants.{Passed}
+use Rattle.refusals.specs.Ranges.{leastAngle, mostAngle}
 use Rattle.figures.specs.declared.Figure.{Figure}
 use Rattle.figures.specs.declared.Named.{Named}
 use Rattle.figures.specs.declared.Named.the-variants.{As}
@@ -16,7 +17,7 @@ use Rattle.figures.specs.Figure.{denominator, angleCount, conditionCount, membe
 use Rattle.figures.specs.Numerators.{conditionSum}
 use Rattle.work.specs.declared.second.SecondAnswer.{SecondAnswer}
 use Rattle.work.specs.declared.second.SecondAnswer.the-variants.{Done}
-use Rattle.work.specs.Pass.{leastAngle, mostAngle, ofNamed}
+use Rattle.work.specs.Pass.{ofNamed}
 use Rattle.work.specs.SecondPass.{signedDifference, secondReduced, sumOfSquares, sineMisclosure, secondNumerator, secondRounded, secondAdjusted, secondRest, secondPassVerdict, secondAnswerOf, secondPassAnswer, storedAfter, forAngles, forConditions}
 use Rattle.work.proofs.SecondAccepted.{AcceptedSheet, sheet-accepted, squares-positive, result-within}
 use Rattle.work.proofs.SecondLaws.{squares-sum, squares-cross, numerators-close, sine-cancels, rest-half}

@@ -19,6 +19,7 @@ use Rattle.refusals.specs.declared.Verdict.{Verdict}
 use Rattle.refusals.specs.declared.Verdict.the-variants.{Passed, Failed}
 use Rattle.refusals.specs.Numbers.{numberOf}
 use Rattle.refusals.specs.Order.{answerOf, earlierOf, failsIf, failsAt, lowestOutside, lowestSignedOutside, lowestPlace, numbered, outside, outsideSigned}
+use Rattle.refusals.specs.Ranges.{leastAngle, mostAngle, leastLogSine, mostLogSine, mostDifference, mostTolerance}
 use Rattle.refusals.proofs.Answers.{EachPasses, answer-fails, answer-passes}
 use Rattle.refusals.proofs.Places.{LowestFailing, FailsNowhere, lowest-of-either}
 use Rattle.refusals.proofs.Ranges.{less-signed, not-less-signed}
@@ -29,8 +30,8 @@ use Rattle.figures.specs.declared.Named.the-variants.{As, Nothing}
 use Rattle.figures.specs.Figure.{angleCount, figureOf}
 use Rattle.work.specs.declared.second.SecondAnswer.{SecondAnswer}
 use Rattle.work.specs.declared.second.SecondAnswer.the-variants.{Done, Refused}
-use Rattle.work.specs.Pass.{leastAngle, mostAngle, sameLengths, lengthsTest, limitOrToleranceTest, angleTest, resultTest, ofNamed}
-use Rattle.work.specs.SecondPass.{leastLogSine, mostLogSine, mostDifference, mostTolerance, toleranceOf, sineMisclosure, sumOfSquares, differenceSquares, secondAdjusted, secondLengths, sineEntryTest, sumOfSquaresTest, exceeds, toleranceTest, secondTests, secondPassTests, secondPassVerdict, secondAnswerOf, secondPassAnswer}
+use Rattle.work.specs.Pass.{sameLengths, lengthsTest, limitOrToleranceTest, angleTest, resultTest, ofNamed}
+use Rattle.work.specs.SecondPass.{toleranceOf, sineMisclosure, sumOfSquares, differenceSquares, secondAdjusted, secondLengths, sineEntryTest, sumOfSquaresTest, exceeds, toleranceTest, secondTests, secondPassTests, secondPassVerdict, secondAnswerOf, secondPassAnswer}
 use Rattle.work.proofs.LengthLaws.{same-lists, same-itself}
 use Rattle.work.proofs.OrderLaws.{distinct, given-exactly}
 

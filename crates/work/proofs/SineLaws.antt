@@ -15,13 +15,14 @@ use Rattle.whole.proofs.Computed.{and-left, and-right}
 use Rattle.whole.proofs.Lists.{getD-listed, getD-padded}
 use Rattle.whole.proofs.Magnitudes.{natAbs-add}
 use Rattle.whole.proofs.Sums.{dot-ext}
+use Rattle.refusals.specs.Ranges.{mostLogSine, mostDifference}
 use Rattle.figures.specs.declared.Figure.{Figure}
 use Rattle.figures.specs.Figure.{description, denominator, allFigures}
 use Rattle.figures.specs.Numerators.{conditionSum, numerator, reducedCoefficient, paddedNumerators, paddedSigns, mostAngles, mostConditions, mostMembers}
 use Rattle.figures.proofs.Figures.{each-figure}
 use Rattle.work.specs.Column.{column, Below}
 use Rattle.work.specs.Pass.{given}
-use Rattle.work.specs.SecondPass.{mostLogSine, mostDifference, sineSign, signedDifference, secondReduced}
+use Rattle.work.specs.SecondPass.{sineSign, signedDifference, secondReduced}
 use Rattle.work.specs.SecondWork.{mostDenominator}
 use Rattle.work.proofs.ConditionLaws.{numerator-agrees, reduced-agrees}
 use Rattle.work.proofs.Bounds.{condition-magnitude, numerator-magnitude}

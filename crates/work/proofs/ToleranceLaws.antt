@@ -17,13 +17,14 @@ use Rattle.whole.proofs.Order.{natural, square-nonnegative}
 use Rattle.whole.proofs.Sums.{sum-magnitude, squares-nonnegative}
 use Rattle.refusals.specs.declared.Refusal.{Refusal}
 use Rattle.refusals.specs.declared.Verdict.the-variants.{Passed}
+use Rattle.refusals.specs.Ranges.{mostLogSine, mostDifference, mostTolerance}
 use Rattle.refusals.proofs.Verdicts.{if-passes}
 use Rattle.figures.specs.declared.Figure.{Figure}
 use Rattle.figures.specs.Figure.{angleCount}
 use Rattle.figures.specs.Numerators.{mostAngles}
 use Rattle.figures.proofs.Figures.{angle-bound}
 use Rattle.work.specs.Pass.{given}
-use Rattle.work.specs.SecondPass.{mostLogSine, mostDifference, mostTolerance, toleranceOf, sineSign, signedDifference, sineMisclosure, differenceSquares, exceeds, toleranceTest}
+use Rattle.work.specs.SecondPass.{toleranceOf, sineSign, signedDifference, sineMisclosure, differenceSquares, exceeds, toleranceTest}
 use Rattle.work.proofs.ProductLaws.{product-magnitude}
 use Rattle.work.proofs.SineLaws.{sign-magnitude, difference-magnitude}
 

@@ -15,13 +15,14 @@ use Rattle.refusals.specs.declared.Lowest.{Lowest}
 use Rattle.refusals.specs.declared.Verdict.{Verdict}
 use Rattle.refusals.specs.declared.Verdict.the-variants.{Passed, Failed}
 use Rattle.refusals.specs.Order.{answerOf, failsAt, lowestPlace, lowestOutside, numbered, outside, outsideSigned}
+use Rattle.refusals.specs.Ranges.{leastAngle, mostAngle}
 use Rattle.refusals.proofs.Answers.{answer-of-one}
 use Rattle.refusals.proofs.Places.{FailsNowhere, lowest-agrees}
 use Rattle.refusals.proofs.Ranges.{within-range}
 use Rattle.refusals.proofs.Verdicts.{search-passes}
 use Rattle.figures.specs.Numerators.{mostAngles}
 use Rattle.work.specs.Column.{column, Angles}
-use Rattle.work.specs.Pass.{leastAngle, mostAngle, stored}
+use Rattle.work.specs.Pass.{stored}
 use Rattle.work.proofs.ColumnLaws.{column-at}
 
 -- the first step fails: its verdict is the answer

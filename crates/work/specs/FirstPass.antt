@@ -10,17 +10,15 @@ use Rattle.refusals.specs.declared.Verdict.{Verdict}
 use Rattle.refusals.specs.declared.Verdict.the-variants.{Passed, Failed}
 use Rattle.refusals.specs.declared.Refusal.{Refusal}
 use Rattle.refusals.specs.Order.{answerOf, failsAt, lowestPlace, lowestOutside, numbered, outsideSigned}
+use Rattle.refusals.specs.Ranges.{leastAngle, mostAngle, mostLimit}
 use Rattle.figures.specs.declared.Figure.{Figure}
 use Rattle.figures.specs.declared.Target.{Target}
 use Rattle.figures.specs.declared.Target.the-variants.{HalfTurn, FullTurn, FixedAngle, NoCondition}
 use Rattle.figures.specs.Figure.{denominator, angleCount, conditionCount, fixedCount, targetOf, figureOf}
 use Rattle.figures.specs.Numerators.{conditionSum, numerator}
-use Rattle.work.specs.Pass.{leastAngle, mostAngle, given, lengthsTest, limitOrToleranceTest, angleTest, resultTest, ofNamed}
+use Rattle.work.specs.Pass.{given, lengthsTest, limitOrToleranceTest, angleTest, resultTest, ofNamed}
 
--- the misclosure limit L in tenths: 0 to 600; 0 stands for the default 150
-abbrev pub mostLimit : ℕ
-mostLimit = 600
-
+-- the misclosure limit L: 0 stands for the default 150
 abbrev pub limitOf : ℕ → ℕ
 limitOf zero = 150
 limitOf (suc l) = suc l

@@ -9,13 +9,14 @@ use Rattle.refusals.specs.declared.Refusal.{Refusal}
 use Rattle.refusals.specs.declared.Verdict.{Verdict}
 use Rattle.refusals.specs.declared.Verdict.the-variants.{Passed, Failed}
 use Rattle.refusals.specs.Order.{answerOf, failsAt, lowestPlace, numbered, outsideSigned}
+use Rattle.refusals.specs.Ranges.{leastAngle, mostAngle, mostLimit}
 use Rattle.figures.specs.Figure.{angleCount, conditionCount}
-use Rattle.work.specs.Pass.{leastAngle, mostAngle, lengthsTest, limitOrToleranceTest, angleTest, resultTest}
+use Rattle.work.specs.Pass.{lengthsTest, limitOrToleranceTest, angleTest, resultTest}
 use Rattle.figures.specs.declared.Figure.{Figure}
 use Rattle.work.specs.declared.first.FirstJudged.{FirstJudged}
 use Rattle.work.specs.declared.first.FirstWork.{FirstWork}
 use Rattle.work.specs.Column.{column}
-use Rattle.work.specs.FirstPass.{mostLimit, firstLengths, fixedTest, misclosureTest, limitOf, misclosure, firstNumerator, firstRounded, corrected, firstRest}
+use Rattle.work.specs.FirstPass.{firstLengths, fixedTest, misclosureTest, limitOf, misclosure, firstNumerator, firstRounded, corrected, firstRest}
 
 abbrev pub firstWorkOf : Figure → (angles fixed : List ℕ) → FirstWork
 firstWorkOf f angles fixed = record {

@@ -1,4 +1,4 @@
--- What both passes share: document 01, "Units and ranges", "The two passes" and "Numbers given when a sheet is turned back".
+-- What both passes share: document 01, "The two passes" and "Numbers given when a sheet is turned back".
 -- Numbers of angles and conditions are used as indices, counted from 0.
 use Prim.Native.Nat.{ℕ, zero, suc}
 use mathlib.Core.Bool.{Bool, true, false, not, _&&_}
@@ -12,17 +12,11 @@ use Rattle.refusals.specs.declared.Verdict.{Verdict}
 use Rattle.refusals.specs.declared.Verdict.the-variants.{Passed, Failed}
 use Rattle.refusals.specs.declared.Refusal.{Refusal}
 use Rattle.refusals.specs.Order.{failsIf, failsAt, lowestOutside, lowestPlace, numbered, outsideSigned}
+use Rattle.refusals.specs.Ranges.{leastAngle, mostAngle}
 use Rattle.figures.specs.declared.Figure.{Figure}
 use Rattle.figures.specs.declared.Named.{Named}
 use Rattle.figures.specs.declared.Named.the-variants.{As, Nothing}
 use Rattle.figures.specs.Figure.{angleCount}
-
--- an angle in tenths of an arc second: 1 to 6,479,999
-abbrev pub leastAngle : ℕ
-leastAngle = 1
-
-abbrev pub mostAngle : ℕ
-mostAngle = 6479999
 
 -- the given angle of index i
 abbrev pub given : List ℕ → ℕ → ℤ

@@ -13,6 +13,7 @@ use Rattle.refusals.specs.declared.Verdict.{Verdict}
 use Rattle.refusals.specs.declared.Verdict.the-variants.{Passed, Failed}
 use Rattle.refusals.specs.declared.Refusal.{Refusal}
 use Rattle.refusals.specs.Order.{answerOf, failsIf, failsAt, earlierOf, lowestOutside, lowestSignedOutside}
+use Rattle.refusals.specs.Ranges.{leastLogSine, mostLogSine, mostDifference, mostTolerance}
 use Rattle.figures.specs.declared.Figure.{Figure}
 use Rattle.figures.specs.Figure.{description, denominator, angleCount, conditionCount, figureOf}
 use Rattle.figures.specs.Numerators.{conditionSum, reducedCoefficient}
@@ -20,23 +21,7 @@ use Rattle.work.specs.declared.second.SecondAnswer.{SecondAnswer}
 use Rattle.work.specs.declared.second.SecondAnswer.the-variants.{Done, Refused}
 use Rattle.work.specs.Pass.{given, lengthsTest, limitOrToleranceTest, angleTest, resultTest, ofNamed}
 
--- ---- document 01, "Units and ranges"
-
--- log-sine plus 10, in units of the seventh decimal: 1 to 100,000,000
-abbrev pub leastLogSine : ℕ
-leastLogSine = 1
-
-abbrev pub mostLogSine : ℕ
-mostLogSine = 100000000
-
--- sine difference for 1″, in hundredths of the sixth decimal: −9,999 to 9,999
-abbrev pub mostDifference : ℕ
-mostDifference = 9999
-
--- the sine tolerance e in seconds: 0 to 50; 0 stands for 10
-abbrev pub mostTolerance : ℕ
-mostTolerance = 50
-
+-- the sine tolerance e: 0 stands for 10
 abbrev pub toleranceOf : ℕ → ℕ
 toleranceOf zero = 10
 toleranceOf (suc e) = suc e

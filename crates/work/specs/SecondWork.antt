@@ -11,14 +11,15 @@ use Rattle.refusals.specs.declared.Verdict.{Verdict}
 use Rattle.refusals.specs.declared.Verdict.the-variants.{Passed, Failed}
 use Rattle.refusals.specs.declared.Refusal.{Refusal}
 use Rattle.refusals.specs.Order.{answerOf, failsAt, lowestPlace, numbered, outsideSigned}
+use Rattle.refusals.specs.Ranges.{leastAngle, mostAngle, mostLogSine, mostDifference, mostTolerance}
 use Rattle.figures.specs.declared.Figure.{Figure}
 use Rattle.figures.specs.Figure.{denominator, angleCount, figureOf}
 use Rattle.figures.specs.Numerators.{conditionSum, mostAngles}
 use Rattle.work.specs.declared.sines.Sines.{Sines}
 use Rattle.work.specs.declared.second.SecondWork.{SecondWork}
 use Rattle.work.specs.Column.{column}
-use Rattle.work.specs.Pass.{leastAngle, mostAngle, given, lengthsTest, limitOrToleranceTest, angleTest, resultTest, ofNamed}
-use Rattle.work.specs.SecondPass.{mostLogSine, mostDifference, mostTolerance, secondReduced, sineMisclosure, sumOfSquares, differenceSquares, secondNumerator, secondRounded, secondAdjusted, secondRest, secondLengths, sineEntryTest, sumOfSquaresTest, toleranceTest}
+use Rattle.work.specs.Pass.{given, lengthsTest, limitOrToleranceTest, angleTest, resultTest, ofNamed}
+use Rattle.work.specs.SecondPass.{secondReduced, sineMisclosure, sumOfSquares, differenceSquares, secondNumerator, secondRounded, secondAdjusted, secondRest, secondLengths, sineEntryTest, sumOfSquaresTest, toleranceTest}
 
 -- no figure has a greater denominator
 abbrev pub mostDenominator : ℕ

@@ -17,22 +17,21 @@ use crate::columns::quotients;
 use crate::columns::sum_of;
 use crate::lengths::lengths_verdict;
 use crate::targets::minus_targets;
-use crate::tests::LEAST_ANGLE;
-use crate::tests::MOST_ANGLE;
 use crate::tests::angles_verdict;
 use crate::tests::first_of_four;
 use crate::tests::limit_or_tolerance_verdict;
 use crate::tests::results_verdict;
 use figures::Figure;
+use refusals::LEAST_ANGLE;
 use refusals::Lowest;
+use refusals::MOST_ANGLE;
+use refusals::MOST_LIMIT;
 use refusals::Refusal;
 use refusals::Verdict;
 use tables::MOST_ANGLES;
 
-// Document 01, "Units and ranges": the misclosure limit in tenths, and what 0 stands for.
+// Document 01, "Units and ranges": the misclosure limit, in tenths, that 0 stands for.
 const DEFAULT_LIMIT: u32 = 150;
-
-const MOST_LIMIT: u32 = 600;
 
 // The lengths of angles, fixed angles, misclosures, numerators, rounded corrections, corrected angles and rests.
 pub type FirstLengths = [usize; 7];

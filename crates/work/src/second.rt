@@ -4,9 +4,10 @@ ghost use mathlib.Core.List.{[], _∷_};
 ghost use Prim.Native.Nat.{_<_, _≤_, _^_};
 ghost use lib.IntN.{pos, negℤ, natAbs, _*ℤ_};
 ghost use Rattle.refusals.specs.Order.{answerOf};
+ghost use Rattle.refusals.specs.Ranges.{mostTolerance};
 ghost use Rattle.work.specs.Column.{Angles, Below};
 ghost use Rattle.work.specs.Pass.{angleTest, lengthsTest, limitOrToleranceTest};
-ghost use Rattle.work.specs.SecondPass.{mostTolerance, secondLengths, sineEntryTest, sumOfSquaresTest, toleranceTest, sineMisclosure, sumOfSquares, differenceSquares};
+ghost use Rattle.work.specs.SecondPass.{secondLengths, sineEntryTest, sumOfSquaresTest, toleranceTest, sineMisclosure, sumOfSquares, differenceSquares};
 ghost use Rattle.work.specs.SecondWork.{mostDenominator, SineEntries, Corrections, secondWorkOf, refusedWork, workedAfter, figureWork, sheetWork};
 use crate::columns::Column;
 use crate::columns::column_of;
@@ -26,13 +27,11 @@ use crate::tests::limit_or_tolerance_verdict;
 use crate::tests::results_verdict;
 use figures::Figure;
 use figures::Named;
+use refusals::MOST_TOLERANCE;
 use refusals::Refusal;
 use refusals::Verdict;
 use refusals::first_to_fail;
 use tables::MOST_ANGLES;
-
-// Document 01, "Units and ranges".
-const MOST_TOLERANCE: u32 = 50;
 
 // The lengths of angles, log-sines, differences, reduced coefficients, numerators, rounded corrections, adjusted angles and rests.
 pub type SecondLengths = [usize; 8];

@@ -5,9 +5,10 @@ ghost use lib.Dec.{ltb};
 ghost use lib.IntN.{pos, natAbs};
 ghost use lib.Signed.{_≤ℤ_};
 ghost use Rattle.whole.specs.Sums.{vector};
+ghost use Rattle.refusals.specs.Ranges.{mostTolerance};
 ghost use Rattle.figures.specs.Numerators.{reducedCoefficient};
 ghost use Rattle.work.specs.Column.{column, Below};
-ghost use Rattle.work.specs.SecondPass.{mostTolerance, toleranceOf, sineEntryTest, sumOfSquaresTest, toleranceTest};
+ghost use Rattle.work.specs.SecondPass.{toleranceOf, sineEntryTest, sumOfSquaresTest, toleranceTest};
 ghost use Rattle.work.specs.SecondWork.{SineEntries, sinesOf};
 use crate::columns::Column;
 use crate::columns::column_of;
@@ -19,17 +20,15 @@ use crate::sums::products;
 use crate::sums::scaled;
 use crate::sums::signed_column;
 use figures::Figure;
+use refusals::LEAST_DIFFERENCE;
+use refusals::LEAST_LOG_SINE;
 use refusals::Lowest;
+use refusals::MOST_DIFFERENCE;
+use refusals::MOST_LOG_SINE;
 use refusals::Refusal;
 use refusals::Verdict;
 
-// Document 01, "Units and ranges".
-const LEAST_LOG_SINE: u32 = 1;
-
-const MOST_LOG_SINE: u32 = 100000000;
-
-const MOST_DIFFERENCE: i32 = 9999;
-
+// Document 01, "Units and ranges": the sine tolerance, in seconds, that 0 stands for.
 const DEFAULT_TOLERANCE: u32 = 10;
 
 // The largest number that 64 bits can hold a hundredfold.
@@ -81,7 +80,7 @@ pub fn sine_entry_verdict(log_sines: &[u32], differences: &[i32]) -> Verdict
     let log_sine = refusals::lowest_outside(log_sines, LEAST_LOG_SINE, MOST_LOG_SINE);
     let difference = refusals::lowest_signed_outside(
         differences,
-        -MOST_DIFFERENCE,
+        LEAST_DIFFERENCE,
         MOST_DIFFERENCE,
     );
     match refusals::earlier_place(log_sine, difference) {

@@ -5,19 +5,17 @@ ghost use mathlib.Core.List.{[], _∷_};
 ghost use lib.IntN.{pos};
 ghost use Rattle.refusals.specs.declared.Refusal.{Refusal};
 ghost use Rattle.refusals.specs.Order.{answerOf, failsAt, lowestPlace, numbered, outsideSigned};
+ghost use Rattle.refusals.specs.Ranges.{leastAngle, mostAngle};
 ghost use Rattle.figures.specs.Numerators.{mostAngles};
-ghost use Rattle.work.specs.Pass.{leastAngle, mostAngle, angleTest, limitOrToleranceTest};
+ghost use Rattle.work.specs.Pass.{angleTest, limitOrToleranceTest};
 use crate::columns::Column;
 use crate::columns::lowest_in_column;
+use refusals::LEAST_ANGLE;
 use refusals::Lowest;
+use refusals::MOST_ANGLE;
 use refusals::Refusal;
 use refusals::Verdict;
 use refusals::first_to_fail;
-
-// Document 01, "Units and ranges": an angle in tenths of an arc second.
-pub const LEAST_ANGLE: u32 = 1;
-
-pub const MOST_ANGLE: u32 = 6479999;
 
 pub fn angles_verdict(angles: &[u32]) -> Verdict
     ensures { λ r. ⌜ r ≡ angleTest (now (angles .entry)) ⌝ }

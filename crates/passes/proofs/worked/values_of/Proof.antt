@@ -11,12 +11,13 @@ use denote.Ref.{now}
 use lib.Seq.{length-take-le, take-at}
 use Rattle.figures.specs.declared.Figure.{Figure}
 use Rattle.figures.specs.Figure.{angleCount}
-use Rattle.sheets.specs.declared.Lengths.{Lengths}
-use Rattle.sheets.specs.declared.Kind.{Kind}
+use Rattle.layout.specs.declared.Lengths.{Lengths}
+use Rattle.layout.specs.declared.Kind.{Kind}
+use Rattle.layout.specs.Layout.{lengthsFrom, fixedIn, sineEntriesIn}
 use Rattle.sheets.specs.declared.Reading.{Reading}
 use Rattle.sheets.specs.declared.Reading.the-variants.{Read}
 use Rattle.sheets.specs.Judging.{readingOf, afterReading}
-use Rattle.sheets.specs.Sheet.{lengthsOf, lengthsFrom, valuesRead, fixedIn, sineEntriesIn}
+use Rattle.sheets.specs.Sheet.{valuesRead}
 use Rattle.passes.specs.Worked.{ReadInto}
 use Rattle.passes.proofs.SheetBounds.{angles-few, fixed-few, log-sines-few}
 use Rattle.passes.proofs.worked.values_of.Statement.{statement}

@@ -8,12 +8,13 @@ use lib.IntN.{ℤ}
 use lib.ListN.{take}
 use Rattle.figures.specs.declared.Figure.{Figure}
 use Rattle.figures.specs.Figure.{angleCount}
-use Rattle.sheets.specs.declared.Kind.{Kind}
-use Rattle.sheets.specs.declared.Look.{Look}
+use Rattle.layout.specs.declared.Kind.{Kind}
+use Rattle.layout.specs.declared.Look.{Look}
+use Rattle.layout.specs.Layout.{lengthsOf, fixedIn, sineEntriesIn}
 use Rattle.sheets.specs.declared.Reading.{Reading}
 use Rattle.sheets.specs.declared.Reading.the-variants.{Read}
 use Rattle.sheets.specs.Judging.{readingOf, afterReading}
-use Rattle.sheets.specs.Sheet.{lengthsOf, valuesRead, fixedIn, sineEntriesIn}
+use Rattle.sheets.specs.Sheet.{valuesRead}
 use Rattle.passes.specs.declared.worked.SheetValues.{SheetValues}
 use Rattle.passes.specs.Worked.{ReadInto, refusedSheet, workedKind, workedReading, workedFrom, workedRead, workedLook, workedOf}
 use Rattle.passes.proofs.worked.worked_sheet.Statement.{statement}

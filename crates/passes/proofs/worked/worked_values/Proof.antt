@@ -8,10 +8,9 @@ use lib.ListN.{length, take}
 use lib.Seq.{length-take-le}
 use Rattle.figures.specs.declared.Figure.{Figure}
 use Rattle.figures.specs.Figure.{angleCount}
-use Rattle.sheets.specs.declared.Kind.{Kind}
-use Rattle.sheets.specs.declared.Lengths.{Lengths}
+use Rattle.layout.specs.declared.Kind.{Kind}
+use Rattle.layout.specs.declared.Lengths.{Lengths}
 use Rattle.sheets.specs.declared.Reading.{Reading}
-use Rattle.sheets.specs.Sheet.{lengthsOf, fixedIn, sineEntriesIn}
 use Rattle.passes.specs.declared.worked.SheetValues.{SheetValues}
 use Rattle.passes.specs.declared.worked.WorkedSheet.{WorkedSheet}
 use Rattle.passes.specs.Worked.{firstSheet, secondSheet, workedKind, workedReading, workedFrom}

@@ -4,8 +4,8 @@ use mathlib.Core.Path.{ap}
 use native.Mathlib.Omega.{arith}
 use borrow.Author.Needs.{needs}
 use Rattle.figures.specs.declared.Counts.{Counts}
+use Rattle.layout.proofs.Sizes.{few-angles}
 use Rattle.sheets.specs.Columns.{columnFrom}
-use Rattle.sheets.proofs.Positions.{few-angles}
 use Rattle.sheets.proofs.columns.fixed_column.Statement.{statement}
 use Rattle.sheets.proofs.columns.fixed_column.Tie as tie
 

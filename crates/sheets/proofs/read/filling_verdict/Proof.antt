@@ -10,9 +10,10 @@ use Rattle.refusals.specs.declared.Refusal.{Refusal}
 use Rattle.refusals.specs.Order.{failsIf}
 use Rattle.bits.specs.Bits.{fieldAt, fillingWidth}
 use Rattle.figures.specs.declared.Figure.{Figure}
-use Rattle.sheets.specs.declared.Kind.{Kind}
-use Rattle.sheets.specs.Sheet.{bitCount, sheetSize, fillingOf}
-use Rattle.sheets.proofs.Positions.{few-bits, bits-within, bits-nearly}
+use Rattle.layout.specs.declared.Kind.{Kind}
+use Rattle.layout.specs.Layout.{bitCount, sheetSize}
+use Rattle.layout.proofs.Sizes.{few-bits, bits-within, bits-nearly}
+use Rattle.sheets.specs.Sheet.{fillingOf}
 use Rattle.sheets.proofs.read.filling_verdict.Statement.{statement}
 use Rattle.sheets.proofs.read.filling_verdict.Tie as tie
 

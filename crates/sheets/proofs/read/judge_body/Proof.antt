@@ -5,8 +5,9 @@ use mathlib.Core.Path.{_≡_, sym, ap, _∙_}
 use borrow.Author.Tests.{not-true, not-false}
 use lib.ListN.{length}
 use Rattle.refusals.specs.declared.Verdict.{Verdict}
+use Rattle.layout.specs.Layout.{lengthsOf, sheetSize}
 use Rattle.sheets.specs.declared.Reading.the-variants.{Read}
-use Rattle.sheets.specs.Sheet.{lengthsOf, sheetSize, valuesRead}
+use Rattle.sheets.specs.Sheet.{valuesRead}
 use Rattle.sheets.specs.Judging.{sameLengths, readingAfter}
 use Rattle.sheets.specs.Parts.{readingFrom}
 use Rattle.sheets.proofs.Positions.{limit-or-tolerance-read}

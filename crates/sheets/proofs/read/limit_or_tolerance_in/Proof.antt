@@ -1,7 +1,7 @@
 -- `sheets::read::limit_or_tolerance_in` meets its contract: the arms have the widths of the two kinds.
 use mathlib.Core.Path.{sym, ap, _∙_}
 use borrow.Author.Needs.{needs}
-use Rattle.sheets.specs.declared.Kind.{Kind}
+use Rattle.layout.specs.declared.Kind.{Kind}
 use Rattle.sheets.specs.Parts.{limitOrToleranceIn}
 use Rattle.sheets.proofs.read.limit_or_tolerance_in.Statement.{statement}
 use Rattle.sheets.proofs.read.limit_or_tolerance_in.Tie as tie

@@ -4,7 +4,7 @@ use mathlib.Core.Bool.{Bool, true, false}
 use mathlib.Core.Path.{_≡_, sym, ap, _∙_}
 use borrow.Author.Tests.{eq-eqb, ne-eqb, not-true, not-false}
 use lib.Dec.{eqb}
-use Rattle.sheets.specs.Sheet.{lengthsOf, sheetSize}
+use Rattle.layout.specs.Layout.{lengthsOf, sheetSize}
 use Rattle.sheets.specs.Judging.{sameLengths}
 use Rattle.sheets.proofs.Accepted.{first-wrong, second-wrong, neither-wrong}
 use Rattle.sheets.proofs.write.length_verdict.Statement.{statement}

@@ -2,7 +2,7 @@
 use borrow.Author.Needs.{needs}
 use mathlib.Core.Path.{sym, ap, _∙_}
 use native.Mathlib.Omega.{arith}
-use Rattle.sheets.specs.declared.Kind.{Kind}
+use Rattle.layout.specs.declared.Kind.{Kind}
 use Rattle.sheets.specs.Sheet.{valuesFrom}
 use Rattle.sheets.specs.Parts.{putAll, bodyStart, bodyFields}
 use Rattle.sheets.proofs.Packing.{two-columns, first-fits, second-fits}

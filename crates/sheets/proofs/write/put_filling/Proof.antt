@@ -6,9 +6,9 @@ use mathlib.Core.Path.{_≡_, _∙_}
 use native.Mathlib.Omega.{arith}
 use Rattle.bits.specs.Bits.{withField, fillingWidth}
 use Rattle.figures.specs.declared.Figure.{Figure}
-use Rattle.sheets.specs.declared.Kind.{Kind}
-use Rattle.sheets.specs.Sheet.{bitCount, sheetSize}
-use Rattle.sheets.proofs.Positions.{few-bits, bits-within, bits-nearly}
+use Rattle.layout.specs.declared.Kind.{Kind}
+use Rattle.layout.specs.Layout.{bitCount, sheetSize}
+use Rattle.layout.proofs.Sizes.{few-bits, bits-within, bits-nearly}
 use Rattle.sheets.proofs.write.put_filling.Statement.{statement}
 use Rattle.sheets.proofs.write.put_filling.Tie as tie
 

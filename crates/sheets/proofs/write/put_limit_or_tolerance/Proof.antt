@@ -2,8 +2,8 @@
 use borrow.Author.Needs.{needs}
 use mathlib.Core.List.{[], _∷_}
 use mathlib.Core.Path.{sym, ap, _∙_}
-use Rattle.sheets.specs.declared.Kind.{Kind}
-use Rattle.sheets.specs.Sheet.{widthOf, limitOrTolerancePlace}
+use Rattle.layout.specs.declared.Kind.{Kind}
+use Rattle.layout.specs.Layout.{widthOf, limitOrTolerancePlace}
 use Rattle.sheets.specs.Parts.{putAll, fieldFrom}
 use Rattle.sheets.proofs.write.put_limit_or_tolerance.Statement.{statement}
 use Rattle.sheets.proofs.write.put_limit_or_tolerance.Tie as tie

@@ -4,9 +4,9 @@ use mathlib.Core.Path.{_≡_, refl, sym, ap, _∙_}
 use lib.ListN.{length}
 use Rattle.refusals.specs.declared.Verdict.{Verdict}
 use Rattle.figures.proofs.Naming.{named-exactly}
+use Rattle.layout.proofs.Naming.{Names, head-names, kind-exactly}
 use Rattle.sheets.specs.Sheet.{valuesFrom}
 use Rattle.sheets.specs.Judging.{writingOf, afterWriting, sheetGiven}
-use Rattle.sheets.proofs.Naming.{Names, head-names, kind-exactly}
 use Rattle.sheets.proofs.Accepted.{given-accepted, writer-refused, writer-found, sheet-found}
 use Rattle.sheets.proofs.write.write_sheet.Statement.{statement}
 use Rattle.sheets.proofs.write.write_sheet.Tie as tie

@@ -10,10 +10,10 @@ use lib.IntN.{ℤ, pos, negℤ}
 use Rattle.refusals.specs.declared.Refusal.{Refusal}
 use Rattle.refusals.specs.declared.Verdict.{Verdict}
 use Rattle.refusals.specs.Order.{answerOf, failsAt, lowestPlace, numbered, outsideSigned}
+use Rattle.refusals.specs.Ranges.{leastAngle, mostAngle}
 use Rattle.figures.specs.declared.Counts.{Counts}
 use Rattle.figures.specs.Numerators.{mostAngles}
 use Rattle.figures.proofs.Figures.{angle-bound, condition-bound}
-use Rattle.work.specs.Pass.{leastAngle, mostAngle}
 use Rattle.work.proofs.first.work_verdict.Statement.{statement}
 use Rattle.work.proofs.first.work_verdict.Tie as tie
 

@@ -16,12 +16,13 @@ use Rattle.whole.proofs.Magnitudes.{magnitude-read}
 use Rattle.refusals.specs.declared.Refusal.{Refusal}
 use Rattle.refusals.specs.declared.Verdict.{Verdict}
 use Rattle.refusals.specs.Order.{failsAt, lowestPlace, numbered, outsideSigned}
+use Rattle.refusals.specs.Ranges.{leastAngle, mostAngle}
 use Rattle.figures.specs.declared.Counts.{Counts}
 use Rattle.figures.specs.Figure.{denominator, angleCount}
 use Rattle.figures.specs.Numerators.{mostAngles}
 use Rattle.figures.proofs.Figures.{angle-bound}
 use Rattle.work.specs.Column.{column, Below}
-use Rattle.work.specs.Pass.{given, leastAngle, mostAngle}
+use Rattle.work.specs.Pass.{given}
 use Rattle.work.specs.SecondWork.{mostDenominator}
 use Rattle.work.proofs.ColumnLaws.{column-at, column-ext}
 use Rattle.work.proofs.CorrectionLaws.{angles-below, factor-magnitude, numerators-below, numerators-turned, quotients-below}

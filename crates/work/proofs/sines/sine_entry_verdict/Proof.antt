@@ -6,15 +6,12 @@ use denote.Ref.{now}
 use Rattle.refusals.specs.declared.Lowest.{Lowest}
 use Rattle.refusals.specs.declared.Refusal.{Refusal}
 use Rattle.refusals.specs.Order.{failsAt, earlierOf, lowestOutside, lowestSignedOutside}
-use Rattle.work.specs.SecondPass.{leastLogSine, mostLogSine, mostDifference}
+use Rattle.refusals.specs.Ranges.{leastLogSine, mostLogSine, mostDifference}
 use Rattle.work.proofs.sines.sine_entry_verdict.Statement.{statement}
 use Rattle.work.proofs.sines.sine_entry_verdict.Tie as tie
 
 lowest-outside-requires : tie.Need-lowest-outside-requires
 lowest-outside-requires c κs = search needs
-
-sub-lowest-signed-outside : tie.Need-sub-lowest-signed-outside
-sub-lowest-signed-outside c = search needs
 
 lowest-signed-outside-requires : tie.Need-lowest-signed-outside-requires
 lowest-signed-outside-requires c κs = search needs
@@ -44,7 +41,6 @@ sine-entry-verdict-spec =
     tie.close
     (tie.spec
     lowest-outside-requires
-    sub-lowest-signed-outside
     lowest-signed-outside-requires
     earlier-place-requires
     enum-told

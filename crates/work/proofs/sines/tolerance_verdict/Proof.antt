@@ -8,7 +8,8 @@ use lib.IntN.{natAbs}
 use mir.Facts.{toZ-ofZ}
 use Rattle.refusals.specs.declared.Refusal.{Refusal}
 use Rattle.refusals.specs.Order.{failsIf}
-use Rattle.work.specs.SecondPass.{mostTolerance, toleranceOf, exceeds}
+use Rattle.refusals.specs.Ranges.{mostTolerance}
+use Rattle.work.specs.SecondPass.{toleranceOf, exceeds}
 use Rattle.work.proofs.ToleranceLaws.{tolerance-within, exceeds-is}
 use borrow.Author.Needs.{needs}
 use Rattle.work.proofs.sines.tolerance_verdict.Statement.{statement}

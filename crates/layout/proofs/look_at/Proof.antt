@@ -1,12 +1,12 @@
--- `sheets::look_at` meets its contract: under two bytes the first test fails, and else the three fields of the head decide.
+-- `layout::look_at` meets its contract: under two bytes the first test fails, and else the three fields of the head decide.
 use mathlib.Core.Path.{sym, _∙_}
 use borrow.Author.Needs.{needs}
-use Rattle.sheets.proofs.Naming.{short, long-enough}
-use Rattle.sheets.proofs.look_at.Statement.{statement}
-use Rattle.sheets.proofs.look_at.Tie as tie
+use Rattle.layout.proofs.Naming.{short, long-enough}
+use Rattle.layout.proofs.look_at.Statement.{statement}
+use Rattle.layout.proofs.look_at.Tie as tie
 
 returns : tie.Need-returns
-returns c = sym (short _ (c .if1 .taken))
+returns c = sym (short (c .before .before .args .sheet .now) (c .if1 .taken))
 
 field-requires : tie.Need-field-requires
 field-requires c κs = search needs

@@ -1,8 +1,5 @@
 -- The ranges of document 01, "Units and ranges". Both ends are inside.
 use Prim.Native.Nat.{ℕ}
-use lib.IntN.{ℤ, pos, negℤ}
-use Rattle.sheets.specs.declared.Kind.{Kind}
-use Rattle.sheets.specs.declared.Kind.the-variants.{FirstPass, SecondPass}
 
 -- angle, in tenths of an arc second
 abbrev pub leastAngle : ℕ
@@ -18,12 +15,9 @@ leastLogSine = 1
 abbrev pub mostLogSine : ℕ
 mostLogSine = 100_000_000
 
--- sine difference for 1″, in hundredths of the sixth decimal
-abbrev pub leastDifference : ℤ
-leastDifference = negℤ (pos 9_999)
-
-abbrev pub mostDifference : ℤ
-mostDifference = pos 9_999
+-- sine difference for 1″, in hundredths of the sixth decimal, from minus this
+abbrev pub mostDifference : ℕ
+mostDifference = 9_999
 
 -- misclosure limit L in tenths, from 0
 abbrev pub mostLimit : ℕ
@@ -32,8 +26,3 @@ mostLimit = 600
 -- sine tolerance e in seconds, from 0
 abbrev pub mostTolerance : ℕ
 mostTolerance = 50
-
--- L in kind 1, e in kind 2
-abbrev pub mostLimitOrTolerance : Kind → ℕ
-mostLimitOrTolerance FirstPass = mostLimit
-mostLimitOrTolerance SecondPass = mostTolerance

@@ -1,9 +1,9 @@
--- `sheets::kind_of` meets its contract: at 1 and 2 the definition computes, and any other number passes both tests of it.
+-- `layout::kind_of` meets its contract: at 1 and 2 the definition computes, and any other number passes both tests of it.
 use mathlib.Core.Path.{sym, ap}
 use borrow.Author.Tests.{ne-eqb}
-use Rattle.sheets.specs.Sheet.{kindOf}
-use Rattle.sheets.proofs.kind_of.Statement.{statement}
-use Rattle.sheets.proofs.kind_of.Tie as tie
+use Rattle.layout.specs.Layout.{kindOf}
+use Rattle.layout.proofs.kind_of.Statement.{statement}
+use Rattle.layout.proofs.kind_of.Tie as tie
 
 returns : tie.Need-returns
 returns c = sym (ap kindOf (c .match .keys1))

@@ -14,14 +14,14 @@ use Rattle.figures.specs.declared.Figure.{Figure}
 use Rattle.figures.specs.declared.Named.{Named}
 use Rattle.figures.specs.declared.Named.the-variants.{As, Nothing}
 use Rattle.figures.specs.Figure.{figureOf}
-use Rattle.sheets.specs.declared.Kind.{Kind}
-use Rattle.sheets.specs.declared.Kind.the-variants.{FirstPass, SecondPass}
-use Rattle.sheets.specs.declared.NamedKind.{NamedKind}
-use Rattle.sheets.specs.declared.NamedKind.the-variants.{Is, NoKind}
-use Rattle.sheets.specs.declared.Look.{Look}
-use Rattle.sheets.specs.declared.Look.the-variants.{Head}
-use Rattle.sheets.specs.Sheet.{kindOf, numberOfKind, sort, numberOfPlace, same, positionOf, held}
-use Rattle.sheets.specs.Judging.{isNoKind, isNoFigure, kindOrOther, figureOrOther, lookAfter, headTests, headOf, lookOf, kindNumberIn, codeIn, nIn}
+use Rattle.layout.specs.declared.Kind.{Kind}
+use Rattle.layout.specs.declared.Kind.the-variants.{FirstPass, SecondPass}
+use Rattle.layout.specs.declared.NamedKind.{NamedKind}
+use Rattle.layout.specs.declared.NamedKind.the-variants.{Is, NoKind}
+use Rattle.layout.specs.declared.Look.{Look}
+use Rattle.layout.specs.declared.Look.the-variants.{Head}
+use Rattle.layout.specs.Layout.{kindOf, numberOfKind, sort, numberOfPlace, same, positionOf, held}
+use Rattle.layout.specs.Head.{isNoKind, isNoFigure, kindOrOther, figureOrOther, lookAfter, headTests, headOf, lookOf, kindNumberIn, codeIn, nIn}
 
 unfoldable pub headFrom : NamedKind → Named → Look
 headFrom kind figure =

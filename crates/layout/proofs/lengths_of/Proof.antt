@@ -1,11 +1,11 @@
--- `sheets::lengths_of` meets its contract: the arms are the clauses of the counts, with the figure's own counts in them.
+-- `layout::lengths_of` meets its contract: the arms are the clauses of the counts, with the figure's own counts in them.
 use mathlib.Core.Path.{sym, ap, _∙_}
 use borrow.Author.Needs.{needs}
 use Rattle.figures.specs.declared.Counts.{Counts}
-use Rattle.sheets.specs.declared.Kind.{Kind}
-use Rattle.sheets.specs.Sheet.{lengthsFrom, lengthsOf}
-use Rattle.sheets.proofs.lengths_of.Statement.{statement}
-use Rattle.sheets.proofs.lengths_of.Tie as tie
+use Rattle.layout.specs.declared.Kind.{Kind}
+use Rattle.layout.specs.Layout.{lengthsFrom, lengthsOf}
+use Rattle.layout.proofs.lengths_of.Statement.{statement}
+use Rattle.layout.proofs.lengths_of.Tie as tie
 
 counts-of-requires : tie.Need-counts-of-requires
 counts-of-requires c κs = search needs

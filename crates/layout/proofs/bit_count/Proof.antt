@@ -1,14 +1,14 @@
--- `sheets::bit_count` meets its contract: what the arms compute is the width of the layout, for every figure, and a figure has few angles.
+-- `layout::bit_count` meets its contract: what the arms compute is the width of the layout, for every figure, and a figure has few angles.
 use Prim.Native.Nat.{_+_, _*_}
 use mathlib.Core.Path.{sym, ap, _∙_}
 use native.Mathlib.Omega.{arith}
 use borrow.Author.Needs.{needs}
 use Rattle.figures.specs.declared.Counts.{Counts}
-use Rattle.sheets.specs.declared.Kind.{Kind}
-use Rattle.sheets.specs.Sheet.{bitCount}
-use Rattle.sheets.proofs.Positions.{few-angles, few-fixed, first-pass-bits, second-pass-bits}
-use Rattle.sheets.proofs.bit_count.Statement.{statement}
-use Rattle.sheets.proofs.bit_count.Tie as tie
+use Rattle.layout.specs.declared.Kind.{Kind}
+use Rattle.layout.specs.Layout.{bitCount}
+use Rattle.layout.proofs.Sizes.{few-angles, few-fixed, first-pass-bits, second-pass-bits}
+use Rattle.layout.proofs.bit_count.Statement.{statement}
+use Rattle.layout.proofs.bit_count.Tie as tie
 
 counts-of-requires : tie.Need-counts-of-requires
 counts-of-requires c κs = search needs

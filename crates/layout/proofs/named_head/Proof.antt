@@ -1,9 +1,9 @@
--- `sheets::named_head` meets its contract: the arms are the cases of what the kind's number names and what code and n name.
+-- `layout::named_head` meets its contract: the arms are the cases of what the kind's number names and what code and n name.
 use mathlib.Core.Path.{sym, _∙_}
 use borrow.Author.Needs.{needs}
-use Rattle.sheets.proofs.Naming.{no-kind, no-figure, named}
-use Rattle.sheets.proofs.named_head.Statement.{statement}
-use Rattle.sheets.proofs.named_head.Tie as tie
+use Rattle.layout.proofs.Naming.{no-kind, no-figure, named}
+use Rattle.layout.proofs.named_head.Statement.{statement}
+use Rattle.layout.proofs.named_head.Tie as tie
 
 kind-of-requires : tie.Need-kind-of-requires
 kind-of-requires c κs = search needs

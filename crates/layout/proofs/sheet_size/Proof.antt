@@ -1,13 +1,13 @@
--- `sheets::sheet_size` meets its contract: it rounds the count of bits up to whole bytes, as `byteCount` does.
+-- `layout::sheet_size` meets its contract: it rounds the count of bits up to whole bytes, as `byteCount` does.
 use Prim.Native.Nat.{ℕ, _+_, _/_}
 use mathlib.Core.Path.{ap}
 use native.Mathlib.Omega.{arith}
 use borrow.Author.Needs.{needs}
 use Rattle.bits.specs.Bits.{byteCount}
-use Rattle.sheets.specs.Sheet.{sheetSize}
-use Rattle.sheets.proofs.Positions.{few-bits}
-use Rattle.sheets.proofs.sheet_size.Statement.{statement}
-use Rattle.sheets.proofs.sheet_size.Tie as tie
+use Rattle.layout.specs.Layout.{sheetSize}
+use Rattle.layout.proofs.Sizes.{few-bits}
+use Rattle.layout.proofs.sheet_size.Statement.{statement}
+use Rattle.layout.proofs.sheet_size.Tie as tie
 
 bit-count-requires : tie.Need-bit-count-requires
 bit-count-requires c κs = search needs

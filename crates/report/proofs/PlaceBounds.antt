@@ -26,9 +26,9 @@ use Rattle.figures.proofs.Figures.{angle-bound, condition-bound}
 use Rattle.layout.specs.declared.Kind.{Kind}
 use Rattle.layout.specs.declared.Lengths.{Lengths}
 use Rattle.layout.specs.Layout.{kindOf, fixedIn, sineEntriesIn, lengthsOf, sheetSize}
-use Rattle.layout.specs.Head.{isNoKind, isNoFigure, kindNumberIn, codeIn, nIn, kindIn, figureIn, headTests}
-use Rattle.sheets.specs.Sheet.{valuesRead, fillingOf}
-use Rattle.sheets.specs.Judging.{mostLimitOrTolerance, sameLengths, bodyTests, readerTests}
+use Rattle.layout.specs.Head.{isNoKind, isNoFigure, kindNumberIn, codeIn, nIn, kindIn, figureIn, nameTests, headTests}
+use Rattle.sheets.specs.Sheet.{Values, valuesRead, fillingOf}
+use Rattle.sheets.specs.Judging.{mostLimitOrTolerance, sameLengths, valueTests, bodyTests, readerTests}
 use Rattle.work.specs.Pass as Pass
 use Rattle.work.specs.FirstPass.{firstLengths, firstTests}
 use Rattle.work.specs.SecondPass.{toleranceOf, sumOfSquares, sineMisclosure, differenceSquares, exceeds, secondLengths, secondTests}
@@ -41,10 +41,10 @@ abbrev pub PlaceWithin : Verdict → Type 0
 PlaceWithin Passed = Unit {0}
 PlaceWithin (Failed refusal) = placeOf refusal ≤ mostAngles
 
-record TestWithin (test : Verdict) : Type 0 where
-  place : PlaceWithin test
+pub record TestWithin (test : Verdict) : Type 0 where
+  pub place : PlaceWithin test
 
-if-within : (fails : Bool) (refusal : Refusal) → placeOf refusal ≤ mostAngles → TestWithin (failsIf fails refusal)
+pub if-within : (fails : Bool) (refusal : Refusal) → placeOf refusal ≤ mostAngles → TestWithin (failsIf fails refusal)
 if-within true refusal h = record { place = h }
 if-within false refusal h = record { place = tt }
 
@@ -63,7 +63,7 @@ lowest-within fails count few = go (lowestPlace fails count) refl
     go Nowhere e = tt
     go (At p) e = le-trans (lowest-is fails count p .0 e .within) few
 
-search-within : (refusal : ℕ → Refusal) → ((p : ℕ) → placeOf (refusal p) ≡ p) → (fails : ℕ → Bool) (count : ℕ) → count ≤ mostAngles → TestWithin (failsAt refusal (lowestPlace fails count))
+pub search-within : (refusal : ℕ → Refusal) → ((p : ℕ) → placeOf (refusal p) ≡ p) → (fails : ℕ → Bool) (count : ℕ) → count ≤ mostAngles → TestWithin (failsAt refusal (lowestPlace fails count))
 search-within refusal carries fails count few = at-within refusal carries (lowestPlace fails count) (lowest-within fails count few)
 
 either-within : (refusal : ℕ → Refusal) → ((p : ℕ) → placeOf (refusal p) ≡ p) → (fails others : ℕ → Bool) (count many : ℕ) → count ≤ mostAngles → many ≤ mostAngles
@@ -87,15 +87,21 @@ unfolding answerOf
 answer-then Passed later h rest = rest
 answer-then (Failed refusal) later h rest = h
 
-none-left : TestsWithin []
+pub none-left : TestsWithin []
 unfolding answerOf
 none-left = record { answer = tt }
 
 infixr 20 _then_
-_then_ : {test : Verdict} {later : List Verdict} → TestWithin test → TestsWithin later → TestsWithin (test ∷ later)
+pub _then_ : {test : Verdict} {later : List Verdict} → TestWithin test → TestsWithin later → TestsWithin (test ∷ later)
 _then_ {test} {later} first rest = record { answer = answer-then test later (first .place) (rest .answer) }
 
-append-within : (a b : List Verdict) → TestsWithin a → TestsWithin b → TestsWithin (a ++ b)
+-- what comes after a test that has passed
+pub once-passed : (test : Verdict) (later : List Verdict) → TestWithin test → (test ≡ Passed → TestsWithin (test ∷ later)) → TestsWithin (test ∷ later)
+unfolding answerOf
+once-passed Passed later h rest = rest refl
+once-passed (Failed refusal) later h rest = record { answer = h .place }
+
+pub append-within : (a b : List Verdict) → TestsWithin a → TestsWithin b → TestsWithin (a ++ b)
 append-within a b first rest = record {
   answer =
       subst PlaceWithin (sym (answer-of-append a b))
@@ -103,6 +109,20 @@ append-within a b first rest = record {
 }
 
 -- ---- the reader
+
+pub names-within : (kind code n : ℕ) → TestsWithin (nameTests kind code n)
+names-within kind code n =
+    if-within (isNoKind (kindOf kind)) Refusal.NoSuchKind zero-le
+    then if-within (isNoFigure (figureOf code n)) Refusal.NoSuchFigure zero-le
+    then none-left
+
+pub values-within : (kind : Kind) (v : Values) → length (v .angles) ≤ mostAngles → length (v .fixed) ≤ mostAngles → length (v .logSines) ≤ mostAngles → TestsWithin (valueTests kind v)
+values-within kind v few-angles few-fixed few-log-sines =
+    if-within (ltb (mostLimitOrTolerance kind) (v .limitOrTolerance)) Refusal.LimitOrToleranceOutOfRange zero-le
+    then search-within Refusal.AngleOutOfRange (λ p. refl) _ _ few-angles
+    then search-within Refusal.FixedAngleOutOfRange (λ p. refl) _ _ few-fixed
+    then search-within Refusal.SineEntryOutOfRange (λ p. refl) _ _ few-log-sines
+    then none-left
 
 module _ (kind : Kind) (f : Figure) (sheet : List ℕ) where
   pub angles-few : length (valuesRead kind f sheet .angles) ≤ mostAngles
@@ -127,19 +147,12 @@ module _ (kind : Kind) (f : Figure) (sheet : List ℕ) where
       if-within (not (eqb (length sheet) (sheetSize kind f))) Refusal.WrongSheetLength zero-le
       then if-within (not (sameLengths lent (lengthsOf kind f))) Refusal.WrongLength zero-le
       then if-within (not (eqb (fillingOf kind f sheet) 0)) Refusal.FillingBitSet zero-le
-      then if-within (ltb (mostLimitOrTolerance kind) (valuesRead kind f sheet .limitOrTolerance)) Refusal.LimitOrToleranceOutOfRange zero-le
-      then search-within Refusal.AngleOutOfRange (λ p. refl) _ _ angles-few
-      then search-within Refusal.FixedAngleOutOfRange (λ p. refl) _ _ fixed-few
-      then search-within Refusal.SineEntryOutOfRange (λ p. refl) _ _ log-sines-few
-      then none-left
+      then values-within kind (valuesRead kind f sheet) angles-few fixed-few log-sines-few
 
 pub head-within : (sheet : List ℕ) → TestsWithin (headTests sheet)
 unfolding headTests
 head-within sheet =
-    if-within (ltb (length sheet) 2) Refusal.WrongSheetLength zero-le
-    then if-within (isNoKind (kindOf (kindNumberIn sheet))) Refusal.NoSuchKind zero-le
-    then if-within (isNoFigure (figureOf (codeIn sheet) (nIn sheet))) Refusal.NoSuchFigure zero-le
-    then none-left
+    if-within (ltb (length sheet) 2) Refusal.WrongSheetLength zero-le then names-within (kindNumberIn sheet) (codeIn sheet) (nIn sheet)
 
 pub reader-within : (sheet : List ℕ) (lent : Lengths) → TestsWithin (readerTests sheet lent)
 unfolding readerTests

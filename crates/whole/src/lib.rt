@@ -1,9 +1,13 @@
-// Whole numbers: the magnitude of a signed number, and the rounded quotient of document 01.
+// Whole numbers: the magnitude of a signed number, the rounded quotient of document 01, and a hundredfold compared.
 ghost use mathlib.Core.Path.{_≡_};
-ghost use Prim.Native.Nat.{_≤_};
+ghost use Prim.Native.Nat.{_≤_, _*_};
+ghost use lib.Dec.{ltb};
 ghost use lib.IntN.{natAbs};
 ghost use Rattle.whole.specs.Quotient.{withSign, roundedQuotient};
 ghost use Rattle.whole.specs.Quotient.{nearest as Quotient·nearest};
+
+// The largest number that 64 bits can hold a hundredfold.
+const MOST_HUNDREDFOLD: u64 = 184467440737095516;
 
 // How far z is from zero. An i64 cannot hold the negation of its smallest number; −1 − z it holds for every z.
 pub fn magnitude(z: i64) -> u64
@@ -43,5 +47,16 @@ fn with_sign(number: i64, size: u64) -> i64
         if size == 0 { 0 } else { -1 - (size - 1) as i64 }
     } else {
         size as i64
+    }
+}
+
+// 100·a is more than most. Where 100·a passes 64 bits, it is more than any such number.
+pub fn hundredfold_exceeds(a: u64, most: u64) -> bool
+    ensures { λ r. ⌜ r ≡ ltb most (100 * a) ⌝ }
+{
+    if MOST_HUNDREDFOLD < a {
+        true
+    } else {
+        most < 100 * a
     }
 }

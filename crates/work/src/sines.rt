@@ -1,7 +1,6 @@
 // The sine condition of the second pass: document 01, "The two passes", and numbers 8, 9 and 10.
 ghost use mathlib.Core.Path.{_≡_};
-ghost use Prim.Native.Nat.{_<_, _≤_, _^_, _*_};
-ghost use lib.Dec.{ltb};
+ghost use Prim.Native.Nat.{_<_, _≤_, _^_};
 ghost use lib.IntN.{pos, natAbs};
 ghost use lib.Signed.{_≤ℤ_};
 ghost use Rattle.whole.specs.Sums.{vector};
@@ -30,9 +29,6 @@ use refusals::Verdict;
 
 // Document 01, "Units and ranges": the sine tolerance, in seconds, that 0 stands for.
 const DEFAULT_TOLERANCE: u32 = 10;
-
-// The largest number that 64 bits can hold a hundredfold.
-const MOST_HUNDREDFOLD: u64 = 184467440737095516;
 
 // The reduced coefficients A, W, S and the sum of d².
 pub struct Sines {
@@ -111,7 +107,7 @@ pub fn tolerance_verdict(misclosure: i64, tolerance: u32, difference_squares: i6
     let e = tolerance_of(tolerance) as u64;
     let w = whole::magnitude(misclosure);
     let most = e * e * whole::magnitude(difference_squares);
-    if hundredfold_exceeds(w * w, most) {
+    if whole::hundredfold_exceeds(w * w, most) {
         Verdict::Failed(Refusal::SineMisclosureBeyondTolerance)
     } else {
         Verdict::Passed
@@ -125,16 +121,5 @@ fn tolerance_of(tolerance: u32) -> u32
         DEFAULT_TOLERANCE
     } else {
         tolerance
-    }
-}
-
-// 100·a is more than most. Where 100·a passes 64 bits, it is more than any such number.
-fn hundredfold_exceeds(a: u64, most: u64) -> bool
-    ensures { λ r. ⌜ r ≡ ltb most (100 * a) ⌝ }
-{
-    if MOST_HUNDREDFOLD < a {
-        true
-    } else {
-        most < 100 * a
     }
 }

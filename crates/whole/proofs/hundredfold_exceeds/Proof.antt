@@ -1,11 +1,11 @@
--- `work::sines::hundredfold_exceeds` meets its contract: past the guard a hundredfold is more than any number of 64 bits.
+-- `whole::hundredfold_exceeds` meets its contract: past the guard a hundredfold is more than any number of 64 bits.
 use mathlib.Core.Path.{sym}
 use Prim.Native.Nat.{_*_}
 use native.Mathlib.Omega.{arith}
 use borrow.Author.Needs.{needs}
 use borrow.Author.Tests.{lt-ltb}
-use Rattle.work.proofs.sines.hundredfold_exceeds.Statement.{statement}
-use Rattle.work.proofs.sines.hundredfold_exceeds.Tie as tie
+use Rattle.whole.proofs.hundredfold_exceeds.Statement.{statement}
+use Rattle.whole.proofs.hundredfold_exceeds.Tie as tie
 
 mul-result : tie.Need-mul-result
 mul-result c = search needs

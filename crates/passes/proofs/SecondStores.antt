@@ -1,16 +1,14 @@
 -- From the work of a sheet to the answer and to what the lent slices hold in the end. Assumes nothing.
-use mathlib.Core.Path.{_≡_, refl, sym, ap, ap₂, _∙_, subst}
-use mathlib.Core.List.{List, [], _∷_}
+use mathlib.Core.Path.{_≡_, sym, ap, ap₂, _∙_, subst}
+use mathlib.Core.List.{List, []}
 use Prim.Native.Nat.{ℕ, _≤_, _<_}
-use native.Mathlib.Nat.{le-trans, le-of-eq, lt-of-lt-of-le, lt-of-le-of-lt}
-use native.Mathlib.Omega.{arith}
+use native.Mathlib.Nat.{le-trans, lt-of-lt-of-le, lt-of-le-of-lt}
 use lib.Dec.{lit<, lit≤}
-use lib.ListN.{length, getD}
+use lib.ListN.{getD}
 use lib.IntN.{ℤ, pos, natAbs}
 use lib.Signed.{_≤ℤ_}
 use Rattle.whole.specs.Lists.{listed}
 use Rattle.whole.specs.Sums.{vector}
-use Rattle.whole.proofs.Lists.{listed-ext}
 use Rattle.whole.proofs.Order.{zero-≤ℤ-pos, ≤ℤ-trans}
 use Rattle.refusals.specs.declared.Refusal.{Refusal}
 use Rattle.refusals.specs.declared.Verdict.{Verdict}
@@ -19,26 +17,19 @@ use Rattle.refusals.specs.Ranges.{leastAngle}
 use Rattle.figures.specs.declared.Figure.{Figure}
 use Rattle.figures.specs.declared.Named.{Named}
 use Rattle.figures.specs.Figure.{angleCount, conditionCount, figureOf}
-use Rattle.figures.specs.Numerators.{mostAngles, mostConditions}
+use Rattle.figures.specs.Numerators.{mostAngles}
 use Rattle.figures.proofs.Figures.{angle-bound, condition-bound}
-use Rattle.work.specs.declared.second.SecondAnswer.{SecondAnswer}
 use Rattle.work.specs.declared.second.SecondAnswer.the-variants.{Done, Refused}
 use Rattle.work.specs.declared.second.SecondWork.{SecondWork}
-use Rattle.work.specs.Column.{column}
 use Rattle.work.specs.Pass.{ofNamed}
 use Rattle.work.specs.SecondPass.{secondReduced, sineMisclosure, sumOfSquares, secondNumerator, secondRounded, secondAdjusted, secondRest, secondLengths, secondPassVerdict, secondAnswerOf, secondPassAnswer, forAngles, forConditions}
 use Rattle.work.specs.SecondWork.{secondWorkOf, refusedWork, figureWork, sheetWork, Storable}
 use Rattle.work.proofs.ColumnLaws.{column-at}
+use Rattle.work.proofs.Verdicts.{stored-column}
 use Rattle.work.proofs.SecondAccepted.{AcceptedSheet, sheet-verdict, sheet-accepted, result-within, result-most, rounded-most, rest-most}
 
 condition-few : (f : Figure) → conditionCount f ≤ mostAngles
 condition-few f = le-trans (condition-bound f) (lit≤ tt)
-
--- a column's first values, through a rule
-first-values : {A : Type 0} (value : ℤ → A) (g : ℕ → ℤ) {m n : ℕ} {x : List ℤ} → m ≡ n → n ≤ mostAngles → x ≡ column g → listed m (λ i. value (vector x i)) ≡ listed n (λ i. value (g i))
-first-values value g {m} {n} {x} same few e =
-    ap (λ (k : ℕ). listed k (λ i. value (vector x i))) same
-    ∙ listed-ext n (λ i. value (vector x i)) (λ i. value (g i)) (λ i b. ap value (ap (λ (l : List ℤ). vector l i) e ∙ column-at g i (lt-of-lt-of-le b few)))
 
 module _ (code n tolerance : ℕ) (angles logSines : List ℕ) (differences : List ℤ) (lent : List ℕ) (work : SecondWork)
     (made : work ≡ sheetWork code n tolerance angles logSines differences lent) where
@@ -111,25 +102,25 @@ module _ (code n tolerance : ℕ) (angles logSines : List ℕ) (differences : Li
 
     pub stored-reduced : listed (getD lent 3 0) (vector (work .reduced)) ≡ forAngles code n (λ f. secondReduced f differences)
     stored-reduced =
-        first-values (λ z. z) (secondReduced figure differences) (length-is 3) (angle-bound figure) (ap (λ (w : SecondWork). w .reduced) work-is)
+        stored-column (secondReduced figure differences) (λ z. z) (work .reduced) (getD lent 3 0) _ (ap (λ (w : SecondWork). w .reduced) work-is) (length-is 3) (angle-bound figure)
         ∙ sym (named-value [] (λ f. listed (angleCount f) (secondReduced f differences)))
 
     pub stored-numerators : listed (getD lent 4 0) (vector (work .numerators)) ≡ forAngles code n (λ f. secondNumerator f logSines differences)
     stored-numerators =
-        first-values (λ z. z) (secondNumerator figure logSines differences) (length-is 4) (angle-bound figure) (ap (λ (w : SecondWork). w .numerators) work-is)
+        stored-column (secondNumerator figure logSines differences) (λ z. z) (work .numerators) (getD lent 4 0) _ (ap (λ (w : SecondWork). w .numerators) work-is) (length-is 4) (angle-bound figure)
         ∙ sym (named-value [] (λ f. listed (angleCount f) (secondNumerator f logSines differences)))
 
     pub stored-rounded : listed (getD lent 5 0) (vector (work .rounded)) ≡ forAngles code n (λ f. secondRounded f logSines differences)
     stored-rounded =
-        first-values (λ z. z) (secondRounded figure logSines differences) (length-is 5) (angle-bound figure) (ap (λ (w : SecondWork). w .rounded) work-is)
+        stored-column (secondRounded figure logSines differences) (λ z. z) (work .rounded) (getD lent 5 0) _ (ap (λ (w : SecondWork). w .rounded) work-is) (length-is 5) (angle-bound figure)
         ∙ sym (named-value [] (λ f. listed (angleCount f) (secondRounded f logSines differences)))
 
     pub stored-adjusted : listed (getD lent 6 0) (λ i. natAbs (vector (work .adjusted) i)) ≡ forAngles code n (λ f i. natAbs (secondAdjusted f angles logSines differences i))
     stored-adjusted =
-        first-values natAbs (secondAdjusted figure angles logSines differences) (length-is 6) (angle-bound figure) (ap (λ (w : SecondWork). w .adjusted) work-is)
+        stored-column (secondAdjusted figure angles logSines differences) natAbs (work .adjusted) (getD lent 6 0) _ (ap (λ (w : SecondWork). w .adjusted) work-is) (length-is 6) (angle-bound figure)
         ∙ sym (named-value [] (λ f. listed (angleCount f) (λ i. natAbs (secondAdjusted f angles logSines differences i))))
 
     pub stored-rests : listed (getD lent 7 0) (vector (work .rests)) ≡ forConditions code n (λ f. secondRest f logSines differences)
     stored-rests =
-        first-values (λ z. z) (secondRest figure logSines differences) (length-is 7) (condition-few figure) (ap (λ (w : SecondWork). w .rests) work-is)
+        stored-column (secondRest figure logSines differences) (λ z. z) (work .rests) (getD lent 7 0) _ (ap (λ (w : SecondWork). w .rests) work-is) (length-is 7) (condition-few figure)
         ∙ sym (named-value [] (λ f. listed (conditionCount f) (secondRest f logSines differences)))

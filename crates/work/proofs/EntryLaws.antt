@@ -1,20 +1,18 @@
 -- What it says of a sheet that numbers 2, 3, 4 and 8 pass. Assumes nothing.
-use mathlib.Core.Path.{_≡_, refl, sym, ap, _∙_, subst}
-use mathlib.Core.Bool.{Bool, true, false, not}
+use mathlib.Core.Path.{_≡_, refl, sym, _∙_, subst}
 use mathlib.Core.List.{List, [], _∷_}
-use mathlib.Core.Logic.{_↔_}
-use Prim.Native.Nat.{ℕ, zero, suc, _^_, _≤_, _<_, zero-le, suc-le-suc}
+use Prim.Native.Nat.{ℕ, zero, suc, _≤_, _<_, zero-le, suc-le-suc}
 use native.Mathlib.Decide.{decLt}
-use native.Mathlib.Nat.{le-trans, lt-of-le-of-lt}
+use native.Mathlib.Nat.{lt-of-le-of-lt}
 use native.Mathlib.Omega.{arith}
 use borrow.Author.Tests.{ltb-false, not-false}
-use lib.Dec.{ltb, leb→le, lit<, lit≤}
+use lib.Dec.{leb→le, lit<}
 use lib.ListN.{length, getD, List·getD-eq-default}
 use lib.IntN.{ℤ, pos, negsuc, negℤ, natAbs}
 use lib.Signed.{_≤ℤ_}
 use Rattle.whole.specs.Sums.{vector}
+use Rattle.whole.proofs.Lists.{getD-listed}
 use Rattle.refusals.specs.declared.Refusal.{Refusal}
-use Rattle.refusals.specs.declared.Verdict.{Verdict}
 use Rattle.refusals.specs.declared.Verdict.the-variants.{Passed}
 use Rattle.refusals.specs.declared.Lowest.{Lowest}
 use Rattle.refusals.specs.declared.Lowest.the-variants.{Nowhere, At}
@@ -23,10 +21,11 @@ use Rattle.refusals.specs.Ranges.{leastAngle, mostAngle, leastLogSine, mostLogS
 use Rattle.refusals.proofs.Answers.{answer-of-one, cons-passes}
 use Rattle.refusals.proofs.Places.{lowest-is-nowhere}
 use Rattle.refusals.proofs.Ranges.{within-range, within-signed-range}
-use Rattle.refusals.proofs.Verdicts.{if-passes, at-passes}
+use Rattle.refusals.proofs.Verdicts.{if-passes, at-passes, search-passes}
 use Rattle.figures.specs.declared.Figure.{Figure}
+use Rattle.figures.specs.Figure.{angleCount}
 use Rattle.work.specs.Column.{Angles}
-use Rattle.work.specs.Pass.{sameLengths, lengthsTest, limitOrToleranceTest, angleTest}
+use Rattle.work.specs.Pass.{inForce, sameLengths, lengthsTest, limitOrToleranceTest, angleTest, resultFails, resultTest}
 use Rattle.work.specs.SecondPass.{secondLengths, sineEntryTest}
 use Rattle.work.specs.SecondWork.{SineEntries}
 use Rattle.work.proofs.LengthLaws.{same-lists}
@@ -52,10 +51,31 @@ module _ (values : List ℤ) (least most : ℤ) (none : lowestSignedOutside valu
       within-signed-range least most (vector values i) .0
       (lowest-is-nowhere (λ place. outsideSigned least most (numbered values place (pos 0))) (length values) .0 none (suc i) (suc-le-suc zero-le) h)
 
--- a difference within ±9,999 has no greater magnitude
-difference-most : (z : ℤ) → negℤ (pos mostDifference) ≤ℤ z → z ≤ℤ pos mostDifference → natAbs z ≤ mostDifference
-difference-most (pos n) low high = leb→le n mostDifference (high .le)
-difference-most (negsuc n) low high = suc-le-suc (leb→le n 9998 (low .le))
+-- between −l and l is a magnitude of at most l
+pub between : (l : ℕ) (z : ℤ) → negℤ (pos l) ≤ℤ z → z ≤ℤ pos l → natAbs z ≤ l
+between l (pos n) low high = leb→le n l (high .le)
+between zero (negsuc n) low high = absurd (low .le)
+between (suc l) (negsuc n) low high = omega (arith, leb→le n l (low .le))
+
+-- angles and results within their range
+pub small-values : (values : List ℕ) → lowestOutside values leastAngle mostAngle ≡ Nowhere → Angles values
+small-values values none i = lt-of-le-of-lt (value-most values leastAngle mostAngle none i) (lit< tt)
+
+pub results-within : (f : Figure) (results : ℕ → ℤ) → resultTest f results ≡ Passed → (i : ℕ) → i < angleCount f
+    → (pos leastAngle ≤ℤ results i) × (results i ≤ℤ pos mostAngle)
+results-within f results passed i h =
+    subst (λ (z : ℤ). (pos leastAngle ≤ℤ z) × (z ≤ℤ pos mostAngle)) (getD-listed (angleCount f) results i (pos 0) h)
+    (within-signed-range (pos leastAngle) (pos mostAngle) _ .0
+    (search-passes Refusal.ResultOutOfRange (resultFails f results) (angleCount f) .0 passed (suc i) (suc-le-suc zero-le) h))
+
+pub angle-most : (z : ℤ) → pos leastAngle ≤ℤ z → z ≤ℤ pos mostAngle → natAbs z ≤ mostAngle
+angle-most (pos n) low high = leb→le n mostAngle (high .le)
+angle-most (negsuc n) low high = absurd (low .le)
+
+-- L or e in force stays in range where the default is
+pub in-force-within : (default most value : ℕ) → default ≤ most → value ≤ most → inForce default value ≤ most
+in-force-within default most zero d h = d
+in-force-within default most (suc value) d h = h
 
 differences-most : (values : List ℤ) → lowestSignedOutside values (negℤ (pos mostDifference)) (pos mostDifference) ≡ Nowhere → (i : ℕ) → natAbs (vector values i) ≤ mostDifference
 differences-most values none i = go (decLt i (length values))
@@ -63,7 +83,7 @@ differences-most values none i = go (decLt i (length values))
     go : Dec (i < length values) → natAbs (vector values i) ≤ mostDifference
     go (yes h) =
         let within = signed-value-within values (negℤ (pos mostDifference)) (pos mostDifference) none i h in
-        difference-most (vector values i) (within .0) (within .1)
+        between mostDifference (vector values i) (within .0) (within .1)
     go (no h) = subst (λ (z : ℤ). natAbs z ≤ mostDifference) (sym (List·getD-eq-default values (pos 0) {n = i} (omega arith))) zero-le
 
 -- the lower of two places is nowhere exactly if both are
@@ -100,7 +120,7 @@ module _ (f : Figure) (tolerance : ℕ) (angles logSines : List ℕ) (difference
 
   module _ (passed : Entries f tolerance angles logSines differences lent) where
     pub small-angles : Angles angles
-    small-angles i = lt-of-le-of-lt (value-most angles leastAngle mostAngle (passed .no-angle) i) (lit< tt)
+    small-angles = small-values angles (passed .no-angle)
 
     pub sine-entries : SineEntries logSines differences
     sine-entries = record {

@@ -1,31 +1,29 @@
 -- What an accepted first pass says of its sheet, test by test, and that its stores fit. Assumes nothing.
 use mathlib.Core.Path.{_≡_, refl, sym, ap, ap₂, _∙_, subst}
 use mathlib.Core.List.{List, [], _∷_}
-use Prim.Native.Nat.{ℕ, zero, suc, _+_, _*_, _^_, _≤_, _<_}
+use Prim.Native.Nat.{ℕ, suc, _^_, _≤_, _<_}
 use native.Mathlib.Nat.{le-trans, lt-of-lt-of-le, lt-of-le-of-lt}
 use native.Mathlib.Decide.{decLt}
 use native.Mathlib.Omega.{arith}
 use borrow.Author.Tests.{ltb-false, not-false}
-use lib.Dec.{ltb, leb→le, lit<, lit≤}
-use lib.ListN.{length, getD, List·getD-eq-default}
-use lib.IntN.{ℤ, pos, negsuc, negℤ, natAbs, _+ℤ_, _-ℤ_}
+use lib.Dec.{ltb, lit<, lit≤}
+use lib.ListN.{getD, List·getD-eq-default}
+use lib.IntN.{ℤ, pos, negℤ, natAbs, _-ℤ_}
 use lib.Signed.{_≤ℤ_}
-use Rattle.whole.specs.Lists.{listed}
 use Rattle.whole.specs.Sums.{vector}
-use Rattle.whole.proofs.Lists.{getD-listed}
 use Rattle.whole.proofs.Magnitudes.{natAbs-add}
-use Rattle.whole.proofs.Order.{zero-≤ℤ-pos}
+use Rattle.whole.proofs.Order.{zero-≤ℤ-pos, ≤ℤ-trans}
 use Rattle.whole.proofs.Quotient.{rounded-within}
 use Rattle.refusals.specs.declared.Refusal.{Refusal}
 use Rattle.refusals.specs.declared.Verdict.{Verdict}
 use Rattle.refusals.specs.declared.Verdict.the-variants.{Passed, Failed}
-use Rattle.refusals.specs.Order.{answerOf, failsIf, failsAt, lowestPlace, lowestOutside, numbered, outsideSigned}
+use Rattle.refusals.specs.Order.{answerOf, failsAt, numbered, outsideSigned}
 use Rattle.refusals.specs.Ranges.{leastAngle, mostAngle, mostLimit}
 use Rattle.refusals.proofs.Answers.{answer-passes, answer-of-append, answer-of-one}
 use Rattle.refusals.proofs.Ranges.{within-signed-range}
-use Rattle.refusals.proofs.Verdicts.{if-passes, search-passes}
+use Rattle.refusals.proofs.Verdicts.{if-passes, at-passes, search-passes}
 use Rattle.figures.specs.declared.Figure.{Figure}
-use Rattle.figures.specs.Figure.{Condition, denominator, angleCount, conditionCount, targetOf, description}
+use Rattle.figures.specs.Figure.{Condition, denominator, angleCount, conditionCount, description}
 use Rattle.figures.specs.Numerators.{conditionSum, sumOver, mostAngles}
 use Rattle.figures.specs.declared.Target.{Target}
 use Rattle.figures.proofs.Figures.{angle-bound, condition-bound, none}
@@ -36,17 +34,10 @@ use Rattle.work.specs.Pass.{given, sameLengths, resultTest}
 use Rattle.work.specs.FirstWork.{StoreFits, StoresFit, givenTests, workTests, firstWorkOf, firstWorked, firstJudgedOf, judgedAfter}
 use Rattle.work.proofs.Bounds.{condition-magnitude, numerator-magnitude}
 use Rattle.work.proofs.ColumnLaws.{column-at}
+use Rattle.work.proofs.EntryLaws.{between, small-values, results-within, angle-most, in-force-within}
 use Rattle.work.proofs.LengthLaws.{same-lists}
 use Rattle.work.proofs.MemberLaws.{past-conditions}
-use Rattle.work.proofs.Verdicts.{column-search, angles-small}
-
-positive : (z : ℤ) → pos leastAngle ≤ℤ z → pos 0 ≤ℤ z
-positive (pos n) h = zero-≤ℤ-pos n
-positive (negsuc n) h = absurd (h .le)
-
-positive-below : (z : ℤ) → pos leastAngle ≤ℤ z → z ≤ℤ pos mostAngle → natAbs z < 2 ^ 31
-positive-below (pos n) h k = omega (arith, leb→le n mostAngle (k .le))
-positive-below (negsuc n) h k = absurd (h .le)
+use Rattle.work.proofs.Verdicts.{column-search}
 
 -- the tests of the work, over its columns
 pub columns-tested : (f : Figure) (limit : ℕ) (angles fixed : List ℕ)
@@ -102,22 +93,12 @@ module _ (f : Figure) (limit : ℕ) (angles fixed lent : List ℕ) (e : answerOf
   limit-within = ltb-false mostLimit limit (if-passes (ltb mostLimit limit) Refusal.LimitOrToleranceOutOfRange .0 (given-passes 1 (lit< tt)))
 
   pub given-angles : Angles angles
-  given-angles = angles-small Refusal.AngleOutOfRange angles (given-passes 2 (lit< tt))
+  given-angles = small-values angles (at-passes Refusal.AngleOutOfRange _ .0 (given-passes 2 (lit< tt)))
 
   pub given-fixed : Angles fixed
-  given-fixed = angles-small Refusal.FixedAngleOutOfRange fixed (given-passes 3 (lit< tt))
+  given-fixed = small-values fixed (at-passes Refusal.FixedAngleOutOfRange _ .0 (given-passes 3 (lit< tt)))
 
 -- ---- what passed of the work
-
--- between −l and l is a magnitude of at most l
-between : (l : ℕ) (z : ℤ) → negℤ (pos l) ≤ℤ z → z ≤ℤ pos l → natAbs z ≤ l
-between l (pos n) a b = leb→le n l (b .le)
-between zero (negsuc n) a b = absurd (a .le)
-between (suc l) (negsuc n) a b = omega (arith, leb→le n l (a .le))
-
-limit-at-most : (limit : ℕ) → limit ≤ mostLimit → limitOf limit ≤ mostLimit
-limit-at-most zero h = lit≤ tt
-limit-at-most (suc l) h = h
 
 module _ (f : Figure) (limit : ℕ) (angles fixed : List ℕ)
     (e : answerOf (workTests f limit (column (misclosure f angles fixed)) (column (corrected f angles fixed))) ≡ Passed) where
@@ -133,11 +114,9 @@ module _ (f : Figure) (limit : ℕ) (angles fixed : List ℕ)
       subst (λ (z : ℤ). natAbs z ≤ l) (column-at (misclosure f angles fixed) j (lt-of-lt-of-le h (le-trans (condition-bound f) (lit≤ tt)))) (between l _ (range .0) (range .1))
 
   pub corrected-within : (i : ℕ) → i < angleCount f → (pos leastAngle ≤ℤ corrected f angles fixed i) × (corrected f angles fixed i ≤ℤ pos mostAngle)
-  corrected-within i h =
-      subst (λ (z : ℤ). (pos leastAngle ≤ℤ z) × (z ≤ℤ pos mostAngle)) (column-at (corrected f angles fixed) i (lt-of-lt-of-le h (angle-bound f)))
-      (within-signed-range (pos leastAngle) (pos mostAngle) (vector (column (corrected f angles fixed)) i) .0
-      (search-passes Refusal.ResultOutOfRange (λ place. outsideSigned (pos leastAngle) (pos mostAngle) (numbered (column (corrected f angles fixed)) place (pos 0))) (angleCount f) .0
-      (answer-passes tests .0 e 1 (lit< tt)) (suc i) (omega arith) h))
+  corrected-within =
+      results-within f (corrected f angles fixed)
+      (ap (failsAt Refusal.ResultOutOfRange) (column-search (corrected f angles fixed) (pos leastAngle) (pos mostAngle) (angleCount f) (angle-bound f)) ∙ answer-passes tests .0 e 1 (lit< tt))
 
 -- ---- then the stores fit
 
@@ -154,7 +133,7 @@ module _ (f : Figure) (limit : ℕ) (angles fixed : List ℕ) (small : limit ≤
   misclosure-small j = go (decLt j (conditionCount f))
     where
       go : Dec (j < conditionCount f) → natAbs (misclosure f angles fixed j) ≤ mostLimit
-      go (yes h) = le-trans (misclosure-within f limit angles fixed e j h) (limit-at-most limit small)
+      go (yes h) = le-trans (misclosure-within f limit angles fixed e j h) (in-force-within 150 mostLimit limit (lit≤ tt) small)
       go (no h) = subst (λ (z : ℤ). natAbs z ≤ mostLimit) (sym (no-misclosure f angles fixed j (omega arith))) (lit≤ tt)
 
   numerator-small : (i : ℕ) → natAbs (firstNumerator f angles fixed i) ≤ 540000
@@ -185,9 +164,9 @@ module _ (f : Figure) (limit : ℕ) (angles fixed : List ℕ) (small : limit ≤
         misclosures-fit = stored-fits (misclosure f angles fixed) (conditionCount f) few (λ j b. omega (arith, misclosure-small j));
         numerators-fit = stored-fits (firstNumerator f angles fixed) (angleCount f) (angle-bound f) (λ i b. omega (arith, numerator-small i));
         rounded-fit = stored-fits (firstRounded f angles fixed) (angleCount f) (angle-bound f) (λ i b. omega (arith, rounded-small i));
-        corrected-fit = stored-fits (corrected f angles fixed) (angleCount f) (angle-bound f) (λ i b. positive-below (corrected f angles fixed i) (corrected-within f limit angles fixed e i b .0) (corrected-within f limit angles fixed e i b .1));
+        corrected-fit = stored-fits (corrected f angles fixed) (angleCount f) (angle-bound f) (λ i b. lt-of-le-of-lt (angle-most (corrected f angles fixed i) (corrected-within f limit angles fixed e i b .0) (corrected-within f limit angles fixed e i b .1)) (lit< tt));
         corrected-positive = λ i b.
             subst (λ (z : ℤ). pos 0 ≤ℤ z) (sym (column-at (corrected f angles fixed) i (lt-of-lt-of-le b (angle-bound f))))
-            (positive (corrected f angles fixed i) (corrected-within f limit angles fixed e i b .0));
+            (≤ℤ-trans (zero-≤ℤ-pos leastAngle) (corrected-within f limit angles fixed e i b .0));
         rests-fit = stored-fits (firstRest f angles fixed) (conditionCount f) few (λ j b. omega (arith, rest-small j));
       }

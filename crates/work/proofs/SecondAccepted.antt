@@ -1,40 +1,32 @@
 -- The verdict of the work is the answer of the one list of tests, and what an accepted sheet says: the work is that of the definitions, and small
 -- enough for the slices that it is stored in. Assumes nothing.
-use mathlib.Core.Path.{_≡_, refl, sym, ap, ap₂, _∙_, subst}
+use mathlib.Core.Path.{_≡_, refl, sym, ap, ap₂, _∙_}
 use mathlib.Core.List.{List, [], _∷_}
-use Prim.Native.Nat.{ℕ, zero, suc, _+_, _*_, _^_, _≤_, _<_, zero-le, suc-le-suc}
-use native.Mathlib.Decide.{decLt}
-use native.Mathlib.Nat.{le-trans, lt-of-le-of-lt}
+use Prim.Native.Nat.{ℕ, _+_, _≤_, _<_}
 use native.Mathlib.Omega.{arith}
-use borrow.Author.Tests.{eq-eqb, eqb-false}
-use lib.ListN.{length, getD}
-use lib.Dec.{leb→le, lit<}
-use lib.IntN.{ℤ, pos, negsuc, negℤ, natAbs, _+ℤ_, _-ℤ_, _*ℤ_, +ℤ-idl, *ℤ-zero}
+use borrow.Author.Tests.{eqb-false}
+use lib.IntN.{ℤ, pos, natAbs, _-ℤ_}
 use lib.Signed.{_≤ℤ_}
-use Rattle.whole.specs.Lists.{listed}
-use Rattle.whole.specs.Sums.{vector}
-use Rattle.whole.proofs.Lists.{getD-listed}
 use Rattle.whole.proofs.Magnitudes.{natAbs-sub}
-use Rattle.whole.proofs.Ring.{ring, _≐_, _⊕_, _⊖_, _⊗_}
+use Rattle.whole.proofs.Ring.{ring, _≐_, _⊕_, _⊖_}
 use Rattle.refusals.specs.declared.Refusal.{Refusal}
 use Rattle.refusals.specs.declared.Verdict.{Verdict}
 use Rattle.refusals.specs.declared.Verdict.the-variants.{Passed, Failed}
-use Rattle.refusals.specs.Order.{answerOf, lowestPlace, numbered, outsideSigned}
+use Rattle.refusals.specs.Order.{answerOf}
 use Rattle.refusals.specs.Ranges.{leastAngle, mostAngle, mostTolerance}
 use Rattle.refusals.proofs.Answers.{answer-of-one, answer-of-append, cons-passes}
-use Rattle.refusals.proofs.Ranges.{within-signed-range}
-use Rattle.refusals.proofs.Verdicts.{if-passes, search-passes}
+use Rattle.refusals.proofs.Verdicts.{if-passes}
 use Rattle.figures.specs.declared.Figure.{Figure}
 use Rattle.figures.specs.declared.Named.{Named}
 use Rattle.figures.specs.declared.Named.the-variants.{As, Nothing}
-use Rattle.figures.specs.Figure.{denominator, angleCount, conditionCount, membersOf, figureOf}
-use Rattle.figures.specs.Numerators.{conditionSum, sumOver, mostAngles, mostMembers}
+use Rattle.figures.specs.Figure.{angleCount, conditionCount, figureOf}
+use Rattle.figures.specs.Numerators.{mostMembers}
 use Rattle.figures.proofs.Figures.{member-count}
 use Rattle.work.specs.declared.second.SecondWork.{SecondWork}
 use Rattle.work.specs.Pass.{given, lengthsTest, limitOrToleranceTest, angleTest, resultTest, ofNamed}
-use Rattle.work.specs.SecondPass.{secondReduced, signedDifference, sineMisclosure, sumOfSquares, differenceSquares, secondNumerator, secondRounded, secondAdjusted, secondRest, secondLengths, sineEntryTest, sumOfSquaresTest, toleranceTest, secondTests, secondPassTests, secondPassVerdict}
+use Rattle.work.specs.SecondPass.{sineMisclosure, sumOfSquares, differenceSquares, secondRounded, secondAdjusted, secondRest, secondLengths, sineEntryTest, sumOfSquaresTest, toleranceTest, secondTests, secondPassTests, secondPassVerdict}
 use Rattle.work.specs.SecondWork.{secondWorkOf, refusedWork, workedAfter, figureWork, sheetWork}
-use Rattle.work.proofs.EntryLaws.{Entries, entries-passed, value-most}
+use Rattle.work.proofs.EntryLaws.{results-within, angle-most, Entries, entries-passed, value-most}
 use Rattle.work.proofs.SecondLaws.{rest-half}
 
 never : (v : Verdict) (r : Refusal) → v ≡ Failed r → v ≡ Passed → ⊥
@@ -102,15 +94,7 @@ module _ (f : Figure) (tolerance : ℕ) (angles logSines : List ℕ) (difference
         omega arith
 
     pub result-within : (i : ℕ) → i < angleCount f → (pos leastAngle ≤ℤ secondAdjusted f angles logSines differences i) × (secondAdjusted f angles logSines differences i ≤ℤ pos mostAngle)
-    result-within i h =
-        subst (λ (z : ℤ). (pos leastAngle ≤ℤ z) × (z ≤ℤ pos mostAngle)) (getD-listed (angleCount f) (secondAdjusted f angles logSines differences) i (pos 0) h)
-        (within-signed-range (pos leastAngle) (pos mostAngle) _ .0
-        (search-passes Refusal.ResultOutOfRange (λ place. outsideSigned (pos leastAngle) (pos mostAngle) (numbered (listed (angleCount f) (secondAdjusted f angles logSines differences)) place (pos 0))) (angleCount f) .0
-        (ok .results) (suc i) (suc-le-suc zero-le) h))
-
-    angle-most : (z : ℤ) → pos leastAngle ≤ℤ z → z ≤ℤ pos mostAngle → natAbs z ≤ mostAngle
-    angle-most (pos n) low high = leb→le n mostAngle (high .le)
-    angle-most (negsuc n) low high = absurd (low .le)
+    result-within = results-within f (secondAdjusted f angles logSines differences) (ok .results)
 
     pub result-most : (i : ℕ) → i < angleCount f → natAbs (secondAdjusted f angles logSines differences i) ≤ mostAngle
     result-most i h = angle-most (secondAdjusted f angles logSines differences i) (result-within i h .0) (result-within i h .1)

@@ -2,7 +2,7 @@
 use mathlib.Core.Path.{_≡_, sym, ap, ap₂, _∙_}
 use mathlib.Core.Bool.{Bool}
 use mathlib.Core.List.{List}
-use Prim.Native.Nat.{ℕ, zero, suc, _*_, _^_, _≤_, _<_}
+use Prim.Native.Nat.{ℕ, _*_, _^_, _≤_, _<_}
 use native.Mathlib.Decide.{decLt}
 use native.Mathlib.Nat.{le-trans, mul-le-mul, mul-le-mul-right}
 use native.Mathlib.Omega.{arith}
@@ -25,12 +25,9 @@ use Rattle.figures.specs.Numerators.{mostAngles}
 use Rattle.figures.proofs.Figures.{angle-bound}
 use Rattle.work.specs.Pass.{given}
 use Rattle.work.specs.SecondPass.{toleranceOf, sineSign, signedDifference, sineMisclosure, differenceSquares, exceeds, toleranceTest}
+use Rattle.work.proofs.EntryLaws.{in-force-within}
 use Rattle.work.proofs.ProductLaws.{product-magnitude}
 use Rattle.work.proofs.SineLaws.{sign-magnitude, difference-magnitude}
-
-pub tolerance-within : (t : ℕ) → t ≤ mostTolerance → toleranceOf t ≤ mostTolerance
-tolerance-within zero h = lit≤ tt
-tolerance-within (suc e) h = h
 
 square : (w : ℤ) → w *ℤ w ≡ pos (natAbs w * natAbs w)
 square w = natural (w *ℤ w) (square-nonnegative w) ∙ ap pos (natAbs-mul w w)
@@ -71,7 +68,7 @@ within-tolerance w tolerance q few natural-q most passes = go (decLt (natAbs w) 
     e = toleranceOf tolerance
 
     e-most : e ≤ mostTolerance
-    e-most = tolerance-within tolerance few
+    e-most = in-force-within 10 mostTolerance tolerance (lit≤ tt) few
 
     within : 100 * (natAbs w * natAbs w) ≤ e * e * natAbs q
     within =

@@ -1,8 +1,7 @@
 -- The first pass: document 01, "The two passes". Angles and conditions are used by their indices, counted from 0.
-use Prim.Native.Nat.{ℕ, zero, suc}
+use Prim.Native.Nat.{ℕ, suc}
 use mathlib.Core.Bool.{Bool}
 use mathlib.Core.List.{List, [], _∷_}
-use lib.ListN.{length}
 use lib.IntN.{ℤ, pos, negℤ, natAbs, _+ℤ_, _-ℤ_}
 use Rattle.whole.specs.Lists.{listed}
 use Rattle.whole.specs.Quotient.{roundedQuotient}
@@ -16,12 +15,11 @@ use Rattle.figures.specs.declared.Target.{Target}
 use Rattle.figures.specs.declared.Target.the-variants.{HalfTurn, FullTurn, FixedAngle, NoCondition}
 use Rattle.figures.specs.Figure.{denominator, angleCount, conditionCount, fixedCount, targetOf, figureOf}
 use Rattle.figures.specs.Numerators.{conditionSum, numerator}
-use Rattle.work.specs.Pass.{given, lengthsTest, limitOrToleranceTest, angleTest, resultTest, ofNamed}
+use Rattle.work.specs.Pass.{inForce, given, lengthsTest, limitOrToleranceTest, angleTest, resultTest, ofNamed}
 
 -- the misclosure limit L: 0 stands for the default 150
 abbrev pub limitOf : ℕ → ℕ
-limitOf zero = 150
-limitOf (suc l) = suc l
+limitOf = inForce 150
 
 -- what the angles of a condition should sum to, in tenths: 180°, 360°, or a fixed angle
 abbrev pub shouldBe : Target → (fixed : List ℕ) → ℤ

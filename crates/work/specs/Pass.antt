@@ -18,6 +18,11 @@ use Rattle.figures.specs.declared.Named.{Named}
 use Rattle.figures.specs.declared.Named.the-variants.{As, Nothing}
 use Rattle.figures.specs.Figure.{angleCount}
 
+-- L or e in force: 0 stands for the default
+abbrev pub inForce : (default value : ℕ) → ℕ
+inForce default zero = default
+inForce default (suc value) = suc value
+
 -- the given angle of index i
 abbrev pub given : List ℕ → ℕ → ℤ
 given angles i = pos (getD angles i 0)

@@ -1,9 +1,8 @@
 -- The second pass: document 01, "The two passes". Angles and conditions are used by their indices, counted from 0.
-use Prim.Native.Nat.{ℕ, zero, suc, _*_}
+use Prim.Native.Nat.{ℕ, _*_}
 use mathlib.Core.Bool.{Bool}
 use mathlib.Core.List.{List, [], _∷_}
 use lib.Dec.{eqb}
-use lib.ListN.{length}
 use lib.IntN.{ℤ, pos, negℤ, natAbs, _+ℤ_, _*ℤ_}
 use lib.Signed.{ltZ}
 use Rattle.whole.specs.Lists.{listed}
@@ -19,12 +18,11 @@ use Rattle.figures.specs.Figure.{description, denominator, angleCount, conditio
 use Rattle.figures.specs.Numerators.{conditionSum, reducedCoefficient}
 use Rattle.work.specs.declared.second.SecondAnswer.{SecondAnswer}
 use Rattle.work.specs.declared.second.SecondAnswer.the-variants.{Done, Refused}
-use Rattle.work.specs.Pass.{given, lengthsTest, limitOrToleranceTest, angleTest, resultTest, ofNamed}
+use Rattle.work.specs.Pass.{inForce, given, lengthsTest, limitOrToleranceTest, angleTest, resultTest, ofNamed}
 
 -- the sine tolerance e: 0 stands for 10
 abbrev pub toleranceOf : ℕ → ℕ
-toleranceOf zero = 10
-toleranceOf (suc e) = suc e
+toleranceOf = inForce 10
 
 -- ---- document 01, "The two passes", second pass
 

@@ -6,7 +6,7 @@ ghost use Rattle.refusals.specs.declared.Refusal.{Refusal};
 ghost use Rattle.refusals.specs.Order.{answerOf, failsAt, lowestPlace, numbered, outsideSigned};
 ghost use Rattle.figures.specs.Numerators.{mostAngles};
 ghost use Rattle.work.specs.Column.{Angles};
-ghost use Rattle.work.specs.FirstPass.{firstLengths, fixedTest, limitOf};
+ghost use Rattle.work.specs.FirstPass.{firstLengths, fixedTest};
 ghost use Rattle.work.specs.FirstWork.{firstWorkOf, firstWorked, firstJudgedOf, givenTests, refusedBeforeWork, workTests};
 use crate::columns::Column;
 use crate::columns::column_of;
@@ -19,6 +19,7 @@ use crate::lengths::lengths_verdict;
 use crate::targets::minus_targets;
 use crate::tests::angles_verdict;
 use crate::tests::first_of_four;
+use crate::tests::in_force;
 use crate::tests::limit_or_tolerance_verdict;
 use crate::tests::results_verdict;
 use figures::Figure;
@@ -81,13 +82,6 @@ fn fixed_verdict(fixed: &[u32]) -> Verdict
     }
 }
 
-// The limit itself: 0 stands for the default.
-fn limit_in_force(limit: u32) -> u32
-    ensures { λ r. ⌜ r ≡ limitOf limit ⌝ }
-{
-    if limit == 0 { DEFAULT_LIMIT } else { limit }
-}
-
 fn misclosures_verdict(misclosures: Column, count: usize, limit: u32) -> Verdict
     requires { ⌜ count ≤ mostAngles ⌝ }
     ensures { λ r. ⌜ r ≡ failsAt Refusal.MisclosureBeyondLimit (lowestPlace (λ place. outsideSigned (negℤ (pos limit)) (pos limit) (numbered misclosures place (pos 0))) count) ⌝ }
@@ -139,7 +133,11 @@ fn work_verdict(f: Figure, limit: u32, misclosures: Column, corrected: Column) -
     ensures { λ r. ⌜ r ≡ answerOf (workTests f limit misclosures corrected) ⌝ }
 {
     let counts = tables::counts_of(f);
-    let by_condition = misclosures_verdict(misclosures, counts.conditions, limit_in_force(limit));
+    let by_condition = misclosures_verdict(
+        misclosures,
+        counts.conditions,
+        in_force(limit, DEFAULT_LIMIT),
+    );
     refusals::first_to_fail(by_condition, results_verdict(corrected, counts.angles))
 }
 

@@ -7,7 +7,7 @@ ghost use Rattle.whole.specs.Sums.{vector};
 ghost use Rattle.refusals.specs.Ranges.{mostTolerance};
 ghost use Rattle.figures.specs.Numerators.{reducedCoefficient};
 ghost use Rattle.work.specs.Column.{column, Below};
-ghost use Rattle.work.specs.SecondPass.{toleranceOf, sineEntryTest, sumOfSquaresTest, toleranceTest};
+ghost use Rattle.work.specs.SecondPass.{sineEntryTest, sumOfSquaresTest, toleranceTest};
 ghost use Rattle.work.specs.SecondWork.{SineEntries, sinesOf};
 use crate::columns::Column;
 use crate::columns::column_of;
@@ -18,6 +18,7 @@ use crate::sums::dot_product;
 use crate::sums::products;
 use crate::sums::scaled;
 use crate::sums::signed_column;
+use crate::tests::in_force;
 use figures::Figure;
 use refusals::LEAST_DIFFERENCE;
 use refusals::LEAST_LOG_SINE;
@@ -104,22 +105,12 @@ pub fn tolerance_verdict(misclosure: i64, tolerance: u32, difference_squares: i6
     requires { ⌜ natAbs «difference_squares» < 2 ^ 32 ⌝ }
     ensures { λ r. ⌜ r ≡ toleranceTest misclosure tolerance «difference_squares» ⌝ }
 {
-    let e = tolerance_of(tolerance) as u64;
+    let e = in_force(tolerance, DEFAULT_TOLERANCE) as u64;
     let w = whole::magnitude(misclosure);
     let most = e * e * whole::magnitude(difference_squares);
     if whole::hundredfold_exceeds(w * w, most) {
         Verdict::Failed(Refusal::SineMisclosureBeyondTolerance)
     } else {
         Verdict::Passed
-    }
-}
-
-fn tolerance_of(tolerance: u32) -> u32
-    ensures { λ r. ⌜ r ≡ toleranceOf tolerance ⌝ }
-{
-    if tolerance == 0 {
-        DEFAULT_TOLERANCE
-    } else {
-        tolerance
     }
 }

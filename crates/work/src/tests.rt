@@ -7,7 +7,7 @@ ghost use Rattle.refusals.specs.declared.Refusal.{Refusal};
 ghost use Rattle.refusals.specs.Order.{answerOf, failsAt, lowestPlace, numbered, outsideSigned};
 ghost use Rattle.refusals.specs.Ranges.{leastAngle, mostAngle};
 ghost use Rattle.figures.specs.Numerators.{mostAngles};
-ghost use Rattle.work.specs.Pass.{angleTest, limitOrToleranceTest};
+ghost use Rattle.work.specs.Pass.{angleTest, limitOrToleranceTest, inForce};
 use crate::columns::Column;
 use crate::columns::lowest_in_column;
 use refusals::LEAST_ANGLE;
@@ -52,4 +52,11 @@ pub fn first_of_four(lengths: Verdict, range: Verdict, angles: Verdict, others: 
     ensures { λ r. ⌜ r ≡ answerOf (lengths ∷ range ∷ angles ∷ others ∷ []) ⌝ }
 {
     first_to_fail(first_to_fail(lengths, range), first_to_fail(angles, others))
+}
+
+// L or e in force: 0 stands for the default.
+pub fn in_force(value: u32, default: u32) -> u32
+    ensures { λ r. ⌜ r ≡ inForce default value ⌝ }
+{
+    if value == 0 { default } else { value }
 }

@@ -33,7 +33,7 @@ returns c =
     ∙ ap₂ (λ (a b : Verdict). answerOf (a ∷ b ∷ []))
     (c .before .before .misclosures-verdict .ensures
     ∙ ap₂ (λ (l : ℕ) (k : Counts). failsAt Refusal.MisclosureBeyondLimit (lowestPlace (λ place. outsideSigned (negℤ (pos l)) (pos l) (numbered (args .misclosures) place (pos 0))) (k .conditions)))
-    (c .before .before .before .limit-in-force .ensures) (called .counts-of .ensures))
+    (c .before .before .before .in-force .ensures) (called .counts-of .ensures))
     (c .before .results-verdict .ensures
     ∙ ap (λ (k : Counts). failsAt Refusal.ResultOutOfRange (lowestPlace (λ place. outsideSigned (pos leastAngle) (pos mostAngle) (numbered (args .corrected) place (pos 0))) (k .angles)))
     (called .counts-of .ensures))

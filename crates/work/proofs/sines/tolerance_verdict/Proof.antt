@@ -10,13 +10,15 @@ use Rattle.refusals.specs.declared.Refusal.{Refusal}
 use Rattle.refusals.specs.Order.{failsIf}
 use Rattle.refusals.specs.Ranges.{mostTolerance}
 use Rattle.work.specs.SecondPass.{toleranceOf, exceeds}
-use Rattle.work.proofs.ToleranceLaws.{tolerance-within, exceeds-is}
+use Rattle.work.proofs.EntryLaws.{in-force-within}
+use Rattle.work.proofs.ToleranceLaws.{exceeds-is}
 use borrow.Author.Needs.{needs}
+use lib.Dec.{lit≤}
 use Rattle.work.proofs.sines.tolerance_verdict.Statement.{statement}
 use Rattle.work.proofs.sines.tolerance_verdict.Tie as tie
 
-tolerance-of-requires : tie.Need-tolerance-of-requires
-tolerance-of-requires c κs = search needs
+in-force-requires : tie.Need-in-force-requires
+in-force-requires c κs = search needs
 
 cast-e : tie.Need-cast-e
 cast-e c = search needs
@@ -24,8 +26,8 @@ cast-e c = search needs
 magnitude-requires : tie.Need-magnitude-requires
 magnitude-requires c κs = search needs
 
-tolerance : (c : tie.After-tolerance-of) → c .tolerance-of .result ≤ mostTolerance
-tolerance c = rw (c .tolerance-of .ensures) (tolerance-within (c .before .args .tolerance) (c .before .pre .1 .0))
+tolerance : (c : tie.After-in-force) → c .in-force .result ≤ mostTolerance
+tolerance c = rw (c .in-force .ensures) (in-force-within 10 mostTolerance (c .before .args .tolerance) (lit≤ tt) (c .before .pre .1 .0))
 
 misclosure : (c : tie.After-magnitude) → c .magnitude .result ≡ natAbs (c .before .before .args .misclosure)
 misclosure c = c .magnitude .ensures ∙ ap natAbs (toZ-ofZ (c .before .before .fits .misclosure))
@@ -59,7 +61,7 @@ decided : (c : tie.After-hundredfold-exceeds)
 decided c =
     let start = c .before .before .before .before in
     exceeds-is (start .args .misclosure) (toleranceOf (start .args .tolerance)) (start .args .difference-squares) (start .pre .1 .1 .0)
-    ∙ rw (← c .before .before .before .tolerance-of .ensures, ← misclosure (c .before .before), ← squares (c .before))
+    ∙ rw (← c .before .before .before .in-force .ensures, ← misclosure (c .before .before), ← squares (c .before))
     (sym (c .hundredfold-exceeds .ensures))
 
 returns : tie.Need-returns
@@ -72,7 +74,7 @@ pub tolerance-verdict-spec : {M : Type 1} → statement M
 tolerance-verdict-spec =
     tie.close
     (tie.spec
-    tolerance-of-requires
+    in-force-requires
     cast-e
     magnitude-requires
     mul-most

@@ -1,0 +1,10 @@
+-- `passes::worked::first_shown` meets its contract: each column stands in its own place.
+use borrow.Author.Needs.{needs}
+use Rattle.passes.proofs.worked.first_shown.Statement.{statement}
+use Rattle.passes.proofs.worked.first_shown.Tie as tie
+
+returns : tie.Need-returns
+returns c = search needs
+
+pub first-shown-spec : {M : Type 1} → statement M
+first-shown-spec = tie.close (tie.spec returns)

@@ -1,15 +1,13 @@
--- What bit fields and two's complement are. Document 01, "Packed sheets": "Fields run on without gaps, most significant bit first;
--- zero bits fill the last byte", and of kind 2 "15 sine difference in two's complement".
+-- What bit fields are. Document 01, "Packed sheets": "Fields run on without gaps, most significant bit first;
+-- zero bits fill the last byte".
 --
 -- A bit is a Bool: true is 1, false is 0. A run of bits is a list, the most significant first. A byte is a number below 256.
 -- Positions are counted in bits from 0, the most significant bit of the first byte.
 use mathlib.Core.Bool.{Bool, true, false, cond, _&&_}
 use mathlib.Core.List.{List, [], _∷_, _++_, map}
 use Prim.Native.Nat.{ℕ, zero, suc, _+_, _-_, _*_, _/_, _%_, _^_, _<_}
-use lib.Dec.{leb, ltb, eqb}
-use lib.IntN.{ℤ, pos, negℤ, _-ℤ_, natAbs}
+use lib.Dec.{leb, eqb}
 use lib.ListN.{length, take, drop, replicate}
-use lib.Signed.{leZ, ltZ, nonNeg}
 
 -- ---- numbers and their bits
 
@@ -106,22 +104,3 @@ readFields (w ∷ rest) b = record { width = w; holds = value (take w b) } ∷ r
 unfoldable pub AllFit : List Field → Type 0
 AllFit [] = Unit {0}
 AllFit (f ∷ rest) = (f .holds < 2 ^ f .width) × AllFit rest
-
--- ---- two's complement of a width from 1 to 32
-
--- half the range of a width: of its numbers as many are negative as are not. No other width has any
-unfoldable pub halfRange : ℕ → ℕ
-halfRange w = cond (leb 1 w && leb w 32) (2 ^ (w - 1)) 0
-
--- the number that v stands for in w bits: the upper half of the range stands for the negative numbers. 0 where v is beyond the range
-unfoldable pub signedOf : ℕ → ℕ → ℤ
-signedOf w v =
-    cond (ltb v (halfRange w)) (pos v) (cond (ltb v (2 * halfRange w)) (pos v -ℤ pos (2 * halfRange w)) (pos 0))
-
--- w bits hold z
-unfoldable pub fitsSigned : ℕ → ℤ → Bool
-fitsSigned w z = leZ (negℤ (pos (halfRange w))) z && ltZ z (pos (halfRange w))
-
--- what stands for z in w bits: z, or the range less the size of z where z is negative. 0 where w bits do not hold z
-unfoldable pub twosComplement : ℕ → ℤ → ℕ
-twosComplement w z = cond (fitsSigned w z) (cond (nonNeg z) (natAbs z) (2 * halfRange w - natAbs z)) 0

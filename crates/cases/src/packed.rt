@@ -1,8 +1,8 @@
 // The cases of packed bytes. The slices lent to the reader are those of kind 1 and code 1.
-use passes::Outcome;
-use passes::worked_sheet;
+use reading::read_sheet;
 use sheets::Reading;
-use sheets::read_sheet;
+use worked::Outcome;
+use worked::worked_sheet;
 
 pub fn no_bytes_give_12() -> bool {
     gives(b"", 12)

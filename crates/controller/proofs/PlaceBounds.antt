@@ -30,10 +30,10 @@ use Rattle.sheets.specs.Sheet.{Values}
 use Rattle.sheets.specs.Judging.{readerTests, valueTests, givenTests, writerTests, writingOf, lengthsGiven, sameLengths}
 use Rattle.sheets.proofs.Accepted.{equal-lengths}
 use Rattle.layout.proofs.Sizes.{fixed-bound}
-use Rattle.work.specs.Pass as pass
-use Rattle.work.specs.FirstPass.{firstLengths, firstTests, firstPassTests, firstPassVerdict}
-use Rattle.work.specs.SecondPass.{secondLengths, secondTests, secondPassTests, secondPassVerdict}
-use Rattle.work.proofs.LengthLaws.{same-lists}
+use Rattle.method.specs.Pass as pass
+use Rattle.method.specs.FirstPass.{firstLengths, firstTests, firstPassTests, firstPassVerdict}
+use Rattle.method.specs.SecondPass.{secondLengths, secondTests, secondPassTests, secondPassVerdict}
+use Rattle.method.proofs.LengthLaws.{same-lists}
 use Rattle.report.proofs.PlaceBounds.{PlaceWithin, TestsWithin, if-within, _then_, once-passed, append-within, names-within, values-within, head-within, reader-within, first-within, second-within}
 use Rattle.controller.specs.Answer.{placeStep, placeIn}
 

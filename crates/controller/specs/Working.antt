@@ -6,8 +6,8 @@ use lib.Dec.{eqb}
 use lib.IntN.{ℤ, pos}
 use Rattle.refusals.specs.declared.Refusal.{Refusal}
 use Rattle.figures.specs.Figure.{figureOf}
-use Rattle.work.specs.Pass.{ofNamed}
-use Rattle.work.specs.SecondPass.{sineMisclosure, sumOfSquares}
+use Rattle.method.specs.Pass.{ofNamed}
+use Rattle.method.specs.SecondPass.{sineMisclosure, sumOfSquares}
 
 abbrev pub sumsLength : ℕ
 sumsLength = 2

@@ -12,12 +12,12 @@ use crate::look::number_of_kind;
 use crate::stores::store;
 use figures::Figure;
 use figures::name_of;
+use reading::read_sheet;
 use refusals::Refusal;
 use sheets::Kind;
 use sheets::Look;
 use sheets::Reading;
 use sheets::look_at;
-use sheets::read_sheet;
 use sheets::sheet_size;
 
 // Kind, code, n, and L or e.

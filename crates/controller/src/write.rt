@@ -5,7 +5,7 @@ ghost use Rattle.sheets.specs.Sheet.{valuesFrom};
 ghost use Rattle.sheets.specs.Judging.{writingOf, sheetGiven};
 ghost use Rattle.controller.specs.Answer.{answerNumber, afterAnswer};
 use crate::answer::answered;
-use sheets::write_sheet;
+use writing::write_sheet;
 
 #[no_mangle]
 pub extern "C" fn bienguloc_write(

@@ -19,14 +19,15 @@ use Rattle.figures.specs.declared.Named.{Named}
 use Rattle.figures.specs.Figure.{angleCount, conditionCount, figureOf}
 use Rattle.figures.specs.Numerators.{mostAngles}
 use Rattle.figures.proofs.Figures.{angle-bound, condition-bound}
-use Rattle.work.specs.declared.second.SecondAnswer.the-variants.{Done, Refused}
+use Rattle.method.specs.declared.second.SecondAnswer.the-variants.{Done, Refused}
 use Rattle.work.specs.declared.second.SecondWork.{SecondWork}
-use Rattle.work.specs.Pass.{ofNamed}
-use Rattle.work.specs.SecondPass.{secondReduced, sineMisclosure, sumOfSquares, secondNumerator, secondRounded, secondAdjusted, secondRest, secondLengths, secondPassVerdict, secondAnswerOf, secondPassAnswer, forAngles, forConditions}
+use Rattle.method.specs.Pass.{ofNamed}
+use Rattle.method.specs.SecondPass.{secondReduced, sineMisclosure, sumOfSquares, secondNumerator, secondRounded, secondAdjusted, secondRest, secondLengths, secondPassVerdict, secondAnswerOf, secondPassAnswer, forAngles, forConditions}
 use Rattle.work.specs.SecondWork.{secondWorkOf, refusedWork, figureWork, sheetWork, Storable}
 use Rattle.work.proofs.ColumnLaws.{column-at}
-use Rattle.work.proofs.Verdicts.{stored-column}
-use Rattle.work.proofs.SecondAccepted.{AcceptedSheet, sheet-verdict, sheet-accepted, result-within, result-most, rounded-most, rest-most}
+use Rattle.work.proofs.ColumnLaws.{stored-column}
+use Rattle.method.proofs.SecondAccepted.{AcceptedSheet, sheet-accepted, result-within, result-most, rounded-most, rest-most}
+use Rattle.work.proofs.SecondJudged.{accepted-work, sheet-verdict}
 
 condition-few : (f : Figure) → conditionCount f ≤ mostAngles
 condition-few f = le-trans (condition-bound f) (lit≤ tt)
@@ -59,9 +60,9 @@ module _ (code n tolerance : ℕ) (angles logSines : List ℕ) (differences : Li
 
     work-is : work ≡ secondWorkOf figure angles logSines differences
     unfolding sheetWork
-    work-is = made ∙ named-value (refusedWork Refusal.NoSuchFigure) (λ f. figureWork f tolerance angles logSines differences lent) ∙ sheet .ok .work
+    work-is = made ∙ named-value (refusedWork Refusal.NoSuchFigure) (λ f. figureWork f tolerance angles logSines differences lent) ∙ accepted-work figure tolerance angles logSines differences lent (sheet .passed)
 
-    pub answer-done : Done (work .misclosure) (work .squares) ≡ secondPassAnswer code n tolerance angles logSines differences lent
+    answer-done : Done (work .misclosure) (work .squares) ≡ secondPassAnswer code n tolerance angles logSines differences lent
     answer-done =
         ap (λ (w : SecondWork). Done (w .misclosure) (w .squares)) work-is
         ∙ sym (ap₂ Done (named-value (pos 0) (λ f. sineMisclosure f logSines)) (named-value (pos 0) (λ f. sumOfSquares f differences)))
@@ -100,27 +101,47 @@ module _ (code n tolerance : ℕ) (angles logSines : List ℕ) (differences : Li
 
     -- ---- what the slices hold
 
-    pub stored-reduced : listed (getD lent 3 0) (vector (work .reduced)) ≡ forAngles code n (λ f. secondReduced f differences)
+    stored-reduced : listed (getD lent 3 0) (vector (work .reduced)) ≡ forAngles code n (λ f. secondReduced f differences)
     stored-reduced =
         stored-column (secondReduced figure differences) (λ z. z) (work .reduced) (getD lent 3 0) _ (ap (λ (w : SecondWork). w .reduced) work-is) (length-is 3) (angle-bound figure)
         ∙ sym (named-value [] (λ f. listed (angleCount f) (secondReduced f differences)))
 
-    pub stored-numerators : listed (getD lent 4 0) (vector (work .numerators)) ≡ forAngles code n (λ f. secondNumerator f logSines differences)
+    stored-numerators : listed (getD lent 4 0) (vector (work .numerators)) ≡ forAngles code n (λ f. secondNumerator f logSines differences)
     stored-numerators =
         stored-column (secondNumerator figure logSines differences) (λ z. z) (work .numerators) (getD lent 4 0) _ (ap (λ (w : SecondWork). w .numerators) work-is) (length-is 4) (angle-bound figure)
         ∙ sym (named-value [] (λ f. listed (angleCount f) (secondNumerator f logSines differences)))
 
-    pub stored-rounded : listed (getD lent 5 0) (vector (work .rounded)) ≡ forAngles code n (λ f. secondRounded f logSines differences)
+    stored-rounded : listed (getD lent 5 0) (vector (work .rounded)) ≡ forAngles code n (λ f. secondRounded f logSines differences)
     stored-rounded =
         stored-column (secondRounded figure logSines differences) (λ z. z) (work .rounded) (getD lent 5 0) _ (ap (λ (w : SecondWork). w .rounded) work-is) (length-is 5) (angle-bound figure)
         ∙ sym (named-value [] (λ f. listed (angleCount f) (secondRounded f logSines differences)))
 
-    pub stored-adjusted : listed (getD lent 6 0) (λ i. natAbs (vector (work .adjusted) i)) ≡ forAngles code n (λ f i. natAbs (secondAdjusted f angles logSines differences i))
+    stored-adjusted : listed (getD lent 6 0) (λ i. natAbs (vector (work .adjusted) i)) ≡ forAngles code n (λ f i. natAbs (secondAdjusted f angles logSines differences i))
     stored-adjusted =
         stored-column (secondAdjusted figure angles logSines differences) natAbs (work .adjusted) (getD lent 6 0) _ (ap (λ (w : SecondWork). w .adjusted) work-is) (length-is 6) (angle-bound figure)
         ∙ sym (named-value [] (λ f. listed (angleCount f) (λ i. natAbs (secondAdjusted f angles logSines differences i))))
 
-    pub stored-rests : listed (getD lent 7 0) (vector (work .rests)) ≡ forConditions code n (λ f. secondRest f logSines differences)
+    stored-rests : listed (getD lent 7 0) (vector (work .rests)) ≡ forConditions code n (λ f. secondRest f logSines differences)
     stored-rests =
         stored-column (secondRest figure logSines differences) (λ z. z) (work .rests) (getD lent 7 0) _ (ap (λ (w : SecondWork). w .rests) work-is) (length-is 7) (condition-few figure)
         ∙ sym (named-value [] (λ f. listed (conditionCount f) (secondRest f logSines differences)))
+
+    -- all that is promised of a call that stores, in one
+    pub done-and-stored : (w s : ℤ) {reduced-left numerators-left rounded-left : List ℤ} {adjusted-left : List ℕ} {rests-left : List ℤ} → w ≡ work .misclosure → s ≡ work .squares
+        → (reduced-left ≡ listed (getD lent 3 0) (vector (work .reduced)))
+        × ((numerators-left ≡ listed (getD lent 4 0) (vector (work .numerators)))
+        × ((rounded-left ≡ listed (getD lent 5 0) (vector (work .rounded)))
+        × ((adjusted-left ≡ listed (getD lent 6 0) (λ i. natAbs (vector (work .adjusted) i))) × (rests-left ≡ listed (getD lent 7 0) (vector (work .rests))))))
+        → (Done w s ≡ secondPassAnswer code n tolerance angles logSines differences lent)
+        × ((reduced-left ≡ forAngles code n (λ f. secondReduced f differences))
+        × ((numerators-left ≡ forAngles code n (λ f. secondNumerator f logSines differences))
+        × ((rounded-left ≡ forAngles code n (λ f. secondRounded f logSines differences))
+        × ((adjusted-left ≡ forAngles code n (λ f i. natAbs (secondAdjusted f angles logSines differences i)))
+        × (rests-left ≡ forConditions code n (λ f. secondRest f logSines differences))))))
+    done-and-stored w s misclosure squares put = (
+      ap₂ Done misclosure squares ∙ answer-done,
+      (
+        put .0 ∙ stored-reduced,
+        (put .1 .0 ∙ stored-numerators, (put .1 .1 .0 ∙ stored-rounded, (put .1 .1 .1 .0 ∙ stored-adjusted, put .1 .1 .1 .1 ∙ stored-rests))),
+      ),
+    )

@@ -5,13 +5,13 @@ ghost use lib.IntN.{natAbs};
 ghost use lib.ListN.{length};
 ghost use Rattle.whole.specs.Lists.{listed};
 ghost use Rattle.whole.specs.Sums.{vector};
-ghost use Rattle.work.specs.SecondPass.{secondReduced, secondNumerator, secondRounded, secondAdjusted, secondRest, secondPassAnswer, storedAfter, forAngles, forConditions};
+ghost use Rattle.method.specs.SecondPass.{secondReduced, secondNumerator, secondRounded, secondAdjusted, secondRest, secondPassAnswer, storedAfter, forAngles, forConditions};
 ghost use Rattle.work.specs.SecondWork.{Storable};
 use crate::stores::store_angles;
 use crate::stores::store_signed;
 use crate::stores::store_wide;
+use method::SecondAnswer;
 use refusals::Verdict;
-use work::SecondAnswer;
 use work::SecondWork;
 use work::sheet_work;
 
@@ -73,13 +73,13 @@ fn store_work(
     ensures { λ _. ⌜ now (rests .exit) ≡ listed (length (now (rests .entry))) (vector (work .rests)) ⌝ }
 {
     let coefficients = work.reduced;
-    let exact = work.numerators;
-    let corrections = work.rounded;
-    let results = work.adjusted;
-    let left = work.rests;
     store_wide(coefficients, reduced);
+    let exact = work.numerators;
     store_wide(exact, numerators);
+    let corrections = work.rounded;
     store_signed(corrections, rounded);
+    let results = work.adjusted;
     store_angles(results, adjusted);
+    let left = work.rests;
     store_signed(left, rests);
 }

@@ -8,7 +8,7 @@ ghost use Rattle.whole.specs.Lists.{listed};
 ghost use Rattle.whole.specs.Sums.{vector};
 ghost use Rattle.figures.specs.Numerators.{mostAngles};
 ghost use Rattle.work.specs.Column.{Below};
-use work::Column;
+use method::Column;
 
 pub fn store_wide(x: Column, lent: &mut [i64])
     requires { ⌜ length (now lent) ≤ mostAngles ⌝ }

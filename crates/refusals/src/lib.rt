@@ -1,10 +1,8 @@
 // The numbers given when a sheet is turned back, with their places, and the order in which an operation's tests are
 // answered (document 01, "Numbers given when a sheet is turned back"). Places are counted from 1, as the paper counts
 // angles, fixed angles and conditions.
-mod signed;
 mod units;
 
-pub use signed::lowest_signed_outside;
 pub use units::LEAST_ANGLE;
 pub use units::LEAST_DIFFERENCE;
 pub use units::LEAST_LOG_SINE;
@@ -16,7 +14,7 @@ pub use units::MOST_TOLERANCE;
 ghost use mathlib.Core.Path.{_≡_};
 ghost use mathlib.Core.List.{[], _∷_};
 ghost use Rattle.refusals.specs.Numbers.{numberOf, placeOf};
-ghost use Rattle.refusals.specs.Order.{answerOf, earlierOf, outside, lowestOutside};
+ghost use Rattle.refusals.specs.Order.{answerOf};
 
 // Why a sheet is turned back: a case for each row of the table, in its order, with the place where the table has one.
 pub enum Refusal {
@@ -108,37 +106,4 @@ pub fn first_to_fail(earlier: Verdict, later: Verdict) -> Verdict
         Verdict::Failed(_) => earlier,
         Verdict::Passed => later,
     }
-}
-
-// The lower of two places.
-pub fn earlier_place(a: Lowest, b: Lowest) -> Lowest
-    ensures { λ lowest. ⌜ lowest ≡ earlierOf a b ⌝ }
-{
-    match a {
-        Lowest::Nowhere => b,
-        Lowest::At(p) => match b {
-            Lowest::Nowhere => a,
-            Lowest::At(q) => if p <= q { a } else { b },
-        },
-    }
-}
-
-fn is_outside(value: u32, least: u32, most: u32) -> bool
-    ensures { λ fails. ⌜ fails ≡ outside least most value ⌝ }
-{
-    value < least || most < value
-}
-
-// The lowest place whose value lies outside least..most.
-pub fn lowest_outside(values: &[u32], least: u32, most: u32) -> Lowest
-    ensures { λ lowest. ⌜ lowest ≡ lowestOutside (now (values .entry)) least most ⌝ }
-{
-    let mut passed = 0;
-    while passed < values.len() {
-        if is_outside(values[passed], least, most) {
-            return Lowest::At(passed + 1);
-        }
-        passed += 1;
-    }
-    Lowest::Nowhere
 }

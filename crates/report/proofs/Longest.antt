@@ -28,19 +28,19 @@ use Rattle.layout.specs.Head.{kindIn, figureIn, headTests, lookAfter, lookOf}
 use Rattle.sheets.specs.declared.Reading.the-variants.{Read}
 use Rattle.sheets.specs.Sheet.{valuesRead}
 use Rattle.sheets.specs.Judging.{readerTests, readingAfter, readingOf}
-use Rattle.passes.specs.declared.worked.WorkedSheet.{WorkedSheet}
+use Rattle.worked.specs.declared.WorkedSheet.{WorkedSheet}
 use Rattle.work.specs.Column.{column}
-use Rattle.work.specs.Pass.{given}
-use Rattle.work.specs.FirstPass.{firstLengths, firstTests}
-use Rattle.work.specs.SecondPass.{sineMisclosure, sumOfSquares, differenceSquares, secondReduced, secondNumerator, secondRounded, secondAdjusted, secondRest, secondLengths, secondTests}
+use Rattle.method.specs.Pass.{given}
+use Rattle.method.specs.FirstPass.{firstLengths, firstTests}
+use Rattle.method.specs.SecondPass.{sineMisclosure, sumOfSquares, differenceSquares, secondReduced, secondNumerator, secondRounded, secondAdjusted, secondRest, secondLengths, secondTests}
 use Rattle.work.specs.SecondWork.{mostDenominator, SineEntries, secondWorkOf}
 use Rattle.work.specs.FirstWork.{StoreFits, firstWorkOf}
-use Rattle.passes.specs.Worked.{refusedSheet, shownIf, firstShown, firstSheet, secondShown, secondSheet, workedRead, workedLook, workedOf}
+use Rattle.worked.specs.Worked.{refusedSheet, shownIf, firstShown, firstSheet, secondShown, secondSheet, workedRead, workedLook, workedOf}
 use Rattle.work.proofs.ColumnLaws.{column-at}
-use Rattle.work.proofs.EntryLaws.{small-angles, sine-entries}
+use Rattle.work.proofs.SmallEntries.{small-angles, sine-entries}
 use Rattle.work.proofs.FirstAccepted.{steps-pass, limit-within, given-angles, stores-fit}
 use Rattle.work.proofs.ProductLaws.{product-magnitude}
-use Rattle.work.proofs.SecondAccepted.{Accepted, accepted, result-most, rounded-most, rest-most}
+use Rattle.method.proofs.SecondAccepted.{Accepted, accepted, result-most, rounded-most, rest-most}
 use Rattle.work.proofs.SineLaws.{denominator-bound, coefficient-magnitude}
 use Rattle.work.proofs.ToleranceLaws.{squares-natural, squares-magnitude, within-tolerance}
 use Rattle.lines.specs.Lines.{longestText}

@@ -29,10 +29,10 @@ use Rattle.layout.specs.Layout.{kindOf, fixedIn, sineEntriesIn, lengthsOf, shee
 use Rattle.layout.specs.Head.{isNoKind, isNoFigure, kindNumberIn, codeIn, nIn, kindIn, figureIn, nameTests, headTests}
 use Rattle.sheets.specs.Sheet.{Values, valuesRead, fillingOf}
 use Rattle.sheets.specs.Judging.{mostLimitOrTolerance, sameLengths, valueTests, bodyTests, readerTests}
-use Rattle.work.specs.Pass as Pass
-use Rattle.work.specs.FirstPass.{firstLengths, firstTests}
-use Rattle.work.specs.SecondPass.{toleranceOf, sumOfSquares, sineMisclosure, differenceSquares, exceeds, secondLengths, secondTests}
-use Rattle.passes.proofs.SheetBounds as SheetBounds
+use Rattle.method.specs.Pass as Pass
+use Rattle.method.specs.FirstPass.{firstLengths, firstTests}
+use Rattle.method.specs.SecondPass.{toleranceOf, sumOfSquares, sineMisclosure, differenceSquares, exceeds, secondLengths, secondTests}
+use Rattle.worked.proofs.SheetBounds as SheetBounds
 
 -- ---- one test
 

@@ -5,10 +5,10 @@ use Prim.Native.Nat.{ℕ}
 use lib.Dec.{leb}
 use lib.ListN.{length, drop}
 use Rattle.whole.specs.Sums.{vector}
-use Rattle.passes.specs.declared.worked.Outcome.{Outcome}
-use Rattle.passes.specs.declared.worked.Outcome.the-variants.{First, Second}
-use Rattle.passes.specs.declared.worked.WorkedSheet.{WorkedSheet}
-use Rattle.passes.specs.Worked.{workedOf}
+use Rattle.worked.specs.declared.Outcome.{Outcome}
+use Rattle.worked.specs.declared.Outcome.the-variants.{First, Second}
+use Rattle.worked.specs.declared.WorkedSheet.{WorkedSheet}
+use Rattle.worked.specs.Worked.{workedOf}
 use Rattle.report.specs.declared.reporting.Reported.{Reported}
 use Rattle.report.specs.declared.reporting.Reported.the-variants.{Written, NoRoom}
 use Rattle.lines.specs.Lines.{firstText, secondText, refusedText}

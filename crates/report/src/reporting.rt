@@ -5,10 +5,10 @@ ghost use Rattle.report.specs.Report.{textOf, reportText, hasRoom, repor
 use lines::first_lines;
 use lines::refused_lines;
 use lines::second_lines;
-use passes::Outcome;
-use passes::WorkedSheet;
-use passes::worked_sheet;
 use text::put_word;
+use worked::Outcome;
+use worked::WorkedSheet;
+use worked::worked_sheet;
 
 // The text of any bytes has at most so many.
 pub const LONGEST_TEXT: usize = 2048;

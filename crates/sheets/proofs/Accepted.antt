@@ -32,8 +32,7 @@ use Rattle.layout.proofs.Naming.{Names, named, long-enough, kind-field, code-fi
 use Rattle.sheets.specs.declared.Reading.{Reading}
 use Rattle.sheets.specs.declared.Reading.the-variants.{Read}
 use Rattle.sheets.specs.Sheet.{Values, valuesRead, fillingOf, packedSheet}
-use Rattle.sheets.specs.Judging.{rangeTests, valueTests, sameLengths, bodyTests, readerTests, readingAfter, readingOf, afterReading, lengthsGiven, givenTests, writerTests, writingOf, sheetGiven}
-use Rattle.sheets.specs.Parts.{readingFrom}
+use Rattle.sheets.specs.Judging.{rangeTests, valueTests, sameLengths, bodyTests, readerTests, readingAfter, readingOf, readingFrom, afterReading, lengthsGiven, givenTests, writerTests, writingOf, afterWriting, sheetGiven}
 use Rattle.sheets.proofs.Judged.{values-judged}
 
 -- ---- lengths
@@ -246,12 +245,13 @@ pub record Given (kind : Kind) (f : Figure) (v : Values) (size : ℕ) : Type 0 w
   pub sized : size ≡ sheetSize kind f
   pub values : answerOf (valueTests kind v) ≡ Passed
 
-pub given-accepted : (kind : Kind) (f : Figure) (v : Values) (size : ℕ) → answerOf (givenTests kind f v size) ≡ Passed → Given kind f v size
+pub given-accepted : (kind : Kind) (f : Figure) (v : Values) (size : ℕ) {verdict : Verdict} → verdict ≡ answerOf (givenTests kind f v size) → verdict ≡ Passed
+    → Given kind f v size
 unfolding givenTests
-given-accepted kind f v size e =
+given-accepted kind f v size is e =
     let same = sameLengths (lengthsGiven v) (lengthsOf kind f) in
     let sized = eqb size (sheetSize kind f) in
-    let both = cons-passes (failsIf (not (same && sized)) Refusal.WrongLength) (valueTests kind v) .0 e in
+    let both = cons-passes (failsIf (not (same && sized)) Refusal.WrongLength) (valueTests kind v) .0 (sym is ∙ e) in
     let right = and-eq-true-iff same sized .0 (not-false (same && sized) (if-passes (not (same && sized)) Refusal.WrongLength .0 (both .0))) in
     record {
       lengths = equal-lengths (lengthsGiven v) (lengthsOf kind f) (right .0);
@@ -268,16 +268,23 @@ module _ (kind code n : ℕ) (v : Values) (size : ℕ) where
       after-fails (nameTests kind code n) (givenTests k f v size) r (refused (answerOf (nameTests kind code n)) k f r e)
 
   module _ (k : Kind) (f : Figure) (h : Names kind code n k f) where
-    pub writer-found : writingOf kind code n v size ≡ answerOf (givenTests k f v size)
+    pub writer-found : {verdict : Verdict} → verdict ≡ answerOf (givenTests k f v size) → verdict ≡ writingOf kind code n v size
     unfolding writingOf writerTests answerOf
-    writer-found =
-        ap₂ (λ (a : NamedKind) (b : Named).
+    writer-found is =
+        is ∙ sym (ap₂ (λ (a : NamedKind) (b : Named).
         answerOf (failsIf (isNoKind a) Refusal.NoSuchKind ∷ failsIf (isNoFigure b) Refusal.NoSuchFigure ∷ givenTests (kindOrOther a) (figureOrOther b) v size))
-        (h .kind-named) (h .figure-named)
+        (h .kind-named) (h .figure-named))
 
-    pub sheet-found : sheetGiven kind code n v ≡ packedSheet k f v
+    pub sheet-written : {verdict : Verdict} (before : List ℕ) {after : List ℕ} → verdict ≡ Passed → after ≡ packedSheet k f v
+        → after ≡ afterWriting verdict (sheetGiven kind code n v) before
     unfolding sheetGiven
-    sheet-found = ap₂ (λ (a : NamedKind) (b : Named). packedSheet (kindOrOther a) (figureOrOther b) v) (h .kind-named) (h .figure-named)
+    sheet-written before e is =
+        is ∙ sym (ap (λ (verdict : Verdict). afterWriting verdict (sheetGiven kind code n v) before) e
+        ∙ ap₂ (λ (a : NamedKind) (b : Named). packedSheet (kindOrOther a) (figureOrOther b) v) (h .kind-named) (h .figure-named))
+
+-- and what is lent stays as it is where the writer refuses
+pub sheet-kept : {verdict : Verdict} (r : Refusal) → verdict ≡ Failed r → (sheet before : List ℕ) → before ≡ afterWriting verdict sheet before
+sheet-kept r e sheet before = sym (ap (λ (verdict : Verdict). afterWriting verdict sheet before) e)
 
 -- ---- and back: what is accepted is read
 
@@ -308,5 +315,5 @@ writer-accepted kind code n v size e =
         kind-named = is-kind (kindOf kind) (if-passes (isNoKind (kindOf kind)) Refusal.NoSuchKind .0 (first .0));
         figure-named = is-figure (figureOf code n) (if-passes (isNoFigure (figureOf code n)) Refusal.NoSuchFigure .0 (second .0));
       },
-      given-accepted k f v size (second .1),
+      given-accepted k f v size refl (second .1),
     )

@@ -7,7 +7,8 @@ use lib.ListN.{replicate}
 use Rattle.whole.specs.Lists.{listed}
 use Rattle.refusals.specs.declared.Refusal.{Refusal}
 use Rattle.refusals.specs.Order.{answerOf, lowestPlace}
-use Rattle.bits.specs.Bits.{odd, bits, digit, value, bitsOf, firstByte, bytesFrom, byteCount, fillingWidth, bytesOf, inside, fieldAt, packedBits, totalWidth, halfRange, signedOf, fitsSigned, twosComplement}
+use Rattle.bits.specs.Bits.{odd, bits, digit, value, bitsOf, firstByte, bytesFrom, byteCount, fillingWidth, bytesOf, inside, fieldAt, packedBits, totalWidth}
+use Rattle.complement.specs.Complement.{halfRange, signedOf, fitsSigned, twosComplement}
 use Rattle.figures.specs.declared.Figure.the-variants.{Quadrilateral}
 use Rattle.figures.specs.Figure.{figureOf}
 use Rattle.layout.specs.declared.Kind.the-variants.{FirstPass, SecondPass}

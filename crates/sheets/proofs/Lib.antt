@@ -1,16 +1,14 @@
 -- The laws of the sheets. For a crate above: `ReadThenWritten` and `WrittenThenRead` (both round trips), `Cases` (when a sheet is turned back, and
--- `Filling` on number 13), `OneAnswer`, `InRange` and `Accepted` (what an accepted sheet is). `Positions` ties the columns of the code to the layout;
--- `Judged`, `Layouts`, `Packing` and `Unpacking` serve the proofs of this crate's functions; `Examples` shows the definitions at work.
+-- `Filling` on number 13), `OneAnswer`, `InRange` and `Accepted` (what an accepted sheet is). `Judged`, `Layouts` and `Positions` (what the tests of
+-- values answer, and where the fields stand) serve the proofs of reader and writer too; `Examples` shows the definitions at work.
 pub mod Accepted
 pub mod Cases
 mod Examples
 pub mod Filling
 pub mod InRange
-mod Judged
-mod Layouts
+pub mod Judged
+pub mod Layouts
 pub mod OneAnswer
-mod Packing
 pub mod Positions
 pub mod ReadThenWritten
-mod Unpacking
 pub mod WrittenThenRead

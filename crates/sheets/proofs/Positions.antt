@@ -1,6 +1,6 @@
--- Where each place of a layout stands, by tests that antt computes over all kinds and figures: no place stands twice, each value that is counted
--- has its place, and the values of one sort stand in a column. Assumes nothing.
-use Prim.Native.Nat.{ℕ, suc, _+_, _*_, _≤_, _<_, zero-le, suc-le-suc}
+-- Where each place of a layout stands, by tests that antt computes over all kinds and figures: no place stands twice, and each value that is counted
+-- has its place. Assumes nothing.
+use Prim.Native.Nat.{ℕ, suc, _+_, _≤_, _<_, zero-le, suc-le-suc}
 use mathlib.Core.Bool.{Bool, true, false, cond, _&&_}
 use mathlib.Core.List.{List, [], _∷_, map}
 use mathlib.Core.Path.{_≡_, refl, sym, ap, ap₂, _∙_}
@@ -9,17 +9,13 @@ use lib.Dec.{T, eqb, leb, ltb, eqb→eq, ltb→lt, lit≤}
 use lib.ListN.{length, getD, take}
 use Rattle.whole.specs.Lists.{every, everyBelow}
 use Rattle.whole.proofs.Computed.{and-left, and-right, every-at, every-below}
-use Rattle.whole.proofs.Lists.{listed-ext}
-use Rattle.bits.specs.Bits.{totalWidth, fieldAt, signedOf}
+use Rattle.bits.specs.Bits.{totalWidth}
 use Rattle.figures.specs.declared.Figure.{Figure}
 use Rattle.figures.specs.Figure.{allFigures, angleCount}
 use Rattle.figures.proofs.Figures.{each-figure}
 use Rattle.layout.specs.declared.Kind.{Kind}
 use Rattle.layout.specs.declared.Kind.the-variants.{FirstPass, SecondPass}
 use Rattle.layout.specs.Layout.{Place, theKind, theCode, theN, limit, tolerance, angle, fixedAngle, logSine, difference, widthOf, head, layout, limitOrTolerancePlace, fixedIn, sineEntriesIn, sort, numberOfPlace, same, positionOf, held}
-use Rattle.sheets.specs.declared.columns.Column.{Column}
-use Rattle.sheets.specs.Sheet.{valuesRead}
-use Rattle.sheets.specs.Columns.{angleColumn, fixedColumn, logSineColumn, differenceColumn, columnValues, signedColumnValues}
 
 -- ---- places and their indexes
 
@@ -77,7 +73,7 @@ place-at-index p (q ∷ l) other h = go (same p q) (same-place p q) (place-at-in
 
 -- ---- tests over all kinds and figures
 
-each : (test : Kind → Figure → Bool) → T (every (test FirstPass) allFigures && every (test SecondPass) allFigures) → (kind : Kind) (f : Figure) → T (test kind f)
+pub each : (test : Kind → Figure → Bool) → T (every (test FirstPass) allFigures && every (test SecondPass) allFigures) → (kind : Kind) (f : Figure) → T (test kind f)
 each test t FirstPass f = each-figure (test FirstPass) (and-left (every (test FirstPass) allFigures) (every (test SecondPass) allFigures) t) f
 each test t SecondPass f = each-figure (test SecondPass) (and-right (every (test FirstPass) allFigures) (every (test SecondPass) allFigures) t) f
 
@@ -138,92 +134,35 @@ unfolding layout indexOf same sort numberOfPlace
 limit-stands FirstPass f = suc-le-suc (suc-le-suc (suc-le-suc (suc-le-suc zero-le)))
 limit-stands SecondPass f = suc-le-suc (suc-le-suc (suc-le-suc (suc-le-suc zero-le)))
 
--- ---- columns
+-- and so does each value that is counted
+module _ (place : ℕ → Place) (count : Kind → Figure → ℕ) where
+  stands : Kind → Figure → ℕ → Bool
+  stands kind f i = ltb (indexOf (place (suc i)) (layout kind f)) (length (layout kind f))
 
--- a place that is counted stands in the layout, and where its column says
-pub record InColumn (kind : Kind) (f : Figure) (p : Place) (c : Column) (i : ℕ) : Type 0 where
-  pub within : indexOf p (layout kind f) < length (layout kind f)
-  pub position : positionOf p (layout kind f) ≡ c .start + c .step * i
-  pub width : widthOf p ≡ c .width
+  allStand : Kind → Figure → Bool
+  allStand kind f = everyBelow (count kind f) (stands kind f)
 
-module _ (place : ℕ → Place) (count : Kind → Figure → ℕ) (column : Kind → Figure → Column) where
-  isInColumn : Kind → Figure → ℕ → Bool
-  isInColumn kind f i =
-      ltb (indexOf (place (suc i)) (layout kind f)) (length (layout kind f))
-      && (eqb (positionOf (place (suc i)) (layout kind f)) (column kind f .start + column kind f .step * i)
-      && eqb (widthOf (place (suc i))) (column kind f .width))
+  each-stands : T (every (allStand FirstPass) allFigures && every (allStand SecondPass) allFigures)
+      → (kind : Kind) (f : Figure) (i : ℕ) → i < count kind f → indexOf (place (suc i)) (layout kind f) < length (layout kind f)
+  unfolding allStand stands
+  each-stands t kind f i h =
+      ltb→lt (indexOf (place (suc i)) (layout kind f)) (length (layout kind f)) (every-below (count kind f) (stands kind f) (each allStand t kind f) i h)
 
-  isColumn : Kind → Figure → Bool
-  isColumn kind f = everyBelow (count kind f) (isInColumn kind f)
+pub angle-stands : (kind : Kind) (f : Figure) (i : ℕ) → i < angleCount f → indexOf (angle (suc i)) (layout kind f) < length (layout kind f)
+unfolding layout indexOf same sort numberOfPlace allStand stands
+angle-stands = each-stands angle (λ kind f. angleCount f) tt
 
-  in-column : T (every (isColumn FirstPass) allFigures && every (isColumn SecondPass) allFigures)
-      → (kind : Kind) (f : Figure) (i : ℕ) → i < count kind f → InColumn kind f (place (suc i)) (column kind f) i
-  unfolding isColumn isInColumn
-  in-column t kind f i h =
-      let p : Place = place (suc i) in
-      let first : Bool = ltb (indexOf p (layout kind f)) (length (layout kind f)) in
-      let second : Bool = eqb (positionOf p (layout kind f)) (column kind f .start + column kind f .step * i) in
-      let third : Bool = eqb (widthOf p) (column kind f .width) in
-      let all : T (first && (second && third)) = every-below (count kind f) (isInColumn kind f) (each isColumn t kind f) i h in
-      record {
-        within = ltb→lt (indexOf p (layout kind f)) (length (layout kind f)) (and-left first (second && third) all);
-        position = eqb→eq (positionOf p (layout kind f)) (column kind f .start + column kind f .step * i) (and-left second third (and-right first (second && third) all));
-        width = eqb→eq (widthOf p) (column kind f .width) (and-right second third (and-right first (second && third) all));
-      }
+pub fixed-stands : (kind : Kind) (f : Figure) (i : ℕ) → i < fixedIn kind f → indexOf (fixedAngle (suc i)) (layout kind f) < length (layout kind f)
+unfolding layout indexOf same sort numberOfPlace allStand stands
+fixed-stands = each-stands fixedAngle fixedIn tt
 
-pub angle-in-column : (kind : Kind) (f : Figure) (i : ℕ) → i < angleCount f → InColumn kind f (angle (suc i)) (angleColumn kind) i
-unfolding layout indexOf positionOf same sort numberOfPlace isColumn isInColumn
-angle-in-column = in-column angle (λ kind f. angleCount f) (λ kind f. angleColumn kind) tt
+pub log-sine-stands : (kind : Kind) (f : Figure) (i : ℕ) → i < sineEntriesIn kind f → indexOf (logSine (suc i)) (layout kind f) < length (layout kind f)
+unfolding layout indexOf same sort numberOfPlace allStand stands
+log-sine-stands = each-stands logSine sineEntriesIn tt
 
-pub fixed-in-column : (kind : Kind) (f : Figure) (i : ℕ) → i < fixedIn kind f → InColumn kind f (fixedAngle (suc i)) (fixedColumn f) i
-unfolding layout indexOf positionOf same sort numberOfPlace isColumn isInColumn
-fixed-in-column = in-column fixedAngle fixedIn (λ kind f. fixedColumn f) tt
-
-pub log-sine-in-column : (kind : Kind) (f : Figure) (i : ℕ) → i < sineEntriesIn kind f → InColumn kind f (logSine (suc i)) logSineColumn i
-unfolding layout indexOf positionOf same sort numberOfPlace isColumn isInColumn
-log-sine-in-column = in-column logSine sineEntriesIn (λ kind f. logSineColumn) tt
-
-pub difference-in-column : (kind : Kind) (f : Figure) (i : ℕ) → i < sineEntriesIn kind f → InColumn kind f (difference (suc i)) differenceColumn i
-unfolding layout indexOf positionOf same sort numberOfPlace isColumn isInColumn
-difference-in-column = in-column difference sineEntriesIn (λ kind f. differenceColumn) tt
-
--- what is held at a place of a column
-held-in-column : (kind : Kind) (f : Figure) (s : List ℕ) (p : Place) (c : Column) (i : ℕ) → InColumn kind f p c i
-    → held (layout kind f) s p ≡ fieldAt s (c .start + c .step * i) (c .width)
-unfolding held
-held-in-column kind f s p c i h = ap₂ (fieldAt s) (h .position) (h .width)
-
-module _ (kind : Kind) (f : Figure) (s : List ℕ) where
-  pub angles-read : valuesRead kind f s .angles ≡ columnValues s (angleColumn kind) (angleCount f)
-  unfolding valuesRead columnValues
-  angles-read =
-      listed-ext (angleCount f) (λ i. held (layout kind f) s (angle (suc i))) (λ i. fieldAt s (angleColumn kind .start + angleColumn kind .step * i) (angleColumn kind .width))
-      (λ i h. held-in-column kind f s (angle (suc i)) (angleColumn kind) i (angle-in-column kind f i h))
-
-  pub fixed-read : valuesRead kind f s .fixed ≡ columnValues s (fixedColumn f) (fixedIn kind f)
-  unfolding valuesRead columnValues
-  fixed-read =
-      listed-ext (fixedIn kind f) (λ i. held (layout kind f) s (fixedAngle (suc i))) (λ i. fieldAt s (fixedColumn f .start + fixedColumn f .step * i) (fixedColumn f .width))
-      (λ i h. held-in-column kind f s (fixedAngle (suc i)) (fixedColumn f) i (fixed-in-column kind f i h))
-
-  pub log-sines-read : valuesRead kind f s .logSines ≡ columnValues s logSineColumn (sineEntriesIn kind f)
-  unfolding valuesRead columnValues
-  log-sines-read =
-      listed-ext (sineEntriesIn kind f) (λ i. held (layout kind f) s (logSine (suc i))) (λ i. fieldAt s (logSineColumn .start + logSineColumn .step * i) (logSineColumn .width))
-      (λ i h. held-in-column kind f s (logSine (suc i)) logSineColumn i (log-sine-in-column kind f i h))
-
-  pub differences-read : valuesRead kind f s .differences ≡ signedColumnValues s differenceColumn (sineEntriesIn kind f)
-  unfolding valuesRead signedColumnValues
-  differences-read =
-      listed-ext (sineEntriesIn kind f) (λ i. signedOf 15 (held (layout kind f) s (difference (suc i))))
-      (λ i. signedOf 15 (fieldAt s (differenceColumn .start + differenceColumn .step * i) (differenceColumn .width)))
-      (λ i h. ap (signedOf 15) (held-in-column kind f s (difference (suc i)) differenceColumn i (difference-in-column kind f i h)))
-
--- L or e stands after the head
-pub limit-or-tolerance-read : (kind : Kind) (f : Figure) (s : List ℕ) → valuesRead kind f s .limitOrTolerance ≡ fieldAt s 12 (widthOf (limitOrTolerancePlace kind))
-unfolding valuesRead held positionOf layout same sort numberOfPlace
-limit-or-tolerance-read FirstPass f s = refl
-limit-or-tolerance-read SecondPass f s = refl
+pub difference-stands : (kind : Kind) (f : Figure) (i : ℕ) → i < sineEntriesIn kind f → indexOf (difference (suc i)) (layout kind f) < length (layout kind f)
+unfolding layout indexOf same sort numberOfPlace allStand stands
+difference-stands = each-stands difference sineEntriesIn tt
 
 -- ---- the head stands first in every layout
 

@@ -13,11 +13,12 @@ use Rattle.whole.specs.Lists.{listed}
 use Rattle.whole.proofs.Computed.{and-right}
 use Rattle.whole.proofs.Lists.{getD-listed, getD-any}
 use Rattle.refusals.specs.Order.{numbered}
-use Rattle.bits.specs.Bits.{Field, bitsOf, bytesOf, fieldAt, totalWidth, packedBits, readFields, signedOf, twosComplement}
+use Rattle.bits.specs.Bits.{Field, bitsOf, bytesOf, fieldAt, totalWidth, packedBits, readFields}
+use Rattle.complement.specs.Complement.{signedOf, twosComplement}
 use Rattle.bits.proofs.Bytes.{AreBytes}
 use Rattle.bits.proofs.Fields.{fieldAt-lt}
 use Rattle.bits.proofs.Packed.{fieldAt-offset, written-back}
-use Rattle.bits.proofs.Complement.{twosComplement-signedOf}
+use Rattle.complement.proofs.Complement.{twosComplement-signedOf}
 use Rattle.figures.specs.declared.Figure.{Figure}
 use Rattle.figures.specs.Figure.{description, angleCount}
 use Rattle.figures.proofs.Naming.{named-exactly}

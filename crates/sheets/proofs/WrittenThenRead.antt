@@ -13,10 +13,11 @@ use Rattle.whole.proofs.Computed.{and-right}
 use Rattle.whole.proofs.Lists.{listed-ext, listed-getD}
 use Rattle.refusals.specs.declared.Verdict.the-variants.{Passed}
 use Rattle.refusals.specs.Order.{answerOf, numbered}
-use Rattle.bits.specs.Bits.{Field, bytesOf, byteCount, fillingWidth, fieldAt, totalWidth, widths, packedBits, AllFit, signedOf}
+use Rattle.bits.specs.Bits.{Field, bytesOf, byteCount, fillingWidth, fieldAt, totalWidth, widths, packedBits, AllFit}
+use Rattle.complement.specs.Complement.{signedOf}
 use Rattle.bits.proofs.Bytes.{bitsOf-bytesOf, length-bytesOf}
 use Rattle.bits.proofs.Packed.{length-packedBits, fieldAt-packed, filling-zero}
-use Rattle.bits.proofs.Complement.{signedOf-twosComplement, twosComplement-lt}
+use Rattle.complement.proofs.Complement.{signedOf-twosComplement, twosComplement-lt}
 use Rattle.figures.specs.declared.Figure.{Figure}
 use Rattle.figures.specs.Figure.{description, angleCount, figureOf}
 use Rattle.figures.proofs.Figures.{each-figure}
@@ -30,7 +31,7 @@ use Rattle.layout.proofs.Naming.{kind-exactly}
 use Rattle.sheets.specs.declared.Reading.the-variants.{Read}
 use Rattle.sheets.specs.Sheet.{Values, valuesFrom, numberAt, fieldOf, packedSheet, valuesRead, fillingOf}
 use Rattle.sheets.specs.Judging.{mostLimitOrTolerance, valueTests, lengthsGiven, readingOf, writingOf, sheetGiven}
-use Rattle.sheets.proofs.Positions.{same-place, indexOf, position-by-index, place-at-index, counted, each-counted, narrow, angle-in-column, fixed-in-column, log-sine-in-column, difference-in-column, kind-stands, code-stands, n-stands, limit-stands, kind-in-head, code-in-head, n-in-head}
+use Rattle.sheets.proofs.Positions.{same-place, indexOf, position-by-index, place-at-index, counted, each-counted, narrow, kind-stands, code-stands, n-stands, limit-stands, angle-stands, fixed-stands, log-sine-stands, difference-stands, kind-in-head, code-in-head, n-in-head}
 use Rattle.sheets.proofs.Accepted.{Accepted, Given, accepted-back, writer-accepted}
 use Rattle.sheets.proofs.InRange.{InRange, in-range, difference-fits}
 use Rattle.sheets.proofs.Layouts.{fields-widths, fields-bits}
@@ -122,24 +123,24 @@ module _ (kind : Kind) (f : Figure) (v : Values) (lengths : lengthsGiven v ≡ l
   angles-back : listed (angleCount f) (λ i. at (angle (suc i))) ≡ v .angles
   angles-back =
       listed-back (angleCount f) (v .angles) (λ i. at (angle (suc i))) 0 (ap (λ (l : Lengths). l .angles) lengths)
-      (λ i h. held-written kind f v lengths range (angle (suc i)) (angle-in-column kind f i h .within))
+      (λ i h. held-written kind f v lengths range (angle (suc i)) (angle-stands kind f i h))
 
   fixed-back : listed (fixedIn kind f) (λ i. at (fixedAngle (suc i))) ≡ v .fixed
   fixed-back =
       listed-back (fixedIn kind f) (v .fixed) (λ i. at (fixedAngle (suc i))) 0 (ap (λ (l : Lengths). l .fixed) lengths)
-      (λ i h. held-written kind f v lengths range (fixedAngle (suc i)) (fixed-in-column kind f i h .within))
+      (λ i h. held-written kind f v lengths range (fixedAngle (suc i)) (fixed-stands kind f i h))
 
   log-sines-back : listed (sineEntriesIn kind f) (λ i. at (logSine (suc i))) ≡ v .logSines
   log-sines-back =
       listed-back (sineEntriesIn kind f) (v .logSines) (λ i. at (logSine (suc i))) 0 (ap (λ (l : Lengths). l .«log_sines») lengths)
-      (λ i h. held-written kind f v lengths range (logSine (suc i)) (log-sine-in-column kind f i h .within))
+      (λ i h. held-written kind f v lengths range (logSine (suc i)) (log-sine-stands kind f i h))
 
   differences-back : listed (sineEntriesIn kind f) (λ i. signedOf 15 (at (difference (suc i)))) ≡ v .differences
   differences-back =
       listed-back (sineEntriesIn kind f) (v .differences) (λ i. signedOf 15 (at (difference (suc i)))) (pos 0) (ap (λ (l : Lengths). l .differences) lengths)
       (λ i h.
       let within = range .differences i (omega (arith, ap (λ (l : Lengths). l .«log_sines») lengths)) in
-      ap (signedOf 15) (held-written kind f v lengths range (difference (suc i)) (difference-in-column kind f i h .within))
+      ap (signedOf 15) (held-written kind f v lengths range (difference (suc i)) (difference-stands kind f i h))
       ∙ signedOf-twosComplement 15 (lit≤ tt) (lit≤ tt) (getD (v .differences) i (pos 0)) (difference-fits (getD (v .differences) i (pos 0)) (within .0) (within .1)))
 
   pub values-back : valuesRead kind f sheet ≡ v

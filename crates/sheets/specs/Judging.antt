@@ -81,6 +81,10 @@ readingOf sheet lent =
     readingAfter (answerOf (readerTests sheet lent))
     (Read (kindIn sheet) (figureIn sheet) (valuesRead (kindIn sheet) (figureIn sheet) sheet .limitOrTolerance))
 
+-- what the reader answers once kind and figure are known
+unfoldable pub readingFrom : Kind → Figure → List ℕ → Lengths → Reading
+readingFrom kind f sheet lent = readingAfter (answerOf (bodyTests kind f sheet lent)) (Read kind f (valuesRead kind f sheet .limitOrTolerance))
+
 -- what a slice that is lent to the reader holds after it has answered: the values of the kind and the figure that it read, or what it held
 abbrev pub afterReading : {A : Type 0} → Reading → (values : Kind → Figure → List A) → (before : List A) → List A
 afterReading (Read kind f limitOrTolerance) values before = values kind f

@@ -1,4 +1,2 @@
-pub mod Columns
 pub mod Judging
-pub mod Parts
 pub mod Sheet

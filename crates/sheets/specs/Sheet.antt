@@ -6,7 +6,8 @@ use Rattle.whole.specs.Lists.{listed}
 use Rattle.refusals.specs.Order.{numbered}
 use Rattle.figures.specs.declared.Figure.{Figure}
 use Rattle.figures.specs.Figure.{description, angleCount}
-use Rattle.bits.specs.Bits.{Field, fieldAt, fillingWidth, bytesOf, packedBits, signedOf, twosComplement}
+use Rattle.bits.specs.Bits.{Field, fieldAt, fillingWidth, bytesOf, packedBits}
+use Rattle.complement.specs.Complement.{signedOf, twosComplement}
 use Rattle.layout.specs.declared.Kind.{Kind}
 use Rattle.layout.specs.Layout.{Place, theKind, theCode, theN, limit, tolerance, angle, fixedAngle, logSine, difference, numberOfKind, widthOf, limitOrTolerancePlace, layout, fixedIn, sineEntriesIn, bitCount, held}
 
@@ -59,3 +60,7 @@ valuesRead kind f sheet = valuesFrom
 -- what the bits after the last field hold: 0 exactly if none is 1
 unfoldable pub fillingOf : Kind → Figure → List ℕ → ℕ
 fillingOf kind f sheet = fieldAt sheet (bitCount kind f) (fillingWidth (bitCount kind f))
+
+-- a bound on the positions of reader and writer: no sheet is so long
+abbrev pub mostBits : ℕ
+mostBits = 1_700

@@ -1,9 +1,6 @@
-// Packed sheets read and written: document 01, "Packed sheets". The values of a sheet and its bytes are defined in specs/Sheet.antt; what is turned
-// back, and in which order, stands in specs/Judging.antt.
-mod columns;
+// Packed sheets: document 01, "Packed sheets". The values of a sheet and its bytes are defined in specs/Sheet.antt; what is turned back, and in which
+// order, stands in specs/Judging.antt. The code here is what the reader (`reading`) and the writer (`writing`) share.
 mod ranges;
-mod read;
-mod write;
 
 use figures::Figure;
 pub use layout::Kind;
@@ -14,9 +11,8 @@ pub use layout::kind_of;
 pub use layout::lengths_of;
 pub use layout::look_at;
 pub use layout::sheet_size;
-pub use read::read_sheet;
+pub use ranges::range_verdict;
 use refusals::Refusal;
-pub use write::write_sheet;
 ghost use mathlib.Core.Path.{_≡_};
 ghost use Rattle.sheets.specs.Judging.{sameLengths};
 
@@ -30,7 +26,8 @@ pub enum Reading {
     Refused(Refusal),
 }
 
-fn same_lengths(lent: Lengths, right: Lengths) -> bool
+// Whether what is lent has the lengths that it must have.
+pub fn same_lengths(lent: Lengths, right: Lengths) -> bool
     ensures { λ same. ⌜ same ≡ sameLengths lent right ⌝ }
 {
     if lent.angles != right.angles {

@@ -1,11 +1,11 @@
 // The tests of values against the ranges of document 01, "Units and ranges", which reader and writer share.
 use layout::Kind;
+use places::earlier_place;
 use refusals::Lowest;
 use refusals::MOST_LIMIT;
 use refusals::MOST_TOLERANCE;
 use refusals::Refusal;
 use refusals::Verdict;
-use refusals::earlier_place;
 ghost use mathlib.Core.Path.{_≡_};
 ghost use Rattle.refusals.specs.Order.{answerOf, earlierOf};
 ghost use Rattle.sheets.specs.Judging.{mostLimitOrTolerance, rangeTests};
@@ -20,7 +20,7 @@ fn most_limit_or_tolerance(kind: Kind) -> u32
 }
 
 // The tests 3, 4, 5 and 8 in their order, from L or e and the lowest places at which values of each sort lie outside their range.
-pub(crate) fn range_verdict(
+pub fn range_verdict(
     kind: Kind,
     limit_or_tolerance: u32,
     angle: Lowest,

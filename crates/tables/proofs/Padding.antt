@@ -5,25 +5,16 @@ use Prim.Native.Nat.{ℕ, _≤_, _<_, zero-le}
 use native.Mathlib.Nat.{le-of-eq, le-trans}
 use native.Mathlib.Decide.{decLt}
 use native.Mathlib.Omega.{arith}
-use lib.Dec.{T}
 use lib.ListN.{length, getD, List·getD-map, List·getD-eq-default}
 use lib.IntN.{ℤ, pos, _*ℤ_, zero-*ℤ}
-use Rattle.whole.specs.Lists.{every, padded}
+use Rattle.whole.specs.Lists.{padded}
 use Rattle.whole.specs.Sums.{applied, dot, table, vector}
 use Rattle.whole.proofs.Lists.{length-padded, getD-padded, getD-any}
 use Rattle.whole.proofs.Sums.{applied-rows, sum-shorter}
 use Rattle.figures.specs.declared.Figure.{Figure}
-use Rattle.figures.specs.Figure.{description, angleCount, conditionCount, allFigures}
+use Rattle.figures.specs.Figure.{description, angleCount, conditionCount}
 use Rattle.figures.specs.Numerators.{numerator, mostAngles, mostConditions, paddedRows}
-use Rattle.tables.specs.Small.{smallRow, smallRows}
-use Rattle.figures.proofs.Figures.{each-figure, row-count, column-count, condition-bound}
-
-all-small : T (every (λ f. smallRows (paddedRows f)) allFigures)
-unfolding smallRows smallRow
-all-small = tt
-
-pub padded-small : (f : Figure) → T (smallRows (paddedRows f))
-padded-small f = each-figure (λ g. smallRows (paddedRows g)) all-small f
+use Rattle.figures.proofs.Figures.{row-count, column-count, condition-bound}
 
 -- the padded table has the natural table's coefficients
 padded-entry : (f : Figure) (i j : ℕ) → i < mostAngles → j < mostConditions → table (paddedRows f) i j ≡ table (description f .rows) i j

@@ -4,47 +4,29 @@ ghost use Rattle.whole.specs.Sums.{vector};
 ghost use Rattle.figures.specs.Figure.{countsOf};
 ghost use Rattle.figures.specs.Numerators.{paddedRows, paddedMembers, paddedTargets, paddedSigns, paddedNumerators};
 
-mod apply;
-mod central_heptagon;
-mod central_hexagon;
-mod central_octagon;
-mod central_pentagon;
-mod central_quadrilateral;
-mod central_triangle;
 mod geodetic_quadrilateral;
 mod point_in_triangle;
 
-use apply::rows_applied;
-pub use central_heptagon::CentralHeptagon;
-pub use central_hexagon::CentralHexagon;
-pub use central_octagon::CentralOctagon;
-pub use central_pentagon::CentralPentagon;
-pub use central_quadrilateral::CentralQuadrilateral;
-pub use central_triangle::CentralTriangle;
 use figures::Counts;
 use figures::Figure;
-use figures::Target;
 pub use geodetic_quadrilateral::Quadrilateral;
 pub use point_in_triangle::PointInTriangle;
-
-// The most that a figure has of each, which is how long the arrays are.
-pub const MOST_ANGLES: usize = 24;
-
-pub const MOST_CONDITIONS: usize = 9;
-
-pub const MOST_MEMBERS: usize = 8;
-
-pub type Rows = [[i32; MOST_CONDITIONS]; MOST_ANGLES];
-
-pub type Members = [[u8; MOST_MEMBERS]; MOST_CONDITIONS];
-
-pub type Targets = [Target; MOST_CONDITIONS];
-
-pub type Signs = [i32; MOST_ANGLES];
-
-pub type Misclosures = [i32; MOST_CONDITIONS];
-
-pub type Numerators = [i64; MOST_ANGLES];
+use polygons::CentralHeptagon;
+use polygons::CentralHexagon;
+use polygons::CentralOctagon;
+use polygons::CentralPentagon;
+use polygons::CentralQuadrilateral;
+use polygons::CentralTriangle;
+pub use rows::MOST_ANGLES;
+pub use rows::MOST_CONDITIONS;
+pub use rows::MOST_MEMBERS;
+pub use rows::Members;
+pub use rows::Misclosures;
+pub use rows::Numerators;
+pub use rows::Rows;
+pub use rows::Signs;
+pub use rows::Targets;
+use rows::rows_applied;
 
 pub fn counts_of(f: Figure) -> Counts
     ensures { λ r. ⌜ r ≡ countsOf f ⌝ }
@@ -125,7 +107,7 @@ pub fn signs_of(f: Figure) -> Signs
     }
 }
 
-// The numerators of the exact corrections: each angle's row applied to the misclosures. The coefficients are small, so nothing overflows.
+// The numerators of the exact corrections: each angle's row applied to the misclosures.
 pub fn numerators_of(f: Figure, misclosures: Misclosures) -> Numerators
     ensures { λ r. ⌜ r ≡ paddedNumerators f (vector misclosures) ⌝ }
 {

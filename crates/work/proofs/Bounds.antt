@@ -1,23 +1,21 @@
 -- How large the numbers of the work can be, of every figure at once. Assumes nothing.
-use mathlib.Core.Path.{_≡_, sym, ap, _∙_}
 use mathlib.Core.List.{List, [], _∷_}
-use Prim.Native.Nat.{ℕ, zero, suc, _+_, _*_, _≤_, _<_, zero-le}
-use native.Mathlib.Nat.{le-trans, le-of-lt, mul-le-mul, mul-le-mul-right, le-refl}
+use Prim.Native.Nat.{ℕ, zero, suc, _*_, _≤_, _<_, zero-le}
+use native.Mathlib.Nat.{le-trans, le-of-lt, mul-le-mul, mul-le-mul-right}
 use native.Mathlib.Decide.{decLt}
 use native.Mathlib.Omega.{arith}
 use lib.Dec.{T}
 use lib.ListN.{length}
-use lib.IntN.{ℤ, pos, natAbs, _+ℤ_, _*ℤ_}
+use lib.IntN.{ℤ, natAbs, _*ℤ_}
 use Rattle.whole.specs.Lists.{every}
-use Rattle.whole.specs.Sums.{sum, dot, applied, table}
+use Rattle.whole.specs.Sums.{dot, applied, table}
 use Rattle.whole.proofs.Magnitudes.{natAbs-add, natAbs-mul}
 use Rattle.whole.proofs.Sums.{sum-magnitude}
 use Rattle.figures.specs.declared.Figure.{Figure}
 use Rattle.figures.specs.Figure.{description, conditionCount, membersOf, allFigures}
 use Rattle.figures.specs.Numerators.{sumOver, conditionSum, numerator, mostConditions, mostMembers}
-use Rattle.tables.specs.Small.{smallRow, smallRows}
 use Rattle.figures.proofs.Figures.{each-figure, condition-bound}
-use Rattle.tables.proofs.Small.{small-at, small-row}
+use Rattle.tables.proofs.Small.{smallRow, smallRows, small-at, small-row}
 use Rattle.work.proofs.MemberLaws.{few-members}
 
 sumOver-magnitude : (members : List ℕ) (x : ℕ → ℤ) (most : ℕ) → ((i : ℕ) → natAbs (x i) ≤ most) → natAbs (sumOver members x) ≤ length members * most

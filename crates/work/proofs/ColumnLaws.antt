@@ -1,20 +1,23 @@
--- Laws of columns: what stands at an index, and bounds on magnitudes. Assumes nothing.
-use mathlib.Core.Path.{_≡_, refl, sym, ap, _∙_, subst}
+-- Laws of columns: what stands at an index, what is stored of one and found in it, and bounds on magnitudes. Assumes nothing.
+use mathlib.Core.Path.{_≡_, refl, sym, ap, ap₂, _∙_, subst}
 use mathlib.Core.List.{List, [], _∷_, _++_}
 use Prim.Native.Nat.{ℕ, zero, suc, _+_, _*_, _^_, _≤_, _<_}
 use native.Mathlib.Decide.{decLt}
+use native.Mathlib.Nat.{lt-of-lt-of-le}
 use native.Mathlib.Numerals.{add-one}
 use native.Mathlib.Omega.{arith}
-use lib.ListN.{length, getD, take, List·getD-eq-default}
+use lib.ListN.{getD, take, List·getD-eq-default}
 use lib.Pow.{pow-pos}
 use lib.IntN.{ℤ, pos, natAbs, _+ℤ_, +ℤ-idl, +ℤ-idr, +ℤ-assoc}
 use mir.Syntax.{w64}
 use mir.Val.{SFits, toZ, ofZ}
 use mir.Facts.{toZ-ofZ}
+use Rattle.whole.specs.Lists.{listed}
 use Rattle.whole.specs.Sums.{vector}
 use Rattle.whole.proofs.Lists.{length-listed, getD-listed, listed-ext}
 use Rattle.whole.proofs.Magnitudes.{natAbs-add, magnitude-fits}
-use Rattle.refusals.specs.Order.{numbered}
+use Rattle.refusals.specs.Order.{lowestPlace, numbered, outsideSigned}
+use Rattle.refusals.proofs.Places.{lowest-agrees}
 use Rattle.figures.specs.Numerators.{sumOver, mostAngles, mostMembers}
 use Rattle.work.specs.Column.{column, Below}
 
@@ -37,6 +40,23 @@ column-below power f h i = go (decLt i mostAngles)
 
 pub sum-fits : (a b : ℤ) → natAbs a < 2 ^ 62 → natAbs b < 2 ^ 62 → SFits w64 (a +ℤ b)
 sum-fits a b h k = magnitude-fits w64 (a +ℤ b) (omega (arith, natAbs-add a b))
+
+-- what a store leaves is the column's rule, listed
+pub stored-column : {A : Type 0} (g : ℕ → ℤ) (read : ℤ → A) (x : List ℤ) (count n : ℕ) → x ≡ column g → count ≡ n → n ≤ mostAngles
+    → listed count (λ i. read (vector x i)) ≡ listed n (λ i. read (g i))
+stored-column g read x count n e h few =
+    ap₂ (λ (l : List ℤ) (k : ℕ). listed k (λ i. read (vector l i))) e h
+    ∙ listed-ext n _ _ (λ i b. ap read (column-at g i (lt-of-lt-of-le b few)))
+
+-- a search over a column is the search over its rule
+pub column-search : (g : ℕ → ℤ) (least most : ℤ) (count : ℕ) → count ≤ mostAngles
+    → lowestPlace (λ place. outsideSigned least most (numbered (listed count g) place (pos 0))) count ≡ lowestPlace (λ place. outsideSigned least most (numbered (column g) place (pos 0))) count
+column-search g least most count few =
+    lowest-agrees _ _ count (λ place from to. ap (outsideSigned least most) (same place from to))
+  where
+    same : (place : ℕ) → 1 ≤ place → place ≤ count → numbered (listed count g) place (pos 0) ≡ numbered (column g) place (pos 0)
+    same zero from to = absurd (omega arith)
+    same (suc i) from to = getD-listed count g i (pos 0) to ∙ sym (column-at g i (lt-of-lt-of-le to few))
 
 -- ---- the sum over a row of members
 

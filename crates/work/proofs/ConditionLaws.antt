@@ -1,29 +1,17 @@
--- Sums over conditions: a common factor, and that what a figure makes of a column depends on its first 24 numbers, and of the conditions' sums on the
--- first 9. Assumes nothing.
-use mathlib.Core.Path.{_≡_, refl, sym, ap, ap₂, _∙_}
+-- What a figure makes of a column depends on its first 24 numbers, and of the conditions' sums on the first 9. Assumes nothing.
+use mathlib.Core.Path.{_≡_, refl, sym, ap₂, _∙_}
 use mathlib.Core.List.{List, [], _∷_}
 use Prim.Native.Nat.{ℕ, zero, suc, _≤_, _<_}
 use native.Mathlib.Nat.{lt-of-lt-of-le}
 use lib.ListN.{getD}
-use lib.IntN.{ℤ, pos, _+ℤ_, _*ℤ_, *ℤ-zero}
+use lib.IntN.{ℤ, pos, _+ℤ_, _*ℤ_}
 use Rattle.whole.specs.Sums.{table}
-use Rattle.whole.proofs.Integers.{*ℤ-distribˡ}
 use Rattle.whole.proofs.Sums.{applied-ext}
 use Rattle.figures.specs.declared.Figure.{Figure}
-use Rattle.figures.specs.Figure.{description, denominator, conditionCount, membersOf}
+use Rattle.figures.specs.Figure.{description, denominator, conditionCount}
 use Rattle.figures.specs.Numerators.{sumOver, conditionSum, numerator, reducedCoefficient, paddedMembers, mostAngles, mostConditions}
 use Rattle.figures.proofs.Figures.{condition-bound}
 use Rattle.work.proofs.MemberLaws.{members-of-figure, condition-row}
-
-sumOver-scale : (members : List ℕ) (c : ℤ) (x : ℕ → ℤ) → sumOver members (λ i. c *ℤ x i) ≡ c *ℤ sumOver members x
-unfolding sumOver
-sumOver-scale [] c x = sym (*ℤ-zero c)
-sumOver-scale (zero ∷ others) c x = sumOver-scale others c x
-sumOver-scale (suc i ∷ others) c x = ap (λ (t : ℤ). c *ℤ x i +ℤ t) (sumOver-scale others c x) ∙ sym (*ℤ-distribˡ c (x i) (sumOver others x))
-
-pub condition-scale : (f : Figure) (c : ℤ) (x : ℕ → ℤ) (j : ℕ) → conditionSum f (λ i. c *ℤ x i) j ≡ c *ℤ conditionSum f x j
-unfolding conditionSum
-condition-scale f c x j = sumOver-scale (membersOf f (suc j)) c x
 
 sumOver-agrees : (row : List ℕ) (x y : ℕ → ℤ) → ((k : ℕ) → getD row k 0 ≤ mostAngles) → ((i : ℕ) → i < mostAngles → x i ≡ y i) → sumOver row x ≡ sumOver row y
 unfolding sumOver

@@ -1,35 +1,29 @@
 -- The columns of corrections: their magnitudes, and that they are those of the definitions. Assumes nothing.
-use mathlib.Core.Path.{_≡_, refl, sym, ap, ap₂, _∙_, subst}
-use mathlib.Core.Bool.{Bool}
+use mathlib.Core.Path.{_≡_, sym, ap, _∙_}
 use mathlib.Core.List.{List}
-use Prim.Native.Nat.{ℕ, zero, suc, _*_, _^_, _≤_, _<_}
-use native.Mathlib.Nat.{le-refl, le-trans, le-of-lt, lt-of-le-of-lt, not-suc-le-zero}
+use Prim.Native.Nat.{ℕ, _*_, _^_, _≤_, _<_}
+use native.Mathlib.Nat.{le-refl, le-of-lt, lt-of-le-of-lt}
 use native.Mathlib.Omega.{arith}
-use lib.ListN.{getD}
 use lib.IntN.{ℤ, pos, negℤ, natAbs, _+ℤ_, _*ℤ_}
-use Rattle.whole.specs.Lists.{listed}
 use Rattle.whole.specs.Quotient.{roundedQuotient}
 use Rattle.whole.specs.Sums.{vector}
-use Rattle.whole.proofs.Lists.{getD-listed}
 use Rattle.whole.proofs.Quotient.{rounded-within}
 use Rattle.whole.proofs.Ring.{ring, _≐_, _⊗_}
-use Rattle.refusals.specs.declared.Lowest.{Lowest}
 use Rattle.refusals.specs.declared.Refusal.{Refusal}
 use Rattle.refusals.specs.declared.Verdict.{Verdict}
 use Rattle.refusals.specs.Order.{failsAt, lowestPlace, numbered, outsideSigned}
 use Rattle.refusals.specs.Ranges.{leastAngle, mostAngle}
-use Rattle.refusals.proofs.Places.{lowest-agrees}
 use Rattle.figures.specs.declared.Figure.{Figure}
 use Rattle.figures.specs.Figure.{denominator, angleCount}
-use Rattle.figures.specs.Numerators.{conditionSum, mostAngles}
+use Rattle.figures.specs.Numerators.{mostAngles}
 use Rattle.figures.proofs.Figures.{angle-bound}
 use Rattle.work.specs.declared.second.SecondWork.{SecondWork}
 use Rattle.work.specs.Column.{column, Below, Angles}
-use Rattle.work.specs.Pass.{given, resultTest}
-use Rattle.work.specs.SecondPass.{secondReduced, sineMisclosure, sumOfSquares, secondNumerator, secondRounded, secondAdjusted, secondRest}
+use Rattle.method.specs.Pass.{given, resultTest}
+use Rattle.method.specs.SecondPass.{secondReduced, sineMisclosure, sumOfSquares, secondNumerator, secondRounded, secondAdjusted, secondRest}
 use Rattle.work.specs.SecondWork.{mostDenominator, Corrections, sinesOf, secondWorkOf}
 use Rattle.work.proofs.ConditionLaws.{condition-agrees}
-use Rattle.work.proofs.ColumnLaws.{column-at, column-below, column-ext}
+use Rattle.work.proofs.ColumnLaws.{column-at, column-below, column-ext, column-search}
 use Rattle.work.proofs.ProductLaws.{product-magnitude}
 use Rattle.work.proofs.SineLaws.{denominator-bound}
 
@@ -64,15 +58,9 @@ quotients-below power denominator numerators small =
 
 -- ---- number 7, asked of a column
 
-numbered-same : (n : ℕ) (g : ℕ → ℤ) → n ≤ mostAngles → (place : ℕ) → 1 ≤ place → place ≤ n → numbered (column g) place (pos 0) ≡ numbered (listed n g) place (pos 0)
-numbered-same n g few zero one within = absurd (not-suc-le-zero one)
-numbered-same n g few (suc i) one within = column-at g i (le-trans within few) ∙ sym (getD-listed n g i (pos 0) within)
-
 pub result-column : (f : Figure) (g : ℕ → ℤ)
     → failsAt Refusal.ResultOutOfRange (lowestPlace (λ place. outsideSigned (pos leastAngle) (pos mostAngle) (numbered (column g) place (pos 0))) (angleCount f)) ≡ resultTest f g
-result-column f g =
-    ap (failsAt Refusal.ResultOutOfRange)
-    (lowest-agrees _ _ (angleCount f) (λ place one within. ap {B = Bool} (λ (z : ℤ). outsideSigned (pos leastAngle) (pos mostAngle) z) (numbered-same (angleCount f) g (angle-bound f) place one within)))
+result-column f g = sym (ap (failsAt Refusal.ResultOutOfRange) (column-search g (pos leastAngle) (pos mostAngle) (angleCount f) (angle-bound f)))
 
 -- ---- the columns are those of the definitions
 

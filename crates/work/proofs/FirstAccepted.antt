@@ -29,15 +29,17 @@ use Rattle.figures.specs.declared.Target.{Target}
 use Rattle.figures.proofs.Figures.{angle-bound, condition-bound, none}
 use Rattle.work.specs.declared.first.FirstJudged.{FirstJudged}
 use Rattle.work.specs.Column.{column, Angles}
-use Rattle.work.specs.FirstPass.{limitOf, shouldBe, misclosure, firstNumerator, firstRounded, corrected, firstRest, firstLengths, firstTests, misclosureTest}
-use Rattle.work.specs.Pass.{given, sameLengths, resultTest}
-use Rattle.work.specs.FirstWork.{StoreFits, StoresFit, givenTests, workTests, firstWorkOf, firstWorked, firstJudgedOf, judgedAfter}
+use Rattle.method.specs.FirstPass.{limitOf, shouldBe, misclosure, firstNumerator, firstRounded, corrected, firstRest, firstLengths, firstTests, misclosureTest}
+use Rattle.method.specs.Pass.{given, sameLengths, resultTest}
+use Rattle.method.specs.FirstSteps.{givenTests, workTests}
+use Rattle.work.specs.FirstWork.{StoreFits, StoresFit, firstWorkOf, firstWorked, firstJudgedOf, judgedAfter}
 use Rattle.work.proofs.Bounds.{condition-magnitude, numerator-magnitude}
 use Rattle.work.proofs.ColumnLaws.{column-at}
-use Rattle.work.proofs.EntryLaws.{between, small-values, results-within, angle-most, in-force-within}
-use Rattle.work.proofs.LengthLaws.{same-lists}
+use Rattle.method.proofs.EntryLaws.{between, results-within, angle-most, in-force-within}
+use Rattle.work.proofs.SmallEntries.{small-values}
+use Rattle.method.proofs.LengthLaws.{same-lists}
 use Rattle.work.proofs.MemberLaws.{past-conditions}
-use Rattle.work.proofs.Verdicts.{column-search}
+use Rattle.work.proofs.ColumnLaws.{column-search}
 
 -- the tests of the work, over its columns
 pub columns-tested : (f : Figure) (limit : ℕ) (angles fixed : List ℕ)
@@ -54,6 +56,12 @@ after-verdict Passed judged = sym (answer-of-one (judged .verdict))
 after-verdict (Failed refusal) judged = refl
 
 module _ (f : Figure) (limit : ℕ) (angles fixed lent : List ℕ) where
+  -- the sheet judged after the verdict on what is given
+  pub judged-after : (v w : Verdict) (judged : FirstJudged) → v ≡ answerOf (givenTests f limit angles fixed lent) → v ≡ w → judged ≡ judgedAfter w (firstWorked f limit angles fixed)
+      → judged ≡ firstJudgedOf f limit angles fixed lent
+  unfolding firstJudgedOf
+  judged-after v w judged asked told made = made ∙ ap (λ (u : Verdict). judgedAfter u (firstWorked f limit angles fixed)) (sym told ∙ asked)
+
   -- the tests in two steps: before the work, and of the work
   in-two-steps : answerOf (firstTests f limit angles fixed lent)
       ≡ answerOf (answerOf (givenTests f limit angles fixed lent) ∷ firstWorked f limit angles fixed .verdict ∷ [])
@@ -97,6 +105,12 @@ module _ (f : Figure) (limit : ℕ) (angles fixed lent : List ℕ) (e : answerOf
 
   pub given-fixed : Angles fixed
   given-fixed = small-values fixed (at-passes Refusal.FixedAngleOutOfRange _ .0 (given-passes 3 (lit< tt)))
+
+-- what the verdict on what is given says, where it is that all passed
+pub given-fit : (f : Figure) (limit : ℕ) (angles fixed lent : List ℕ) (v : Verdict) → v ≡ answerOf (givenTests f limit angles fixed lent) → v ≡ Passed → Angles angles × Angles fixed
+given-fit f limit angles fixed lent v made told =
+    let passed = sym made ∙ told in
+    (given-angles f limit angles fixed lent passed, given-fixed f limit angles fixed lent passed)
 
 -- ---- what passed of the work
 

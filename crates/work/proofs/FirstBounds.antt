@@ -1,21 +1,19 @@
 -- How large the numbers of a first pass can be, for angles within range. Assumes nothing.
-use mathlib.Core.Path.{_≡_}
 use mathlib.Core.List.{List}
-use Prim.Native.Nat.{ℕ, zero, suc, _+_, _*_, _^_, _≤_, _<_}
+use Prim.Native.Nat.{ℕ, zero, suc, _^_, _≤_}
 use native.Mathlib.Nat.{le-of-lt, le-trans}
 use native.Mathlib.Omega.{arith}
 use lib.Dec.{lit≤}
-use lib.IntN.{ℤ, pos, negℤ, natAbs, _+ℤ_, _-ℤ_}
-use Rattle.whole.specs.Quotient.{roundedQuotient}
-use Rattle.whole.proofs.Magnitudes.{natAbs-add, natAbs-sub, natAbs-neg}
+use lib.IntN.{natAbs}
+use Rattle.whole.proofs.Magnitudes.{natAbs-sub}
 use Rattle.whole.proofs.Quotient.{rounded-within}
 use Rattle.figures.specs.declared.Figure.{Figure}
 use Rattle.figures.specs.declared.Target.{Target}
 use Rattle.figures.specs.declared.Target.the-variants.{HalfTurn, FullTurn, FixedAngle, NoCondition}
 use Rattle.figures.specs.Figure.{targetOf, denominator}
-use Rattle.figures.specs.Numerators.{conditionSum, numerator}
-use Rattle.work.specs.FirstPass.{shouldBe, misclosure, firstNumerator, firstRounded, corrected, firstRest}
-use Rattle.work.specs.Pass.{given}
+use Rattle.figures.specs.Numerators.{conditionSum}
+use Rattle.method.specs.FirstPass.{shouldBe, misclosure, firstNumerator, firstRounded}
+use Rattle.method.specs.Pass.{given}
 use Rattle.work.specs.Column.{Angles}
 use Rattle.work.proofs.Bounds.{condition-magnitude, numerator-magnitude}
 

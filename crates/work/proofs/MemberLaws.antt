@@ -7,10 +7,9 @@ use native.Mathlib.Nat.{le-of-suc-le-suc, not-suc-le-zero, le-of-eq, le-trans}
 use native.Mathlib.Decide.{decLt}
 use native.Mathlib.Omega.{arith}
 use lib.Dec.{T, leb, leb→le}
-use lib.ListN.{length, getD, List·getD-map, List·getD-eq-default, length-map}
+use lib.ListN.{length, getD, List·getD-map, List·getD-eq-default}
 use lib.IntN.{ℤ, pos, _+ℤ_}
 use Rattle.whole.specs.Lists.{every, padded}
-use Rattle.whole.specs.Sums.{vector}
 use Rattle.whole.proofs.Computed.{and-left, and-right}
 use Rattle.whole.proofs.Lists.{length-padded, getD-padded, getD-any}
 use Rattle.figures.specs.declared.Figure.{Figure}

@@ -1,11 +1,11 @@
 -- The reduced coefficients as the code makes them, and how large the numbers of the sine condition can be, of every figure at once. Assumes nothing.
-use mathlib.Core.Path.{_≡_, refl, sym, ap, ap₂, _∙_, subst}
+use mathlib.Core.Path.{_≡_, sym, ap, ap₂, _∙_, subst}
 use mathlib.Core.Bool.{Bool}
 use mathlib.Core.List.{List, [], _∷_}
-use Prim.Native.Nat.{ℕ, zero, suc, _+_, _*_, _^_, _≤_, _<_, zero-le}
-use native.Mathlib.Nat.{le-trans, le-of-lt, lt-of-lt-of-le, mul-le-mul}
+use Prim.Native.Nat.{ℕ, zero, suc, _*_, _^_, _≤_, _<_, zero-le}
+use native.Mathlib.Nat.{le-of-lt, lt-of-lt-of-le}
 use native.Mathlib.Omega.{arith}
-use lib.Dec.{T, leb, leb→le, lit<, lit≤}
+use lib.Dec.{T, leb, leb→le}
 use lib.ListN.{getD}
 use lib.Pow.{pow-mono}
 use lib.IntN.{ℤ, pos, natAbs, _+ℤ_, _*ℤ_}
@@ -21,8 +21,8 @@ use Rattle.figures.specs.Figure.{description, denominator, allFigures}
 use Rattle.figures.specs.Numerators.{conditionSum, numerator, reducedCoefficient, paddedNumerators, paddedSigns, mostAngles, mostConditions, mostMembers}
 use Rattle.figures.proofs.Figures.{each-figure}
 use Rattle.work.specs.Column.{column, Below}
-use Rattle.work.specs.Pass.{given}
-use Rattle.work.specs.SecondPass.{sineSign, signedDifference, secondReduced}
+use Rattle.method.specs.Pass.{given}
+use Rattle.method.specs.SecondPass.{sineSign, signedDifference, secondReduced}
 use Rattle.work.specs.SecondWork.{mostDenominator}
 use Rattle.work.proofs.ConditionLaws.{numerator-agrees, reduced-agrees}
 use Rattle.work.proofs.Bounds.{condition-magnitude, numerator-magnitude}

@@ -1,16 +1,15 @@
 -- Each step of the work on columns is the step of its definition, at every index. Assumes nothing.
-use mathlib.Core.Path.{_≡_, refl, sym, ap, ap₂, _∙_, subst}
+use mathlib.Core.Path.{_≡_, refl, sym, ap, ap₂, _∙_}
 use mathlib.Core.List.{List, [], _∷_}
-use Prim.Native.Nat.{ℕ, zero, suc, _≤_, _<_}
-use native.Mathlib.Nat.{lt-of-lt-of-le, le-trans}
+use Prim.Native.Nat.{ℕ, zero, suc, _<_}
+use native.Mathlib.Nat.{lt-of-lt-of-le}
 use native.Mathlib.Decide.{decLt}
 use native.Mathlib.Omega.{arith}
 use lib.Dec.{T, leb, leb→le}
-use lib.ListN.{length, getD}
 use lib.IntN.{ℤ, pos, _+ℤ_}
 use Rattle.whole.specs.Lists.{listed, every}
 use Rattle.whole.specs.Quotient.{roundedQuotient}
-use Rattle.whole.specs.Sums.{applied, table, vector}
+use Rattle.whole.specs.Sums.{table, vector}
 use Rattle.whole.proofs.Computed.{and-left, and-right}
 use Rattle.whole.proofs.Lists.{getD-listed, listed-ext}
 use Rattle.whole.proofs.Sums.{applied-ext}

@@ -1,17 +1,16 @@
 -- The padded list of targets is the conditions' own, of every figure at once. Assumes nothing.
 use mathlib.Core.Path.{_≡_, sym, ap, _∙_}
 use mathlib.Core.List.{List, map}
-use Prim.Native.Nat.{ℕ, suc, _≤_, _<_}
+use Prim.Native.Nat.{ℕ, suc, _<_}
 use native.Mathlib.Nat.{le-of-eq, le-trans}
 use native.Mathlib.Decide.{decLt}
 use native.Mathlib.Omega.{arith}
 use lib.ListN.{length, getD, List·getD-map, List·getD-eq-default}
-use Rattle.whole.specs.Lists.{padded}
 use Rattle.whole.proofs.Lists.{length-padded, getD-padded}
 use Rattle.figures.specs.declared.Figure.{Figure}
 use Rattle.figures.specs.declared.Target.{Target}
 use Rattle.figures.specs.declared.Target.the-variants.{NoCondition}
-use Rattle.figures.specs.Figure.{Condition, description, conditionCount, targetOf}
+use Rattle.figures.specs.Figure.{Condition, description, targetOf}
 use Rattle.figures.specs.Numerators.{paddedTargets, mostConditions}
 use Rattle.figures.proofs.Figures.{none, condition-bound}
 

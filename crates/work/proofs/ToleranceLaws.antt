@@ -23,9 +23,9 @@ use Rattle.figures.specs.declared.Figure.{Figure}
 use Rattle.figures.specs.Figure.{angleCount}
 use Rattle.figures.specs.Numerators.{mostAngles}
 use Rattle.figures.proofs.Figures.{angle-bound}
-use Rattle.work.specs.Pass.{given}
-use Rattle.work.specs.SecondPass.{toleranceOf, sineSign, signedDifference, sineMisclosure, differenceSquares, exceeds, toleranceTest}
-use Rattle.work.proofs.EntryLaws.{in-force-within}
+use Rattle.method.specs.Pass.{given}
+use Rattle.method.specs.SecondPass.{toleranceOf, sineSign, signedDifference, sineMisclosure, differenceSquares, exceeds, toleranceTest}
+use Rattle.method.proofs.EntryLaws.{in-force-within}
 use Rattle.work.proofs.ProductLaws.{product-magnitude}
 use Rattle.work.proofs.SineLaws.{sign-magnitude, difference-magnitude}
 

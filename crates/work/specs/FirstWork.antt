@@ -1,22 +1,21 @@
 -- The work of the first pass by value, as columns.
 use Prim.Native.Nat.{ℕ, _^_, _≤_, _<_}
 use mathlib.Core.List.{List, [], _∷_}
-use lib.IntN.{ℤ, pos, natAbs, negℤ}
+use lib.IntN.{ℤ, pos, natAbs}
 use lib.Signed.{_≤ℤ_}
 use Rattle.whole.specs.Sums.{vector}
 use Rattle.figures.specs.Numerators.{mostAngles}
 use Rattle.refusals.specs.declared.Refusal.{Refusal}
 use Rattle.refusals.specs.declared.Verdict.{Verdict}
 use Rattle.refusals.specs.declared.Verdict.the-variants.{Passed, Failed}
-use Rattle.refusals.specs.Order.{answerOf, failsAt, lowestPlace, numbered, outsideSigned}
-use Rattle.refusals.specs.Ranges.{leastAngle, mostAngle, mostLimit}
-use Rattle.figures.specs.Figure.{angleCount, conditionCount}
-use Rattle.work.specs.Pass.{lengthsTest, limitOrToleranceTest, angleTest, resultTest}
+use Rattle.refusals.specs.Order.{answerOf}
 use Rattle.figures.specs.declared.Figure.{Figure}
 use Rattle.work.specs.declared.first.FirstJudged.{FirstJudged}
 use Rattle.work.specs.declared.first.FirstWork.{FirstWork}
 use Rattle.work.specs.Column.{column}
-use Rattle.work.specs.FirstPass.{firstLengths, fixedTest, misclosureTest, limitOf, misclosure, firstNumerator, firstRounded, corrected, firstRest}
+use Rattle.method.specs.Pass.{resultTest}
+use Rattle.method.specs.FirstSteps.{givenTests}
+use Rattle.method.specs.FirstPass.{misclosureTest, misclosure, firstNumerator, firstRounded, corrected, firstRest}
 
 abbrev pub firstWorkOf : Figure → (angles fixed : List ℕ) → FirstWork
 firstWorkOf f angles fixed = record {
@@ -26,19 +25,6 @@ firstWorkOf f angles fixed = record {
   corrected = column (corrected f angles fixed);
   rests = column (firstRest f angles fixed);
 }
-
--- the tests of a first pass before its work, and those of its work as columns
-abbrev pub givenTests : Figure → (limit : ℕ) (angles fixed lent : List ℕ) → List Verdict
-givenTests f limit angles fixed lent =
-    lengthsTest lent (firstLengths f) ∷ limitOrToleranceTest mostLimit limit ∷ angleTest angles ∷ fixedTest fixed ∷ []
-
-abbrev pub workTests : Figure → (limit : ℕ) (misclosures corrected : List ℤ) → List Verdict
-workTests f limit misclosures corrected =
-    failsAt Refusal.MisclosureBeyondLimit
-    (lowestPlace (λ place. outsideSigned (negℤ (pos (limitOf limit))) (pos (limitOf limit)) (numbered misclosures place (pos 0))) (conditionCount f))
-    ∷ failsAt Refusal.ResultOutOfRange
-    (lowestPlace (λ place. outsideSigned (pos leastAngle) (pos mostAngle) (numbered corrected place (pos 0))) (angleCount f))
-    ∷ []
 
 -- the work with the verdict of its tests
 abbrev pub firstWorked : Figure → (limit : ℕ) (angles fixed : List ℕ) → FirstJudged

@@ -18,8 +18,8 @@ use Rattle.figures.specs.Numerators.{conditionSum, mostAngles}
 use Rattle.work.specs.declared.sines.Sines.{Sines}
 use Rattle.work.specs.declared.second.SecondWork.{SecondWork}
 use Rattle.work.specs.Column.{column}
-use Rattle.work.specs.Pass.{given, lengthsTest, limitOrToleranceTest, angleTest, resultTest, ofNamed}
-use Rattle.work.specs.SecondPass.{secondReduced, sineMisclosure, sumOfSquares, differenceSquares, secondNumerator, secondRounded, secondAdjusted, secondRest, secondLengths, sineEntryTest, sumOfSquaresTest, toleranceTest}
+use Rattle.method.specs.Pass.{given, lengthsTest, limitOrToleranceTest, angleTest, resultTest, ofNamed}
+use Rattle.method.specs.SecondPass.{secondReduced, sineMisclosure, sumOfSquares, differenceSquares, secondNumerator, secondRounded, secondAdjusted, secondRest, secondLengths, sineEntryTest, sumOfSquaresTest, toleranceTest}
 
 -- no figure has a greater denominator
 abbrev pub mostDenominator : ℕ

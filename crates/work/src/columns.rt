@@ -7,19 +7,17 @@ ghost use lib.ListN.{getD, length};
 ghost use Rattle.whole.specs.Lists.{listed};
 ghost use Rattle.whole.specs.Quotient.{roundedQuotient};
 ghost use Rattle.whole.specs.Sums.{vector};
-ghost use Rattle.refusals.specs.Order.{lowestPlace, numbered, outsideSigned};
+ghost use Rattle.refusals.specs.Order.{numbered};
 ghost use Rattle.figures.specs.Numerators.{conditionSum, sumOver, mostAngles, mostConditions, mostMembers};
 ghost use Rattle.work.specs.Column.{column, Below, MembersOfFigure};
-ghost use Rattle.work.specs.Pass.{given};
+ghost use Rattle.method.specs.Pass.{given};
 use figures::Figure;
-use refusals::Lowest;
+use method::Column;
 use tables::MOST_ANGLES;
 use tables::MOST_CONDITIONS;
 use tables::MOST_MEMBERS;
 use tables::Members;
 use tables::Misclosures;
-
-pub type Column = [i64; MOST_ANGLES];
 
 // The given values, and 0 past their end.
 pub fn column_of(values: &[u32]) -> Column
@@ -150,25 +148,4 @@ pub fn narrowed(x: Column) -> Misclosures
         j += 1;
     }
     out
-}
-
-// The lowest of the places 1 to count whose value lies outside least..most.
-pub fn lowest_in_column(x: Column, count: usize, least: i64, most: i64) -> Lowest
-    requires { ⌜ count ≤ mostAngles ⌝ }
-    ensures { λ r. ⌜ r ≡ lowestPlace (λ place. outsideSigned least most (numbered x place (pos 0))) count ⌝ }
-{
-    let mut passed = 0;
-    while passed < count {
-        if is_outside(x[passed], least, most) {
-            return Lowest::At(passed + 1);
-        }
-        passed += 1;
-    }
-    Lowest::Nowhere
-}
-
-fn is_outside(value: i64, least: i64, most: i64) -> bool
-    ensures { λ fails. ⌜ fails ≡ outsideSigned least most value ⌝ }
-{
-    value < least || most < value
 }

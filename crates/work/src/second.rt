@@ -6,41 +6,24 @@ ghost use lib.IntN.{pos, negℤ, natAbs, _*ℤ_};
 ghost use Rattle.refusals.specs.Order.{answerOf};
 ghost use Rattle.refusals.specs.Ranges.{mostTolerance};
 ghost use Rattle.work.specs.Column.{Angles, Below};
-ghost use Rattle.work.specs.Pass.{angleTest, lengthsTest, limitOrToleranceTest};
-ghost use Rattle.work.specs.SecondPass.{secondLengths, sineEntryTest, sumOfSquaresTest, toleranceTest, sineMisclosure, sumOfSquares, differenceSquares};
+ghost use Rattle.method.specs.SecondPass.{sumOfSquaresTest, toleranceTest, sineMisclosure, sumOfSquares, differenceSquares};
 ghost use Rattle.work.specs.SecondWork.{mostDenominator, SineEntries, Corrections, secondWorkOf, refusedWork, workedAfter, figureWork, sheetWork};
-use crate::columns::Column;
 use crate::columns::column_of;
 use crate::columns::condition_sums;
 use crate::columns::quotients;
 use crate::columns::sum_of;
-use crate::lengths::lengths_verdict;
 use crate::sines::Sines;
-use crate::sines::sine_entry_verdict;
 use crate::sines::sines_of;
-use crate::sines::squares_verdict;
 use crate::sines::tolerance_verdict;
 use crate::sums::scaled;
-use crate::tests::angles_verdict;
-use crate::tests::first_of_four;
-use crate::tests::limit_or_tolerance_verdict;
-use crate::tests::results_verdict;
 use figures::Figure;
 use figures::Named;
-use refusals::MOST_TOLERANCE;
+use method::Column;
+use method::SecondLengths;
 use refusals::Refusal;
 use refusals::Verdict;
 use refusals::first_to_fail;
 use tables::MOST_ANGLES;
-
-// The lengths of angles, log-sines, differences, reduced coefficients, numerators, rounded corrections, adjusted angles and rests.
-pub type SecondLengths = [usize; 8];
-
-// W and S, or why the sheet is turned back.
-pub enum SecondAnswer {
-    Done(i64, i64),
-    Refused(Refusal),
-}
 
 // All that the pass gives, by value. Where a test before number 7 fails, the rest is 0.
 pub struct SecondWork {
@@ -82,47 +65,10 @@ pub fn figure_work(
 ) -> SecondWork
     ensures { λ r. ⌜ r ≡ figureWork f tolerance (now (angles .entry)) (now («log_sines» .entry)) (now (differences .entry)) lent ⌝ }
 {
-    match entries_verdict(f, tolerance, angles, log_sines, differences, lent) {
+    match method::second_given_verdict(f, tolerance, angles, log_sines, differences, lent) {
         Verdict::Failed(refusal) => refused_work(refusal),
         Verdict::Passed => sine_work(f, tolerance, angles, log_sines, differences),
     }
-}
-
-// Numbers 2, 3, 4 and 8.
-fn entries_verdict(
-    f: Figure,
-    tolerance: u32,
-    angles: &[u32],
-    log_sines: &[u32],
-    differences: &[i32],
-    lent: SecondLengths,
-) -> Verdict
-    ensures { λ r. ⌜ r ≡ answerOf (lengthsTest lent (secondLengths f) ∷ limitOrToleranceTest mostTolerance tolerance ∷ angleTest (now (angles .entry)) ∷ sineEntryTest (now («log_sines» .entry)) (now (differences .entry)) ∷ []) ⌝ }
-{
-    let own = second_lengths(f);
-    first_of_four(
-        lengths_verdict(&lent, &own),
-        limit_or_tolerance_verdict(tolerance, MOST_TOLERANCE),
-        angles_verdict(angles),
-        sine_entry_verdict(log_sines, differences),
-    )
-}
-
-pub fn second_lengths(f: Figure) -> SecondLengths
-    ensures { λ r. ⌜ r ≡ secondLengths f ⌝ }
-{
-    let counts = tables::counts_of(f);
-    let angles = counts.angles;
-    [
-        angles,
-        angles,
-        angles,
-        angles,
-        angles,
-        angles,
-        angles,
-        counts.conditions,
-    ]
 }
 
 // Numbers 10 and 9, and then the corrections.
@@ -139,7 +85,7 @@ fn sine_work(
     ensures { λ r. ⌜ r ≡ workedAfter (answerOf (sumOfSquaresTest (sumOfSquares f (now (differences .entry))) ∷ toleranceTest (sineMisclosure f (now («log_sines» .entry))) tolerance (differenceSquares f (now (differences .entry))) ∷ [])) (secondWorkOf f (now (angles .entry)) (now («log_sines» .entry)) (now (differences .entry))) ⌝ }
 {
     let sines = sines_of(f, log_sines, differences);
-    let zero = squares_verdict(sines.squares);
+    let zero = method::squares_verdict(sines.squares);
     let beyond = tolerance_verdict(sines.misclosure, tolerance, sines.difference_squares);
     match first_to_fail(zero, beyond) {
         Verdict::Failed(refusal) => refused_work(refusal),
@@ -162,7 +108,7 @@ fn corrections(f: Figure, angles: &[u32], sines: Sines) -> SecondWork
     let rounded = quotients(numerators, whole::magnitude(squares));
     let adjusted = sum_of(column_of(angles), rounded);
     let rests = condition_sums(f, rounded);
-    let verdict = results_verdict(adjusted, counts.angles);
+    let verdict = method::results_verdict(adjusted, counts.angles);
     SecondWork {
         verdict,
         misclosure,

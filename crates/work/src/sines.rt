@@ -1,4 +1,4 @@
-// The sine condition of the second pass: document 01, "The two passes", and numbers 8, 9 and 10.
+// The sine condition of the second pass: document 01, "The two passes", and number 9.
 ghost use mathlib.Core.Path.{_≡_};
 ghost use Prim.Native.Nat.{_<_, _≤_, _^_};
 ghost use lib.IntN.{pos, natAbs};
@@ -7,9 +7,8 @@ ghost use Rattle.whole.specs.Sums.{vector};
 ghost use Rattle.refusals.specs.Ranges.{mostTolerance};
 ghost use Rattle.figures.specs.Numerators.{reducedCoefficient};
 ghost use Rattle.work.specs.Column.{column, Below};
-ghost use Rattle.work.specs.SecondPass.{sineEntryTest, sumOfSquaresTest, toleranceTest};
+ghost use Rattle.method.specs.SecondPass.{toleranceTest};
 ghost use Rattle.work.specs.SecondWork.{SineEntries, sinesOf};
-use crate::columns::Column;
 use crate::columns::column_of;
 use crate::columns::condition_sums;
 use crate::columns::narrowed;
@@ -18,13 +17,9 @@ use crate::sums::dot_product;
 use crate::sums::products;
 use crate::sums::scaled;
 use crate::sums::signed_column;
-use crate::tests::in_force;
 use figures::Figure;
-use refusals::LEAST_DIFFERENCE;
-use refusals::LEAST_LOG_SINE;
-use refusals::Lowest;
-use refusals::MOST_DIFFERENCE;
-use refusals::MOST_LOG_SINE;
+use method::Column;
+use method::in_force;
 use refusals::Refusal;
 use refusals::Verdict;
 
@@ -68,33 +63,6 @@ fn reduced_coefficients(f: Figure, d: Column) -> Column
     let sums = narrowed(condition_sums(f, d));
     let denominator = tables::counts_of(f).denominator as i64;
     sum_of(scaled(denominator, d), tables::numerators_of(f, sums))
-}
-
-// Number 8.
-pub fn sine_entry_verdict(log_sines: &[u32], differences: &[i32]) -> Verdict
-    ensures { λ r. ⌜ r ≡ sineEntryTest (now («log_sines» .entry)) (now (differences .entry)) ⌝ }
-{
-    let log_sine = refusals::lowest_outside(log_sines, LEAST_LOG_SINE, MOST_LOG_SINE);
-    let difference = refusals::lowest_signed_outside(
-        differences,
-        LEAST_DIFFERENCE,
-        MOST_DIFFERENCE,
-    );
-    match refusals::earlier_place(log_sine, difference) {
-        Lowest::Nowhere => Verdict::Passed,
-        Lowest::At(place) => Verdict::Failed(Refusal::SineEntryOutOfRange(place)),
-    }
-}
-
-// Number 10.
-pub fn squares_verdict(squares: i64) -> Verdict
-    ensures { λ r. ⌜ r ≡ sumOfSquaresTest squares ⌝ }
-{
-    if squares == 0 {
-        Verdict::Failed(Refusal::SumOfSquaresIsZero)
-    } else {
-        Verdict::Passed
-    }
 }
 
 // Number 9.

@@ -5,7 +5,7 @@ ghost use lib.IntN.{natAbs, _*ℤ_};
 ghost use Rattle.whole.specs.Sums.{dot, vector};
 ghost use Rattle.figures.specs.Numerators.{mostAngles};
 ghost use Rattle.work.specs.Column.{column, Below};
-use crate::columns::Column;
+use method::Column;
 use tables::MOST_ANGLES;
 
 // The given values, and 0 past their end.

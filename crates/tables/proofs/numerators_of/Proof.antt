@@ -1,15 +1,13 @@
--- `tables::numerators_of` meets its contract: the padded table's coefficients are small, and its rows applied are the figure's numerators.
-use mathlib.Core.Path.{sym, ap, _∙_, subst}
+-- `tables::numerators_of` meets its contract: the padded table's rows applied are the figure's numerators.
+use mathlib.Core.Path.{ap, _∙_}
 use mathlib.Core.List.{List}
 use borrow.Author.Needs.{needs}
-use lib.Dec.{T}
 use lib.IntN.{ℤ}
 use Rattle.whole.specs.Lists.{listed}
 use Rattle.whole.specs.Sums.{applied, table, vector}
 use Rattle.whole.proofs.Lists.{listed-ext}
 use Rattle.figures.specs.Numerators.{mostAngles, mostConditions, numerator, paddedRows, paddedNumerators}
-use Rattle.tables.specs.Small.{smallRows}
-use Rattle.tables.proofs.Padding.{padded-small, padded-numerator}
+use Rattle.tables.proofs.Padding.{padded-numerator}
 use Rattle.tables.proofs.numerators_of.Statement.{statement}
 use Rattle.tables.proofs.numerators_of.Tie as tie
 
@@ -17,7 +15,7 @@ rows-of-requires : tie.Need-rows-of-requires
 rows-of-requires c κs = search needs
 
 rows-applied-requires : tie.Need-rows-applied-requires
-rows-applied-requires c κs = subst (λ (rows : List (List ℤ)). T (smallRows rows)) (sym (c .rows-of .ensures)) (padded-small (c .before .args .f))
+rows-applied-requires c κs = search needs
 
 returns : tie.Need-returns
 unfolding paddedNumerators

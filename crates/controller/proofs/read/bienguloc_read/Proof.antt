@@ -3,12 +3,9 @@ use mathlib.Core.Path.{sym, ap, _∙_}
 use borrow.Author.Needs.{needs}
 use denote.Ref.{now}
 use lib.ListN.{length}
-use Rattle.refusals.specs.declared.Verdict.the-variants.{Passed, Failed}
-use Rattle.sheets.specs.Sheet.{Values}
 use Rattle.controller.specs.Heads.{lengthsOfNoSheet}
-use Rattle.controller.proofs.Answers.{kept-by}
 use Rattle.controller.proofs.PlaceBounds.{refusal-fits, reader-small}
-use Rattle.controller.proofs.SheetHeads.{was-read, was-refused, right-head, wrong-head, head-read, read-kept, read-stored}
+use Rattle.controller.proofs.SheetHeads.{was-refused, small-place, answered-wrong-head, answered-refusal, answered-read}
 use Rattle.controller.proofs.read.bienguloc_read.Statement.{statement}
 use Rattle.controller.proofs.read.bienguloc_read.Tie as tie
 
@@ -23,21 +20,22 @@ abbrev start : tie.Else1 → tie.Start
 start c = c .before .before .before .before .before .before
 
 refused-requires : tie.Need-refused-requires
-refused-requires c κs = refusal-fits (was-refused _ lengthsOfNoSheet _ (c .refusal-of-lengths .ensures)) (reader-small _ lengthsOfNoSheet)
+refused-requires c κs =
+    let args = c .before .before .before .before .before .before .before .args in
+    refusal-fits (was-refused (now (args .sheet)) lengthsOfNoSheet (c .refusal-of-lengths .result) (c .refusal-of-lengths .ensures)) (reader-small (now (args .sheet)) lengthsOfNoSheet)
 
 returns : tie.Need-returns
 returns c =
-    let args = c .before .before .before .before .before .before .before .before .args in
-    let answer = c .refused .ensures in
-    let r = c .before .refusal-of-lengths .result in (
-      answer ∙ sym (wrong-head (now (args .sheet)) _ (length (now (args .head))) r (c .before .before .if1 .taken) (c .before .refusal-of-lengths .ensures)),
-      (kept-by r _ _ answer, (kept-by r _ _ answer, (kept-by r _ _ answer, (kept-by r _ _ answer, kept-by r _ _ answer)))),
-    )
+    let told = c .before in
+    let args = told .before .before .before .before .before .before .before .args in
+    answered-wrong-head (now (args .sheet)) (now (args .head)) (now (args .angles)) (now (args .fixed)) (now (args .log-sines)) (now (args .differences)) (told .refusal-of-lengths .result) (told .before .if1 .taken) (told .refusal-of-lengths .ensures) (c .refused .ensures)
 
 refused-requires-2 : tie.Need-refused-requires-2
 refused-requires-2 c κs =
-    let read = called (c .before .before .before) in
-    refusal-fits (was-refused _ _ _ (sym (read .read-sheet .ensures .0) ∙ c .before .refusal .given .1)) (reader-small _ _)
+    let found = c .before in
+    let read = called (found .before .before) in
+    let args = start (tested read) .args in
+    small-place (now (args .sheet)) (now (args .head)) (now (args .angles)) (now (args .fixed)) (now (args .log-sines)) (now (args .differences)) (read .read-sheet .ensures) (found .refusal .given .0 .0) (found .refusal .given .1)
 
 returns-2 : tie.Need-returns-2
 returns-2 c =
@@ -45,25 +43,7 @@ returns-2 c =
     let read = called (found .before .before) in
     let test = tested read in
     let args = start test .args in
-    let answer = c .refused2 .ensures in
-    let r = found .refusal .given .0 .0 in
-    let told = found .refusal .given .1 in
-    let after = read .read-sheet .ensures .1 in (
-      answer ∙ sym (right-head (now (args .sheet)) _ (length (now (args .head))) (Failed r) (test .if1 .left) (was-refused _ _ r (sym (read .read-sheet .ensures .0) ∙ told))),
-      (
-        kept-by r _ _ answer,
-        (
-          read-kept r _ _ _ told answer (after .0),
-          (
-            read-kept r _ _ _ told answer (after .1 .0),
-            (
-              read-kept r _ _ _ told answer (after .1 .1 .0),
-              read-kept r _ _ _ told answer (after .1 .1 .1),
-            ),
-          ),
-        ),
-      ),
-    )
+    answered-refusal (now (args .sheet)) (now (args .head)) (now (args .angles)) (now (args .fixed)) (now (args .log-sines)) (now (args .differences)) (read .read-sheet .ensures) (found .refusal .given .0 .0) (test .if1 .left) (found .refusal .given .1) (c .refused2 .ensures)
 
 store-requires : tie.Need-store-requires
 store-requires c κs =
@@ -78,24 +58,7 @@ returns-3 c =
     let read = called (found .before .before) in
     let test = tested read in
     let args = start test .args in
-    let told = found .kind .given .1 in
-    let after = read .read-sheet .ensures .1 in
-    let was = was-read (now (args .sheet)) _ (sym (read .read-sheet .ensures .0) ∙ told) in (
-      sym (right-head (now (args .sheet)) _ (length (now (args .head))) Passed (test .if1 .left) (was .passes)),
-      (
-        stored .store .ensures ∙ made .head-of .ensures ∙ head-read was,
-        (
-          read-stored (λ (v : Values). v .angles) _ was told (after .0),
-          (
-            read-stored (λ (v : Values). v .fixed) _ was told (after .1 .0),
-            (
-              read-stored (λ (v : Values). v .logSines) _ was told (after .1 .1 .0),
-              read-stored (λ (v : Values). v .differences) _ was told (after .1 .1 .1),
-            ),
-          ),
-        ),
-      ),
-    )
+    answered-read (now (args .sheet)) (now (args .head)) (now (args .angles)) (now (args .fixed)) (now (args .log-sines)) (now (args .differences)) (read .read-sheet .ensures) _ _ _ (test .if1 .left) (found .kind .given .1) (stored .store .ensures ∙ made .head-of .ensures)
 
 pub bienguloc-read-spec : {M : Type 1} → statement M
 bienguloc-read-spec =

@@ -14,12 +14,21 @@ use Rattle.figures.specs.declared.Figure.{Figure}
 use Rattle.figures.specs.declared.Named.{Named}
 use Rattle.figures.specs.declared.Named.the-variants.{As, Nothing}
 use Rattle.figures.specs.Figure.{figureOf}
-use Rattle.work.specs.FirstPass.{firstTests, firstPassTests, firstPassVerdict, misclosuresOf, numeratorsOf, roundedOf, correctedOf, restsOf}
-use Rattle.work.specs.Pass.{ofNamed, stored}
+use Rattle.method.specs.FirstPass.{firstTests, firstPassTests, firstPassVerdict, misclosuresOf, numeratorsOf, roundedOf, correctedOf, restsOf}
+use Rattle.method.specs.Pass.{ofNamed, stored}
 use Rattle.passes.proofs.first.first_pass.Statement.{statement}
 use Rattle.passes.proofs.first.first_pass.Tie as tie
 
-module _ (code n limit : ℕ) (angles fixed lent : List ℕ) where
+-- what is stored of the figure, where it is named
+of-figure : {A : Type 0} (m : Named) (f : Figure) (v : Verdict) (list : Figure → List A) (old : List A) {x : List A} → m ≡ As f
+    → x ≡ stored v (list f) old → x ≡ stored v (ofNamed m [] list) old
+of-figure m f v list old e h = h ∙ sym (ap (λ (k : Named). stored v (ofNamed k [] list) old) e)
+
+module _ (code n limit : ℕ) (angles fixed : List ℕ) (misclosures numerators rounded : List ℤ) (corrected : List ℕ) (rests : List ℤ) where
+  abbrev lent : List ℕ
+  lent =
+      length angles ∷ length fixed ∷ length misclosures ∷ length numerators ∷ length rounded ∷ length corrected ∷ length rests ∷ []
+
   unnamed : figureOf code n ≡ Nothing → Failed Refusal.NoSuchFigure ≡ firstPassVerdict code n limit angles fixed lent
   unfolding firstPassVerdict firstPassTests answerOf
   unnamed e = sym (ap (λ (m : Named). answerOf (ofNamed m (Failed Refusal.NoSuchFigure ∷ []) (λ f. Passed ∷ firstTests f limit angles fixed lent))) e)
@@ -28,40 +37,47 @@ module _ (code n limit : ℕ) (angles fixed lent : List ℕ) where
   unfolding firstPassVerdict firstPassTests answerOf
   named f e = sym (ap (λ (m : Named). answerOf (ofNamed m (Failed Refusal.NoSuchFigure ∷ []) (λ g. Passed ∷ firstTests g limit angles fixed lent))) e)
 
--- what is stored of the figure, where it is named
-of-figure : {A : Type 0} (m : Named) (f : Figure) (v : Verdict) (list : Figure → List A) (old : List A) {x : List A} → m ≡ As f
-    → x ≡ stored v (list f) old → x ≡ stored v (ofNamed m [] list) old
-of-figure m f v list old e h = h ∙ sym (ap (λ (k : Named). stored v (ofNamed k [] list) old) e)
+  -- all that is promised of a call, in one, from what the figure's own pass promises
+  of-named : (f : Figure) (v : Verdict) {misclosures-left numerators-left rounded-left : List ℤ} {corrected-left : List ℕ} {rests-left : List ℤ} → figureOf code n ≡ As f
+      → (v ≡ answerOf (firstTests f limit angles fixed lent))
+      × ((misclosures-left ≡ stored v (misclosuresOf f angles fixed) misclosures)
+      × ((numerators-left ≡ stored v (numeratorsOf f angles fixed) numerators)
+      × ((rounded-left ≡ stored v (roundedOf f angles fixed) rounded)
+      × ((corrected-left ≡ stored v (correctedOf f angles fixed) corrected) × (rests-left ≡ stored v (restsOf f angles fixed) rests)))))
+      → (v ≡ firstPassVerdict code n limit angles fixed lent)
+      × ((misclosures-left ≡ stored v (ofNamed (figureOf code n) [] (λ g. misclosuresOf g angles fixed)) misclosures)
+      × ((numerators-left ≡ stored v (ofNamed (figureOf code n) [] (λ g. numeratorsOf g angles fixed)) numerators)
+      × ((rounded-left ≡ stored v (ofNamed (figureOf code n) [] (λ g. roundedOf g angles fixed)) rounded)
+      × ((corrected-left ≡ stored v (ofNamed (figureOf code n) [] (λ g. correctedOf g angles fixed)) corrected)
+      × (rests-left ≡ stored v (ofNamed (figureOf code n) [] (λ g. restsOf g angles fixed)) rests)))))
+  of-named f v some done = (
+    done .0 ∙ named f some,
+    (
+      of-figure (figureOf code n) f v (λ g. misclosuresOf g angles fixed) misclosures some (done .1 .0),
+      (
+        of-figure (figureOf code n) f v (λ g. numeratorsOf g angles fixed) numerators some (done .1 .1 .0),
+        (
+          of-figure (figureOf code n) f v (λ g. roundedOf g angles fixed) rounded some (done .1 .1 .1 .0),
+          (
+            of-figure (figureOf code n) f v (λ g. correctedOf g angles fixed) corrected some (done .1 .1 .1 .1 .0),
+            of-figure (figureOf code n) f v (λ g. restsOf g angles fixed) rests some (done .1 .1 .1 .1 .1),
+          ),
+        ),
+      ),
+    ),
+  )
 
 returns : tie.Need-returns
 returns c =
-    let s = c .before .before .before .before .before .before in
-    let none = sym (c .before .before .figure-of .ensures) ∙ c .enum-told .given .1 in
-    (unnamed (s .args .code) (s .args .n) (s .args .limit) (now (s .args .angles)) (now (s .args .fixed)) _ none, (refl, (refl, (refl, (refl, refl)))))
+    let args = c .before .before .before .before .before .before .args in
+    (unnamed (args .code) (args .n) (args .limit) (now (args .angles)) (now (args .fixed)) (now (args .misclosures)) (now (args .numerators)) (now (args .rounded)) (now (args .corrected)) (now (args .rests)) (sym (c .before .before .figure-of .ensures) ∙ c .enum-told .given .1), (refl, (refl, (refl, (refl, refl)))))
 
 returns-2 : tie.Need-returns-2
 returns-2 c =
     let call = c .before .before .before .before .before .before in
     let bound = call .before .before .before .before .before .before .before in
-    let s = bound .before .before .before .before .before .before in
-    let done = call .first-pass-of .ensures in
-    let v = call .first-pass-of .result in
-    let some = sym (bound .before .before .figure-of .ensures) ∙ bound .f .given .1 in (
-      done .0 ∙ named (s .args .code) (s .args .n) (s .args .limit) (now (s .args .angles)) (now (s .args .fixed)) _ _ some,
-      (
-        of-figure _ _ v (λ f. misclosuresOf f (now (s .args .angles)) (now (s .args .fixed))) (now (s .args .misclosures)) some (done .1 .0),
-        (
-          of-figure _ _ v (λ f. numeratorsOf f (now (s .args .angles)) (now (s .args .fixed))) (now (s .args .numerators)) some (done .1 .1 .0),
-          (
-            of-figure _ _ v (λ f. roundedOf f (now (s .args .angles)) (now (s .args .fixed))) (now (s .args .rounded)) some (done .1 .1 .1 .0),
-            (
-              of-figure _ _ v (λ f. correctedOf f (now (s .args .angles)) (now (s .args .fixed))) (now (s .args .corrected)) some (done .1 .1 .1 .1 .0),
-              of-figure _ _ v (λ f. restsOf f (now (s .args .angles)) (now (s .args .fixed))) (now (s .args .rests)) some (done .1 .1 .1 .1 .1),
-            ),
-          ),
-        ),
-      ),
-    )
+    let args = bound .before .before .before .before .before .before .args in
+    of-named (args .code) (args .n) (args .limit) (now (args .angles)) (now (args .fixed)) (now (args .misclosures)) (now (args .numerators)) (now (args .rounded)) (now (args .corrected)) (now (args .rests)) _ (call .first-pass-of .result) (sym (bound .before .before .figure-of .ensures) ∙ bound .f .given .1) (call .first-pass-of .ensures)
 
 pub first-pass-spec : {M : Type 1} → statement M
 first-pass-spec =

@@ -1,16 +1,12 @@
 -- `passes::second::second_pass` meets its contract: the work by value decides the answer, and is stored only where every test has passed.
-use mathlib.Core.Path.{_≡_, refl, sym, ap₂, _∙_}
+use mathlib.Core.Path.{refl}
 use mathlib.Core.List.{List, [], _∷_}
 use Prim.Native.Nat.{ℕ}
 use borrow.Author.Needs.{needs}
 use lib.ListN.{length}
-use lib.IntN.{ℤ}
 use mir.Facts.{toZ-ofZ}
 use denote.Ref.{now}
-use Rattle.work.specs.declared.second.SecondAnswer.{SecondAnswer}
-use Rattle.work.specs.declared.second.SecondAnswer.the-variants.{Done}
-use Rattle.work.specs.SecondPass.{storedAfter}
-use Rattle.passes.proofs.SecondStores.{answer-refused, answer-done, storable, stored-reduced, stored-numerators, stored-rounded, stored-adjusted, stored-rests}
+use Rattle.passes.proofs.SecondStores.{answer-refused, storable, done-and-stored}
 use Rattle.passes.proofs.second.second_pass.Statement.{statement}
 use Rattle.passes.proofs.second.second_pass.Tie as tie
 
@@ -65,25 +61,8 @@ returns-2 c =
     let passed = put .before .before .before .before .before .before in
     let made = passed .before .before in
     let args = start made .args in
-    let work = made .sheet-work .result in
-    let is = made .sheet-work .ensures in
-    let ok = passed .enum-told .given .1 in (
-      ap₂ Done (toZ-ofZ (record { sfits = c .struct-told .given .1 .0 .1 })) (toZ-ofZ (record { sfits = c .struct-told .given .1 .1 .0 .1 }))
-          ∙ answer-done (args .code) (args .n) (args .tolerance) (now (args .angles)) (now (args .log-sines)) (now (args .differences)) (lengths (start made)) work is ok,
-      (
-        put .store-work .ensures .0 ∙ stored-reduced (args .code) (args .n) (args .tolerance) (now (args .angles)) (now (args .log-sines)) (now (args .differences)) (lengths (start made)) work is ok,
-        (
-          put .store-work .ensures .1 .0 ∙ stored-numerators (args .code) (args .n) (args .tolerance) (now (args .angles)) (now (args .log-sines)) (now (args .differences)) (lengths (start made)) work is ok,
-          (
-            put .store-work .ensures .1 .1 .0 ∙ stored-rounded (args .code) (args .n) (args .tolerance) (now (args .angles)) (now (args .log-sines)) (now (args .differences)) (lengths (start made)) work is ok,
-            (
-              put .store-work .ensures .1 .1 .1 .0 ∙ stored-adjusted (args .code) (args .n) (args .tolerance) (now (args .angles)) (now (args .log-sines)) (now (args .differences)) (lengths (start made)) work is ok,
-              put .store-work .ensures .1 .1 .1 .1 ∙ stored-rests (args .code) (args .n) (args .tolerance) (now (args .angles)) (now (args .log-sines)) (now (args .differences)) (lengths (start made)) work is ok,
-            ),
-          ),
-        ),
-      ),
-    )
+    let facts = c .struct-told .given .1 in
+    done-and-stored (args .code) (args .n) (args .tolerance) (now (args .angles)) (now (args .log-sines)) (now (args .differences)) (lengths (start made)) (made .sheet-work .result) (made .sheet-work .ensures) (passed .enum-told .given .1) _ _ (toZ-ofZ (record { sfits = facts .0 .1 })) (toZ-ofZ (record { sfits = facts .1 .0 .1 })) (put .store-work .ensures)
 
 pub second-pass-spec : {M : Type 1} → statement M
 second-pass-spec =

@@ -8,7 +8,7 @@ use denote.Ref.{now}
 use lib.ListN.{length, replicate}
 use lib.Seq.{length-take-le}
 use Rattle.text.specs.Holds.{Holds}
-use Rattle.passes.specs.declared.worked.WorkedSheet.{WorkedSheet}
+use Rattle.worked.specs.declared.WorkedSheet.{WorkedSheet}
 use Rattle.report.specs.declared.reporting.Reported.the-variants.{Written}
 use Rattle.lines.specs.Lines.{longestText}
 use Rattle.report.specs.Report.{textOf, reportText, reportedOf, afterReport}

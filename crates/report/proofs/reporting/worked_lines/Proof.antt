@@ -9,9 +9,9 @@ use mir.Syntax.{w64}
 use mir.ValLaws.{toZ-ofZ}
 use Rattle.figures.specs.declared.Figure.{Figure}
 use Rattle.text.specs.Holds.{Holds}
-use Rattle.passes.specs.declared.worked.Outcome.{Outcome}
-use Rattle.passes.specs.declared.worked.Outcome.the-variants.{Second}
-use Rattle.passes.specs.declared.worked.WorkedSheet.{WorkedSheet}
+use Rattle.worked.specs.declared.Outcome.{Outcome}
+use Rattle.worked.specs.declared.Outcome.the-variants.{Second}
+use Rattle.worked.specs.declared.WorkedSheet.{WorkedSheet}
 use Rattle.report.specs.Report.{outcomeText, textOf}
 use Rattle.report.proofs.reporting.worked_lines.Statement.{statement}
 use Rattle.report.proofs.reporting.worked_lines.Tie as tie

@@ -7,7 +7,7 @@ use mir.Facts.{toZ-ofZ}
 use Rattle.whole.proofs.Lists.{Filled, filled-none, filled-more, filled-all}
 use Rattle.figures.specs.Numerators.{mostAngles}
 use Rattle.work.specs.Column.{column}
-use Rattle.work.specs.Pass.{given}
+use Rattle.method.specs.Pass.{given}
 use Rattle.work.proofs.columns.column_of.Statement.{statement}
 use Rattle.work.proofs.columns.column_of.Tie as tie
 

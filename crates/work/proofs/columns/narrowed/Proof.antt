@@ -1,10 +1,9 @@
 -- `work::columns::narrowed` meets its contract. The invariant: the misclosures passed are filled in; each is below 2³¹.
-use mathlib.Core.Path.{_≡_, refl, ap, _∙_}
+use mathlib.Core.Path.{_≡_, refl, _∙_}
 use Prim.Native.Nat.{_-_}
 use native.Mathlib.Omega.{arith}
-use lib.IntN.{ℤ}
 use mir.Syntax.{w32, w64}
-use mir.Val.{SFits, toZ, ofZ}
+use mir.Val.{toZ, ofZ}
 use mir.Facts.{toZ-ofZ}
 use Rattle.whole.specs.Sums.{vector}
 use Rattle.whole.proofs.Lists.{Filled, filled-none, filled-more, filled-all}

@@ -1,5 +1,5 @@
 -- `work::columns::quotients` meets its contract. The invariant: the quotients passed are filled in.
-use mathlib.Core.Path.{_≡_, refl, ap, _∙_}
+use mathlib.Core.Path.{refl, ap, _∙_}
 use Prim.Native.Nat.{_-_}
 use native.Mathlib.Omega.{arith}
 use borrow.Author.Needs.{needs}

@@ -3,7 +3,6 @@ use mathlib.Core.Path.{refl, _∙_}
 use mathlib.Core.List.{[]}
 use Prim.Native.Nat.{_-_}
 use native.Mathlib.Omega.{arith}
-use borrow.Author.Needs.{needs}
 use lib.ListN.{getD}
 use mir.Facts.{toZ-ofZ}
 use Rattle.whole.specs.Sums.{vector}

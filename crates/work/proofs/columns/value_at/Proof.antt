@@ -1,6 +1,5 @@
 -- `work::columns::value_at` meets its contract: a 32-bit value fits 64 bits, and past the end the definition reads 0.
 use mathlib.Core.Path.{sym, ap}
-use Prim.Native.Nat.{ℕ}
 use native.Mathlib.Omega.{arith}
 use borrow.Author.Needs.{needs}
 use lib.ListN.{List·getD-eq-default}

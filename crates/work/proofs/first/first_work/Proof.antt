@@ -1,21 +1,19 @@
 -- `work::first::first_work` meets its contract: each call is the next step of the definition, and every number stays small.
-use mathlib.Core.Path.{_≡_, refl, sym, ap, _∙_, subst}
+use mathlib.Core.Path.{_≡_, sym, ap, _∙_, subst}
 use mathlib.Core.List.{List}
-use Prim.Native.Nat.{ℕ, suc, _^_, _≤_, _<_}
+use Prim.Native.Nat.{ℕ, suc, _^_, _<_}
 use native.Mathlib.Omega.{arith}
 use borrow.Author.Needs.{needs}
-use lib.IntN.{ℤ, pos, negℤ, natAbs, _+ℤ_}
+use lib.IntN.{ℤ, natAbs}
 use denote.Ref.{now}
-use Rattle.whole.specs.Sums.{vector}
-use Rattle.whole.specs.Quotient.{roundedQuotient}
 use Rattle.whole.proofs.Magnitudes.{natAbs-neg}
 use Rattle.figures.specs.declared.Figure.{Figure}
 use Rattle.figures.specs.declared.Counts.{Counts}
 use Rattle.figures.specs.Figure.{denominator, targetOf}
-use Rattle.figures.specs.Numerators.{conditionSum, numerator}
+use Rattle.figures.specs.Numerators.{conditionSum}
 use Rattle.work.specs.Column.{column, Below}
-use Rattle.work.specs.FirstPass.{shouldBe, misclosure, firstNumerator, firstRounded, corrected, firstRest}
-use Rattle.work.specs.Pass.{given}
+use Rattle.method.specs.FirstPass.{shouldBe, misclosure, firstNumerator, firstRounded, corrected, firstRest}
+use Rattle.method.specs.Pass.{given}
 use Rattle.work.proofs.ColumnLaws.{column-below}
 use Rattle.work.proofs.FirstBounds.{given-small, sum-small, target-small, misclosure-small, rounded-small, rounded-sum-small}
 use Rattle.work.proofs.StepLaws.{sums-step, sum-step, numerators-step, quotients-step}

@@ -1,12 +1,12 @@
 -- `work::first::first_worked` meets its contract: the tests of the work are asked of its columns.
-use mathlib.Core.Path.{_≡_, sym, ap, ap₂, _∙_}
+use mathlib.Core.Path.{sym, ap, ap₂, _∙_}
 use borrow.Author.Needs.{needs}
 use denote.Ref.{now}
 use Rattle.refusals.specs.declared.Verdict.{Verdict}
 use Rattle.refusals.specs.Order.{answerOf}
 use Rattle.work.specs.declared.first.FirstJudged.{FirstJudged}
 use Rattle.work.specs.declared.first.FirstWork.{FirstWork}
-use Rattle.work.specs.FirstWork.{workTests}
+use Rattle.method.specs.FirstSteps.{workTests}
 use Rattle.work.proofs.FirstAccepted.{columns-tested}
 use Rattle.work.proofs.first.first_worked.Statement.{statement}
 use Rattle.work.proofs.first.first_worked.Tie as tie
@@ -20,7 +20,7 @@ returns c =
     let args = worked .before .before .before .args in
     let work = worked .first-work .ensures in
     ap₂ judged
-    (c .work-verdict .ensures
+    (c .first-work-verdict .ensures
     ∙ ap (λ (w : FirstWork). answerOf (workTests (args .f) (args .limit) (w .misclosures) (w .corrected))) work
     ∙ sym (columns-tested (args .f) (args .limit) (now (args .angles)) (now (args .fixed))))
     work

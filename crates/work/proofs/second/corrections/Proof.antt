@@ -1,28 +1,25 @@
 -- `work::second::corrections` meets its contract: one column after the other, each small enough for the next.
 use mathlib.Core.Path.{_≡_, refl, sym, ap, ap₂, _∙_, subst}
 use mathlib.Core.List.{List}
-use Prim.Native.Nat.{ℕ, _*_, _^_, _≤_, _<_}
+use Prim.Native.Nat.{ℕ, _^_, _≤_, _<_}
 use native.Mathlib.Omega.{arith}
 use borrow.Author.Needs.{needs}
 use lib.Dec.{lit≤}
 use lib.IntN.{ℤ, pos, negℤ, natAbs, _+ℤ_, _*ℤ_}
 use mir.Syntax.{w64}
-use mir.Val.{SFits, toZ, ofZ}
+use mir.Val.{toZ, ofZ}
 use mir.Facts.{toZ-ofZ}
 use denote.Ref.{now}
 use Rattle.whole.specs.Quotient.{roundedQuotient}
 use Rattle.whole.specs.Sums.{vector}
 use Rattle.whole.proofs.Magnitudes.{magnitude-read}
 use Rattle.refusals.specs.declared.Refusal.{Refusal}
-use Rattle.refusals.specs.declared.Verdict.{Verdict}
 use Rattle.refusals.specs.Order.{failsAt, lowestPlace, numbered, outsideSigned}
 use Rattle.refusals.specs.Ranges.{leastAngle, mostAngle}
 use Rattle.figures.specs.declared.Counts.{Counts}
 use Rattle.figures.specs.Figure.{denominator, angleCount}
-use Rattle.figures.specs.Numerators.{mostAngles}
-use Rattle.figures.proofs.Figures.{angle-bound}
 use Rattle.work.specs.Column.{column, Below}
-use Rattle.work.specs.Pass.{given}
+use Rattle.method.specs.Pass.{given}
 use Rattle.work.specs.SecondWork.{mostDenominator}
 use Rattle.work.proofs.ColumnLaws.{column-at, column-ext}
 use Rattle.work.proofs.CorrectionLaws.{angles-below, factor-magnitude, numerators-below, numerators-turned, quotients-below}
@@ -105,9 +102,7 @@ condition-sums-requires : tie.Need-condition-sums-requires
 condition-sums-requires c κs = rounded-below (c .before .before)
 
 results-verdict-requires : tie.Need-results-verdict-requires
-results-verdict-requires c κs =
-    let counted = c .before .before .before .before .before .before .before .before .before .before in
-    subst (λ (n : ℕ). n ≤ mostAngles) (sym (count counted)) (angle-bound (start counted .args .f))
+results-verdict-requires c κs = search needs
 
 returns : tie.Need-returns
 returns c =

@@ -3,9 +3,9 @@ use mathlib.Core.Path.{_≡_, ap₂, _∙_}
 use native.Mathlib.Nat.{le-of-lt, le-refl}
 use native.Mathlib.Omega.{arith}
 use Prim.Native.Nat.{_*_, _^_}
-use lib.IntN.{ℤ, pos, negℤ, negsuc, _*ℤ_}
+use lib.IntN.{pos, negℤ, negsuc, _*ℤ_}
 use mir.Syntax.{w64}
-use mir.Val.{SFits, toZ, ofZ}
+use mir.Val.{toZ, ofZ}
 use mir.Facts.{toZ-ofZ, toZ-pos}
 use Rattle.whole.proofs.Magnitudes.{magnitude-fits}
 use Rattle.work.specs.SecondWork.{mostDenominator}

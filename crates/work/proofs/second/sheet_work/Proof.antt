@@ -3,7 +3,7 @@ use mathlib.Core.Path.{_≡_, sym, ap, _∙_}
 use denote.Ref.{now}
 use Rattle.refusals.specs.declared.Refusal.{Refusal}
 use Rattle.figures.specs.declared.Named.{Named}
-use Rattle.work.specs.Pass.{ofNamed}
+use Rattle.method.specs.Pass.{ofNamed}
 use Rattle.work.specs.SecondWork.{refusedWork, figureWork, sheetWork}
 use borrow.Author.Needs.{needs}
 use Rattle.work.proofs.second.sheet_work.Statement.{statement}

@@ -1,8 +1,8 @@
 -- `work::second::sine_work` meets its contract: W, S and the sum of d² are those of the definitions, and where number 9 passes W is small enough
 -- for the corrections.
-use mathlib.Core.Path.{_≡_, refl, sym, ap, ap₂, _∙_, subst}
-use mathlib.Core.List.{List, [], _∷_}
-use Prim.Native.Nat.{ℕ, _^_, _≤_, _<_}
+use mathlib.Core.Path.{_≡_, sym, ap, ap₂, _∙_, subst}
+use mathlib.Core.List.{[], _∷_}
+use Prim.Native.Nat.{_^_, _<_}
 use native.Mathlib.Omega.{arith}
 use borrow.Author.Needs.{needs}
 use lib.Dec.{lit≤}
@@ -13,12 +13,11 @@ use mir.Val.{toZ, ofZ}
 use mir.Facts.{toZ-ofZ}
 use denote.Ref.{now}
 use Rattle.refusals.specs.declared.Verdict.{Verdict}
-use Rattle.refusals.specs.declared.Verdict.the-variants.{Passed}
 use Rattle.refusals.specs.Order.{answerOf}
 use Rattle.refusals.proofs.Answers.{answer-of-one, cons-passes}
 use Rattle.work.specs.declared.sines.Sines.{Sines}
-use Rattle.work.specs.SecondPass.{sineMisclosure, sumOfSquares, differenceSquares, sumOfSquaresTest, toleranceTest}
-use Rattle.work.specs.SecondWork.{Corrections, sinesOf, secondWorkOf, workedAfter}
+use Rattle.method.specs.SecondPass.{sineMisclosure, sumOfSquares, differenceSquares, sumOfSquaresTest, toleranceTest}
+use Rattle.work.specs.SecondWork.{Corrections, secondWorkOf, workedAfter}
 use Rattle.work.proofs.CorrectionLaws.{work-made}
 use Rattle.work.proofs.SineLaws.{below-as, reduced-below}
 use Rattle.work.proofs.ToleranceLaws.{misclosure-magnitude, squares-natural, squares-magnitude, within-tolerance}

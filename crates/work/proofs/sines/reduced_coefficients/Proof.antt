@@ -1,14 +1,13 @@
 -- `work::sines::reduced_coefficients` meets its contract: the columns that it adds are D·d and the numerators for the conditions' sums of d.
-use mathlib.Core.Path.{_≡_, refl, sym, ap, _∙_, subst}
+use mathlib.Core.Path.{_≡_, refl, sym, _∙_, subst}
 use native.Mathlib.Omega.{arith}
 use borrow.Author.Needs.{needs}
-use Prim.Native.Nat.{ℕ, _^_, _<_}
+use Prim.Native.Nat.{_^_, _<_}
 use lib.Dec.{lit≤}
 use lib.IntN.{ℤ, pos, natAbs}
 use mir.Syntax.{w64}
 use mir.Val.{toZ}
 use mir.Facts.{toZ-pos}
-use Rattle.whole.specs.Sums.{vector}
 use Rattle.figures.specs.Figure.{denominator}
 use Rattle.work.specs.Column.{Below}
 use Rattle.work.proofs.ColumnLaws.{column-ext}

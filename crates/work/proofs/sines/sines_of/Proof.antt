@@ -15,8 +15,8 @@ use Rattle.figures.specs.Numerators.{reducedCoefficient, mostAngles}
 use Rattle.figures.proofs.Figures.{angle-bound}
 use Rattle.work.specs.declared.sines.Sines.{Sines}
 use Rattle.work.specs.Column.{column, Below}
-use Rattle.work.specs.Pass.{given}
-use Rattle.work.specs.SecondPass.{sineSign, signedDifference, secondReduced, sineMisclosure, sumOfSquares, differenceSquares}
+use Rattle.method.specs.Pass.{given}
+use Rattle.method.specs.SecondPass.{sineSign, signedDifference, secondReduced, sineMisclosure, sumOfSquares, differenceSquares}
 use Rattle.work.proofs.SineLaws.{below-as, sign-column, difference-column, reduced-column, dot-columns, signs-below, log-sines-below, differences-below, signed-below, reduced-below}
 use Rattle.work.proofs.sines.sines_of.Statement.{statement}
 use Rattle.work.proofs.sines.sines_of.Tie as tie

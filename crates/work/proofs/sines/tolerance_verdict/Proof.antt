@@ -9,8 +9,8 @@ use mir.Facts.{toZ-ofZ}
 use Rattle.refusals.specs.declared.Refusal.{Refusal}
 use Rattle.refusals.specs.Order.{failsIf}
 use Rattle.refusals.specs.Ranges.{mostTolerance}
-use Rattle.work.specs.SecondPass.{toleranceOf, exceeds}
-use Rattle.work.proofs.EntryLaws.{in-force-within}
+use Rattle.method.specs.SecondPass.{toleranceOf, exceeds}
+use Rattle.method.proofs.EntryLaws.{in-force-within}
 use Rattle.work.proofs.ToleranceLaws.{exceeds-is}
 use borrow.Author.Needs.{needs}
 use lib.Dec.{lit≤}

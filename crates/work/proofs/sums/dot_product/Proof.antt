@@ -1,10 +1,10 @@
 -- `work::sums::dot_product` meets its contract. The invariant: the total is the sum of the products passed, each below 2⁵⁸.
-use mathlib.Core.Path.{_≡_, refl, sym, ap, ap₂, _∙_}
-use Prim.Native.Nat.{ℕ, _+_, _*_, _-_, _^_, _≤_}
+use mathlib.Core.Path.{_≡_, refl, ap, ap₂, _∙_}
+use Prim.Native.Nat.{ℕ, _*_, _-_, _^_, _≤_}
 use native.Mathlib.Omega.{arith}
-use lib.IntN.{ℤ, natAbs, _+ℤ_, _*ℤ_}
+use lib.IntN.{natAbs, _+ℤ_, _*ℤ_}
 use mir.Syntax.{w64}
-use mir.Val.{SFits, toZ, ofZ}
+use mir.Val.{toZ, ofZ}
 use mir.Facts.{toZ-ofZ}
 use Rattle.whole.specs.Sums.{sum, dot, vector}
 use Rattle.work.proofs.ProductLaws.{More, more}

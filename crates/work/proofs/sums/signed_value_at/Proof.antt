@@ -1,9 +1,8 @@
 -- `work::sums::signed_value_at` meets its contract: a 32-bit value fits 64 bits, and past the end the definition reads 0.
-use mathlib.Core.Path.{sym, ap}
-use native.Mathlib.Omega.{arith}
+use mathlib.Core.Path.{sym}
 use borrow.Author.Needs.{needs}
 use lib.ListN.{getD, List·getD-eq-default}
-use lib.IntN.{ℤ, pos}
+use lib.IntN.{pos}
 use mir.Syntax.{w32, w64}
 use mir.Val.{SFits}
 use mir.Facts.{toZ-ofZ, sfits-widen}

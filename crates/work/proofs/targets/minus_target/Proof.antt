@@ -1,17 +1,16 @@
 -- `work::targets::minus_target` meets its contract, by the target.
-use mathlib.Core.Path.{_≡_, refl, sym, ap, _∙_}
+use mathlib.Core.Path.{_≡_, sym, ap, _∙_}
 use Prim.Native.Nat.{ℕ, _<_, _^_}
 use borrow.Author.Needs.{needs}
-use lib.IntN.{ℤ, pos, negℤ, natAbs, _-ℤ_, +ℤ-idl}
+use lib.IntN.{ℤ, pos, negℤ, _-ℤ_, +ℤ-idl}
 use lib.Signed.{mag}
 use mir.Syntax.{w64}
 use mir.Val.{SFits, toZ, ofZ}
 use mir.Facts.{toZ-ofZ}
 use denote.Ref.{now}
 use Rattle.whole.proofs.Magnitudes.{natAbs-neg, magnitude-fits}
-use Rattle.refusals.specs.Order.{numbered}
 use Rattle.figures.specs.declared.Target.{Target}
-use Rattle.work.specs.FirstPass.{shouldBe}
+use Rattle.method.specs.FirstPass.{shouldBe}
 use Rattle.work.proofs.targets.minus_target.Statement.{statement}
 use Rattle.work.proofs.targets.minus_target.Tie as tie
 

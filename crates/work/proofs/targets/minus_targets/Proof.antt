@@ -1,11 +1,11 @@
 -- `work::targets::minus_targets` meets its contract. The invariant: the targets passed are filled in, their signs turned.
-use mathlib.Core.Path.{_≡_, refl, sym, ap, _∙_}
+use mathlib.Core.Path.{refl, ap, _∙_}
 use mathlib.Core.List.{List}
-use Prim.Native.Nat.{ℕ, suc, _-_}
+use Prim.Native.Nat.{_-_}
 use native.Mathlib.Omega.{arith}
 use borrow.Author.Needs.{needs}
 use lib.ListN.{length, getD}
-use lib.IntN.{ℤ, negℤ}
+use lib.IntN.{negℤ}
 use mir.Facts.{toZ-ofZ}
 use denote.Ref.{now}
 use Rattle.whole.proofs.Lists.{Filled, filled-none, filled-more, filled-all}
@@ -13,7 +13,7 @@ use Rattle.figures.specs.declared.Target.{Target}
 use Rattle.figures.specs.declared.Target.the-variants.{NoCondition}
 use Rattle.figures.specs.Numerators.{mostAngles}
 use Rattle.work.specs.Column.{column}
-use Rattle.work.specs.FirstPass.{shouldBe}
+use Rattle.method.specs.FirstPass.{shouldBe}
 use Rattle.work.proofs.ColumnLaws.{column-ext}
 use Rattle.work.proofs.TargetLaws.{target-count, target-row}
 use Rattle.work.proofs.targets.minus_targets.Statement.{statement}

@@ -8,7 +8,7 @@ use lib.IntN.{ℤ, pos}
 use mir.Facts.{toZ-ofZ}
 use denote.Ref.{now}
 use Rattle.refusals.specs.Order.{numbered}
-use Rattle.work.specs.Pass.{given}
+use Rattle.method.specs.Pass.{given}
 use Rattle.work.proofs.targets.numbered_value.Statement.{statement}
 use Rattle.work.proofs.targets.numbered_value.Tie as tie
 

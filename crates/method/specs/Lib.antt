@@ -1,0 +1,4 @@
+pub mod FirstPass
+pub mod FirstSteps
+pub mod Pass
+pub mod SecondPass

@@ -1,0 +1,5 @@
+// The reader of packed sheets: document 01, "Packed sheets". What a sheet holds and when it is turned back are definitions of `sheets`.
+mod columns;
+mod read;
+
+pub use read::read_sheet;

@@ -1,0 +1,114 @@
+-- `worked::values_of` meets its contract: the reader keeps its promise on the parts that are lent to it.
+use mathlib.Core.Path.{_≡_, refl, sym, ap, _∙_, subst}
+use mathlib.Core.List.{List, _++_}
+use Prim.Native.Nat.{ℕ, _+_, _≤_}
+use native.Mathlib.Omega.{arith}
+use borrow.Author.Needs.{needs}
+use lib.Dec.{lit≤}
+use lib.IntN.{ℤ, pos}
+use lib.ListN.{length, take, drop, replicate, length-append, take-append-drop}
+use denote.Ref.{now}
+use lib.Seq.{length-take-le, take-at}
+use Rattle.figures.specs.declared.Figure.{Figure}
+use Rattle.figures.specs.Figure.{angleCount}
+use Rattle.layout.specs.declared.Lengths.{Lengths}
+use Rattle.layout.specs.declared.Kind.{Kind}
+use Rattle.layout.specs.Layout.{lengthsFrom, fixedIn, sineEntriesIn}
+use Rattle.sheets.specs.declared.Reading.{Reading}
+use Rattle.sheets.specs.declared.Reading.the-variants.{Read}
+use Rattle.sheets.specs.Judging.{readingOf, afterReading}
+use Rattle.sheets.specs.Sheet.{valuesRead}
+use Rattle.worked.specs.Worked.{ReadInto}
+use Rattle.worked.proofs.SheetBounds.{angles-few, fixed-few, log-sines-few}
+use Rattle.worked.proofs.values_of.Statement.{statement}
+use Rattle.worked.proofs.values_of.Tie as tie
+
+module _ (c : tie.After-lengths-of) where
+  abbrev lengths : Lengths
+  lengths = c .lengths-of .result
+
+  few-angles : lengths .angles ≤ 24
+  few-angles = subst (λ (l : Lengths). l .angles ≤ 24) (sym (c .lengths-of .ensures)) (angles-few (c .before .before .args .kind) (c .before .before .args .figure))
+
+  few-fixed : lengths .fixed ≤ 3
+  few-fixed = subst (λ (l : Lengths). l .fixed ≤ 3) (sym (c .lengths-of .ensures)) (fixed-few (c .before .before .args .kind) (c .before .before .args .figure))
+
+  few-log-sines : lengths .«log_sines» ≤ 24
+  few-log-sines = subst (λ (l : Lengths). l .«log_sines» ≤ 24) (sym (c .lengths-of .ensures)) (log-sines-few (c .before .before .args .kind) (c .before .before .args .figure))
+
+slice-aggregate-read-sheet : tie.Need-slice-aggregate-read-sheet
+slice-aggregate-read-sheet c = sym (length-take-le _ _ (few-angles (c .before)))
+
+slice-aggregate-read-sheet-2 : tie.Need-slice-aggregate-read-sheet-2
+slice-aggregate-read-sheet-2 c = sym (length-take-le _ _ (few-fixed (c .before .before)))
+
+slice-aggregate-read-sheet-3 : tie.Need-slice-aggregate-read-sheet-3
+slice-aggregate-read-sheet-3 c = sym (length-take-le _ _ (few-log-sines (c .before .before .before)))
+
+slice-aggregate-read-sheet-4 : tie.Need-slice-aggregate-read-sheet-4
+slice-aggregate-read-sheet-4 c = sym (length-take-le _ _ (few-log-sines (c .before .before .before .before)))
+
+-- what the reader left in a part is what stands at the start of the whole
+at-start : {A : Type 0} (reading : Reading) (values : Kind → Figure → List A) (n : ℕ) (part old rest : List A) {m : ℕ} → m ≡ n → length part ≡ m
+    → part ≡ afterReading reading values old → take n (part ++ rest) ≡ afterReading reading values (take n (part ++ rest))
+at-start (Read k g e) values n part old rest h size read = take-at part rest n (size ∙ h) ∙ read
+at-start (Reading.Refused r) values n part old rest h size read = refl
+
+-- a part put back at the start of the whole leaves its length
+put-back : {A : Type 0} (n : ℕ) (part whole : List A) → length part ≡ length (take n whole) → length (part ++ drop n whole) ≡ length whole
+put-back n part whole size =
+    length-append part (drop n whole) ∙ ap (λ (m : ℕ). m + length (drop n whole)) size ∙ sym (length-append (take n whole) (drop n whole)) ∙ ap length (take-append-drop n whole)
+
+returns : tie.Need-returns
+returns c =
+    let call = c .before .before .before .before in
+    let called = call .before .before .before .before .before in
+    let start = called .before .before in
+    let same = called .lengths-of .ensures in
+    let done = call .read-sheet .ensures in
+    let size = call .read-sheet .kept in
+    let sheet = now (start .args .sheet) in
+    let kind = start .args .kind in
+    let f = start .args .figure in
+    let reading = call .read-sheet .result in
+    let last = call .read-sheet .last in
+    let n = ap (λ (l : Lengths). l .angles) same in
+    let k = ap (λ (l : Lengths). l .fixed) same in
+    let m = ap (λ (l : Lengths). l .«log_sines») same in
+    let angles = length-take-le {A = ℕ} (lengths called .angles) (replicate 24 0) (few-angles called) in
+    let fixed = length-take-le {A = ℕ} (lengths called .fixed) (replicate 3 0) (few-fixed called) in
+    let log-sines = length-take-le {A = ℕ} (lengths called .«log_sines») (replicate 24 0) (few-log-sines called) in
+    let differences = length-take-le {A = ℤ} (lengths called .«log_sines») (replicate 24 (pos 0)) (few-log-sines called) in
+    record {
+      full = record {
+        angles-full = put-back (lengths called .angles) (last .1 .0) (replicate 24 0) (size .1 .0);
+        fixed-full = put-back (lengths called .fixed) (last .1 .1 .0) (replicate 3 0) (size .1 .1 .0);
+        log-sines-full = put-back (lengths called .«log_sines») (last .1 .1 .1 .0) (replicate 24 0) (size .1 .1 .1 .0);
+        differences-full = put-back (lengths called .«log_sines») (last .1 .1 .1 .1 .0) (replicate 24 (pos 0)) (size .1 .1 .1 .1 .0);
+      };
+      reading-is = done .0 ∙ λ i. readingOf sheet (lengthsFrom ((angles ∙ n) i) ((fixed ∙ k) i) ((log-sines ∙ m) i) ((differences ∙ m) i));
+      angles-are =
+          at-start reading (λ κ g. valuesRead κ g sheet .angles) (angleCount f) (last .1 .0) (take (lengths called .angles) (replicate 24 0)) _ n (size .1 .0 ∙ angles) (done .1 .0);
+      fixed-are =
+          at-start reading (λ κ g. valuesRead κ g sheet .fixed) (fixedIn kind f) (last .1 .1 .0) (take (lengths called .fixed) (replicate 3 0)) _ k (size .1 .1 .0 ∙ fixed) (done .1 .1 .0);
+      log-sines-are =
+          at-start reading (λ κ g. valuesRead κ g sheet .logSines) (sineEntriesIn kind f) (last .1 .1 .1 .0) (take (lengths called .«log_sines») (replicate 24 0)) _ m (size .1 .1 .1 .0 ∙ log-sines) (done .1 .1 .1 .0);
+      differences-are =
+          at-start reading (λ κ g. valuesRead κ g sheet .differences) (sineEntriesIn kind f) (last .1 .1 .1 .1 .0) (take (lengths called .«log_sines») (replicate 24 (pos 0))) _ m (size .1 .1 .1 .1 .0 ∙ differences) (done .1 .1 .1 .1);
+    }
+
+pub values-of-spec : {M : Type 1} → statement M
+values-of-spec =
+    tie.close
+    (tie.spec
+    (λ c κs. search needs)
+    (λ c. few-angles c)
+    slice-aggregate-read-sheet
+    (λ c. few-fixed (c .before))
+    slice-aggregate-read-sheet-2
+    (λ c. few-log-sines (c .before .before))
+    slice-aggregate-read-sheet-3
+    (λ c. few-log-sines (c .before .before .before))
+    slice-aggregate-read-sheet-4
+    (λ c κs. search needs)
+    returns)

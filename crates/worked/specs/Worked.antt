@@ -1,0 +1,140 @@
+-- A sheet worked through.
+use Prim.Native.Nat.{ℕ}
+use mathlib.Core.Path.{_≡_}
+use mathlib.Core.List.{List}
+use lib.IntN.{ℤ, pos}
+use lib.ListN.{length, take, replicate}
+use Rattle.refusals.specs.declared.Refusal.{Refusal}
+use Rattle.refusals.specs.declared.Verdict.{Verdict}
+use Rattle.refusals.specs.declared.Verdict.the-variants.{Passed, Failed}
+use Rattle.refusals.specs.Order.{answerOf}
+use Rattle.figures.specs.Numerators.{mostAngles}
+use Rattle.figures.specs.declared.Figure.{Figure}
+use Rattle.figures.specs.Figure.{angleCount}
+use Rattle.layout.specs.declared.Kind.{Kind}
+use Rattle.layout.specs.declared.Kind.the-variants.{FirstPass, SecondPass}
+use Rattle.layout.specs.declared.Look.{Look}
+use Rattle.layout.specs.declared.Look.the-variants.{Head}
+use Rattle.layout.specs.Head.{lookOf}
+use Rattle.layout.specs.Layout.{lengthsOf, fixedIn, sineEntriesIn}
+use Rattle.sheets.specs.declared.Reading.{Reading}
+use Rattle.sheets.specs.declared.Reading.the-variants.{Read}
+use Rattle.sheets.specs.Judging.{readingOf, afterReading}
+use Rattle.sheets.specs.Sheet.{valuesRead}
+use Rattle.work.specs.declared.first.FirstWork.{FirstWork}
+use Rattle.work.specs.declared.second.SecondWork.{SecondWork}
+use Rattle.worked.specs.declared.Outcome.{Outcome}
+use Rattle.worked.specs.declared.Outcome.the-variants.{First, Second}
+use Rattle.worked.specs.declared.SheetValues.{SheetValues}
+use Rattle.worked.specs.declared.WorkedSheet.{WorkedSheet}
+use Rattle.work.specs.Column.{column}
+use Rattle.method.specs.FirstPass.{firstLengths, firstTests}
+use Rattle.method.specs.Pass.{given}
+use Rattle.method.specs.SecondPass.{secondLengths, secondTests}
+use Rattle.work.specs.SecondWork.{secondWorkOf}
+use Rattle.work.specs.FirstWork.{firstWorkOf}
+
+-- no figure has more fixed angles
+abbrev pub mostFixed : ℕ
+mostFixed = 3
+
+-- the arrays have their whole length
+pub record FullArrays (r : SheetValues) : Type 0 where
+  pub angles-full : length (r .angles) ≡ mostAngles
+  pub fixed-full : length (r .fixed) ≡ mostFixed
+  pub log-sines-full : length (r .«log_sines») ≡ mostAngles
+  pub differences-full : length (r .differences) ≡ mostAngles
+
+-- the reader's answer, and its values at the start of each array
+pub record ReadInto (sheet : List ℕ) (kind : Kind) (f : Figure) (r : SheetValues) : Type 0 where
+  pub full : FullArrays r
+  pub reading-is : r .reading ≡ readingOf sheet (lengthsOf kind f)
+  pub angles-are : take (angleCount f) (r .angles) ≡ afterReading (r .reading) (λ k g. valuesRead k g sheet .angles) (take (angleCount f) (r .angles))
+  pub fixed-are : take (fixedIn kind f) (r .fixed) ≡ afterReading (r .reading) (λ k g. valuesRead k g sheet .fixed) (take (fixedIn kind f) (r .fixed))
+  pub log-sines-are : take (sineEntriesIn kind f) (r .«log_sines») ≡ afterReading (r .reading) (λ k g. valuesRead k g sheet .logSines) (take (sineEntriesIn kind f) (r .«log_sines»))
+  pub differences-are :
+      take (sineEntriesIn kind f) (r .differences) ≡ afterReading (r .reading) (λ k g. valuesRead k g sheet .differences) (take (sineEntriesIn kind f) (r .differences))
+
+-- ---- what is shown of a sheet
+
+abbrev pub nothing : List ℤ
+nothing = replicate mostAngles (pos 0)
+
+abbrev pub refusedSheet : Refusal → WorkedSheet
+refusedSheet r = record {
+  outcome = Outcome.Refused r;
+  given = nothing;
+  misclosures = nothing;
+  reduced = nothing;
+  numerators = nothing;
+  rounded = nothing;
+  results = nothing;
+  rests = nothing;
+}
+
+abbrev pub firstShown : Figure → (given : List ℤ) → FirstWork → WorkedSheet
+firstShown f given work = record {
+  outcome = First f;
+  given = given;
+  misclosures = work .misclosures;
+  reduced = nothing;
+  numerators = work .numerators;
+  rounded = work .rounded;
+  results = work .corrected;
+  rests = work .rests;
+}
+
+-- kind 1: the first pass of the figure, with slices of the right lengths lent
+abbrev pub shownIf : Verdict → WorkedSheet → WorkedSheet
+shownIf Passed shown = shown
+shownIf (Failed r) shown = refusedSheet r
+
+unfoldable pub firstSheet : Figure → (limit : ℕ) → (angles fixed : List ℕ) → WorkedSheet
+firstSheet f limit angles fixed =
+    shownIf (answerOf (firstTests f limit angles fixed (firstLengths f))) (firstShown f (column (given angles)) (firstWorkOf f angles fixed))
+
+-- kind 2: the second pass of the figure, with slices of the right lengths lent
+abbrev pub secondShown : Figure → (given : List ℤ) → SecondWork → WorkedSheet
+secondShown f given work = record {
+  outcome = Second f (work .misclosure) (work .squares);
+  given = given;
+  misclosures = nothing;
+  reduced = work .reduced;
+  numerators = work .numerators;
+  rounded = work .rounded;
+  results = work .adjusted;
+  rests = work .rests;
+}
+
+unfoldable pub secondSheet : Figure → (tolerance : ℕ) → (angles logSines : List ℕ) → (differences : List ℤ) → WorkedSheet
+secondSheet f tolerance angles logSines differences =
+    shownIf (answerOf (secondTests f tolerance angles logSines differences (secondLengths f)))
+    (secondShown f (column (given angles)) (secondWorkOf f angles logSines differences))
+
+-- ---- from what the reader answered
+
+abbrev pub workedKind : Kind → Figure → (limitOrTolerance : ℕ) → (angles fixed logSines : List ℕ) → (differences : List ℤ) → WorkedSheet
+workedKind FirstPass f limit angles fixed logSines differences = firstSheet f limit angles fixed
+workedKind SecondPass f tolerance angles fixed logSines differences = secondSheet f tolerance angles logSines differences
+
+abbrev pub workedReading : Reading → (angles fixed logSines : List ℕ) → (differences : List ℤ) → WorkedSheet
+workedReading (Reading.Refused r) angles fixed logSines differences = refusedSheet r
+workedReading (Read kind f limitOrTolerance) angles fixed logSines differences = workedKind kind f limitOrTolerance angles fixed logSines differences
+
+abbrev pub workedFrom : Kind → Figure → SheetValues → WorkedSheet
+workedFrom kind f v =
+    workedReading (v .reading) (take (angleCount f) (v .angles)) (take (fixedIn kind f) (v .fixed)) (take (sineEntriesIn kind f) (v .«log_sines»)) (take (sineEntriesIn kind f) (v .differences))
+
+-- the values that the reader gives, where it gives them
+abbrev pub workedRead : Reading → List ℕ → WorkedSheet
+workedRead (Reading.Refused r) sheet = refusedSheet r
+workedRead (Read kind f limitOrTolerance) sheet =
+    workedKind kind f limitOrTolerance (valuesRead kind f sheet .angles) (valuesRead kind f sheet .fixed) (valuesRead kind f sheet .logSines) (valuesRead kind f sheet .differences)
+
+abbrev pub workedLook : Look → List ℕ → WorkedSheet
+workedLook (Look.Refused r) sheet = refusedSheet r
+workedLook (Head kind f) sheet = workedRead (readingOf sheet (lengthsOf kind f)) sheet
+
+-- a sheet worked through, from any bytes
+unfoldable pub workedOf : List ℕ → WorkedSheet
+workedOf sheet = workedLook (lookOf sheet) sheet

@@ -1,0 +1,3 @@
+-- The laws that the proofs of the writer use: `Packing` on fields that are written one after the other, `PartLaws` on the parts of a layout.
+mod Packing
+mod PartLaws

@@ -1,24 +1,26 @@
 // The cases of packed bytes. The slices lent to the reader are those of kind 1 and code 1.
 use reading::read_sheet;
+use report::Reported;
+use report::report;
 use sheets::Reading;
-use worked::Outcome;
-use worked::worked_sheet;
+
+// How long "refused 12 0" is with its line feed; number 12 has no place.
+const REFUSED_12_LENGTH: usize = 13;
 
 pub fn no_bytes_give_12() -> bool {
-    gives(b"", 12)
+    gives_12(b"")
 }
 
 // The first printed sheet of document 01, and a byte of 0 after it.
 pub fn one_byte_more_gives_12() -> bool {
-    gives(
+    gives_12(
         b"\x11\x00\x00\xc5\xc1\x21\x8b\x82\x03\x17\x04\x06\x2e\x08\x0c\x5c\x10\x18\xb8\x20\x31\x70\x40\x62\xe0\x80\x00",
-        12,
     )
 }
 
-// Read, and worked through.
-fn gives(sheet: &[u8], number: u32) -> bool {
-    number_read(sheet) == number && number_worked(sheet) == number
+// By the reader, and as printed, place included.
+fn gives_12(sheet: &[u8]) -> bool {
+    number_read(sheet) == 12 && prints(sheet, b"refused 12 0\n")
 }
 
 // The reader's refusal, or 0.
@@ -44,13 +46,11 @@ fn number_read(sheet: &[u8]) -> u32 {
     }
 }
 
-// The refusal of a sheet worked through, or 0.
-fn number_worked(sheet: &[u8]) -> u32 {
-    let worked = worked_sheet(sheet);
-    let outcome = worked.outcome;
-    match outcome {
-        Outcome::Refused(refusal) => refusals::number_of(refusal),
-        Outcome::First(_) => 0,
-        Outcome::Second(_, _, _) => 0,
+// Whether a sheet's text is exactly these bytes, as many as a refusal with number 12 has.
+fn prints(sheet: &[u8], expected: &[u8]) -> bool {
+    let mut text = [0; REFUSED_12_LENGTH];
+    match report(sheet, &mut text) {
+        Reported::Written(_) => check::same(&text, expected),
+        Reported::NoRoom => false,
     }
 }

@@ -24,8 +24,8 @@ use Rattle.figures.proofs.Figures.{angle-bound}
 use Rattle.layout.specs.declared.Kind.{Kind}
 use Rattle.layout.specs.declared.Kind.the-variants.{FirstPass, SecondPass}
 use Rattle.layout.specs.declared.Lengths.{Lengths}
-use Rattle.layout.specs.Head.{kindOrOther, figureOrOther, headTests, nameTests}
-use Rattle.layout.specs.Layout.{kindOf, lengthsOf, sheetSize}
+use Rattle.layout.specs.Layout.{lengthsOf, sheetSize}
+use Rattle.heads.specs.Head.{kindOf, kindOrOther, figureOrOther, headTests, nameTests}
 use Rattle.sheets.specs.Sheet.{Values}
 use Rattle.sheets.specs.Judging.{readerTests, valueTests, givenTests, writerTests, writingOf, lengthsGiven, sameLengths}
 use Rattle.sheets.proofs.Accepted.{equal-lengths}

@@ -16,13 +16,13 @@ use Rattle.figures.specs.declared.Figure.{Figure}
 use Rattle.figures.specs.declared.Figure.the-variants.{Quadrilateral, PointInTriangle, CentralTriangle, CentralQuadrilateral, CentralPentagon, CentralHexagon, CentralHeptagon, CentralOctagon}
 use Rattle.layout.specs.declared.Kind.{Kind}
 use Rattle.layout.specs.declared.Lengths.{Lengths}
-use Rattle.layout.specs.declared.Look.{Look}
-use Rattle.layout.specs.declared.Look.the-variants.{Head}
+use Rattle.heads.specs.declared.Look.{Look}
+use Rattle.heads.specs.declared.Look.the-variants.{Head}
 use Rattle.sheets.specs.declared.Reading.{Reading}
 use Rattle.sheets.specs.declared.Reading.the-variants.{Read}
 use Rattle.sheets.specs.Sheet.{Values, valuesRead}
 use Rattle.layout.specs.Layout.{lengthsOf, lengthsFrom}
-use Rattle.layout.specs.Head.{kindIn, figureIn, headTests, lookAfter, lookOf}
+use Rattle.heads.specs.Head.{kindIn, figureIn, headTests, lookAfter, lookOf}
 use Rattle.sheets.specs.Judging.{readerTests, sameLengths, readingAfter, readingOf, afterReading}
 use Rattle.sheets.proofs.Accepted.{after-passes, after-fails}
 use Rattle.controller.specs.Answer.{placeStep, numberAndPlace, answerNumber, afterAnswer}

@@ -11,7 +11,7 @@ use Rattle.layout.specs.declared.Kind.{Kind}
 use Rattle.layout.specs.declared.Lengths.{Lengths}
 use Rattle.sheets.specs.Sheet.{Values, valuesRead}
 use Rattle.layout.specs.Layout.{numberOfKind, lengthsFrom, lengthsOf}
-use Rattle.layout.specs.Head.{kindIn, figureIn, headTests}
+use Rattle.heads.specs.Head.{kindIn, figureIn, headTests}
 use Rattle.sheets.specs.Judging.{readerTests}
 use Rattle.controller.specs.Answer.{answerNumber}
 

@@ -10,8 +10,6 @@ use Rattle.figures.specs.Rows.{eachOf}
 use Rattle.bits.specs.Bits.{fieldAt, totalWidth, byteCount}
 use Rattle.layout.specs.declared.Kind.{Kind}
 use Rattle.layout.specs.declared.Kind.the-variants.{FirstPass, SecondPass}
-use Rattle.layout.specs.declared.NamedKind.{NamedKind}
-use Rattle.layout.specs.declared.NamedKind.the-variants.{Is, NoKind}
 use Rattle.layout.specs.declared.Lengths.{Lengths}
 
 -- ---- kinds
@@ -19,10 +17,6 @@ use Rattle.layout.specs.declared.Lengths.{Lengths}
 abbrev pub numberOfKind : Kind → ℕ
 numberOfKind FirstPass = 1
 numberOfKind SecondPass = 2
-
--- the kind that a number names
-abbrev pub kindOf : ℕ → NamedKind
-kindOf number = cond (eqb number 1) (Is FirstPass) (cond (eqb number 2) (Is SecondPass) NoKind)
 
 -- ---- what stands in a sheet, and in which width
 

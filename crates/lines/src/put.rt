@@ -36,14 +36,14 @@ pub fn put_word(buffer: &mut [u8], at: usize, word: &[u8]) -> usize
 pub fn put_part(buffer: &mut [u8], at: usize, value: i64, end: u8) -> usize
     ensures { λ r. ⌜ Lays (decimal value ++ (end ∷ [])) (now (buffer .entry)) at (now (buffer .exit)) r ⌝ }
 {
-    let after = text::put_number(buffer, at, value);
+    let after = numerals::put_number(buffer, at, value);
     text::put_byte(buffer, after, end)
 }
 
 pub fn put_natural(buffer: &mut [u8], at: usize, value: u64, end: u8) -> usize
     ensures { λ r. ⌜ Lays (decimal (pos value) ++ (end ∷ [])) (now (buffer .entry)) at (now (buffer .exit)) r ⌝ }
 {
-    let after = text::put_natural(buffer, at, value);
+    let after = numerals::put_natural(buffer, at, value);
     text::put_byte(buffer, after, end)
 }
 

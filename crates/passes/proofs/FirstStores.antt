@@ -18,13 +18,13 @@ use Rattle.figures.specs.Numerators.{mostAngles}
 use Rattle.figures.proofs.Figures.{angle-bound, condition-bound}
 use Rattle.work.specs.declared.first.FirstJudged.{FirstJudged}
 use Rattle.work.specs.declared.first.FirstWork.{FirstWork}
-use Rattle.work.specs.Column.{column}
+use Rattle.columns.specs.Column.{column}
 use Rattle.method.specs.FirstPass.{misclosure, firstNumerator, firstRounded, corrected, firstRest, misclosuresOf, numeratorsOf, roundedOf, correctedOf, restsOf, firstLengths, firstTests}
 use Rattle.work.specs.FirstWork.{StoresFit, firstWorkOf, firstJudgedOf}
 use Rattle.method.specs.Pass.{stored}
 use Rattle.work.proofs.FirstAccepted.{StepsPass, judged-verdict, steps-pass, lengths-fit, limit-within, stores-fit}
 use Rattle.method.proofs.Verdicts.{kept}
-use Rattle.work.proofs.ColumnLaws.{stored-column}
+use Rattle.columns.proofs.ColumnLaws.{stored-column}
 
 module _ (f : Figure) (limit : ℕ) (angles fixed : List ℕ) (misclosures numerators rounded : List ℤ) (results : List ℕ) (rests : List ℤ) where
   abbrev lent : List ℕ

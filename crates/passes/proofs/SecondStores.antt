@@ -24,8 +24,7 @@ use Rattle.work.specs.declared.second.SecondWork.{SecondWork}
 use Rattle.method.specs.Pass.{ofNamed}
 use Rattle.method.specs.SecondPass.{secondReduced, sineMisclosure, sumOfSquares, secondNumerator, secondRounded, secondAdjusted, secondRest, secondLengths, secondPassVerdict, secondAnswerOf, secondPassAnswer, forAngles, forConditions}
 use Rattle.work.specs.SecondWork.{secondWorkOf, refusedWork, figureWork, sheetWork, Storable}
-use Rattle.work.proofs.ColumnLaws.{column-at}
-use Rattle.work.proofs.ColumnLaws.{stored-column}
+use Rattle.columns.proofs.ColumnLaws.{column-at, stored-column}
 use Rattle.method.proofs.SecondAccepted.{AcceptedSheet, sheet-accepted, result-within, result-most, rounded-most, rest-most}
 use Rattle.work.proofs.SecondJudged.{accepted-work, sheet-verdict}
 

@@ -7,7 +7,6 @@ ghost use lib.Signed.{_≤ℤ_};
 ghost use Rattle.whole.specs.Lists.{listed};
 ghost use Rattle.whole.specs.Sums.{vector};
 ghost use Rattle.figures.specs.Numerators.{mostAngles};
-ghost use Rattle.work.specs.Column.{Below};
 use method::Column;
 
 pub fn store_wide(x: Column, lent: &mut [i64])

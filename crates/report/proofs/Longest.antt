@@ -22,21 +22,21 @@ use Rattle.figures.specs.Numerators.{mostAngles}
 use Rattle.figures.proofs.Figures.{angle-bound, condition-bound}
 use Rattle.layout.specs.declared.Kind.{Kind}
 use Rattle.layout.specs.declared.Kind.the-variants.{FirstPass, SecondPass}
-use Rattle.layout.specs.declared.Look.the-variants.{Head}
+use Rattle.heads.specs.declared.Look.the-variants.{Head}
 use Rattle.layout.specs.Layout.{lengthsOf}
-use Rattle.layout.specs.Head.{kindIn, figureIn, headTests, lookAfter, lookOf}
+use Rattle.heads.specs.Head.{kindIn, figureIn, headTests, lookAfter, lookOf}
 use Rattle.sheets.specs.declared.Reading.the-variants.{Read}
 use Rattle.sheets.specs.Sheet.{valuesRead}
 use Rattle.sheets.specs.Judging.{readerTests, readingAfter, readingOf}
 use Rattle.worked.specs.declared.WorkedSheet.{WorkedSheet}
-use Rattle.work.specs.Column.{column}
+use Rattle.columns.specs.Column.{column}
 use Rattle.method.specs.Pass.{given}
 use Rattle.method.specs.FirstPass.{firstLengths, firstTests}
 use Rattle.method.specs.SecondPass.{sineMisclosure, sumOfSquares, differenceSquares, secondReduced, secondNumerator, secondRounded, secondAdjusted, secondRest, secondLengths, secondTests}
 use Rattle.work.specs.SecondWork.{mostDenominator, SineEntries, secondWorkOf}
 use Rattle.work.specs.FirstWork.{StoreFits, firstWorkOf}
 use Rattle.worked.specs.Worked.{refusedSheet, shownIf, firstShown, firstSheet, secondShown, secondSheet, workedRead, workedLook, workedOf}
-use Rattle.work.proofs.ColumnLaws.{column-at}
+use Rattle.columns.proofs.ColumnLaws.{column-at}
 use Rattle.work.proofs.SmallEntries.{small-angles, sine-entries}
 use Rattle.work.proofs.FirstAccepted.{steps-pass, limit-within, given-angles, stores-fit}
 use Rattle.work.proofs.ProductLaws.{product-magnitude}

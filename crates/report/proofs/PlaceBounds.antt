@@ -25,8 +25,8 @@ use Rattle.figures.specs.Numerators.{mostAngles}
 use Rattle.figures.proofs.Figures.{angle-bound, condition-bound}
 use Rattle.layout.specs.declared.Kind.{Kind}
 use Rattle.layout.specs.declared.Lengths.{Lengths}
-use Rattle.layout.specs.Layout.{kindOf, fixedIn, sineEntriesIn, lengthsOf, sheetSize}
-use Rattle.layout.specs.Head.{isNoKind, isNoFigure, kindNumberIn, codeIn, nIn, kindIn, figureIn, nameTests, headTests}
+use Rattle.layout.specs.Layout.{fixedIn, sineEntriesIn, lengthsOf, sheetSize}
+use Rattle.heads.specs.Head.{kindOf, isNoKind, isNoFigure, kindNumberIn, codeIn, nIn, kindIn, figureIn, nameTests, headTests}
 use Rattle.sheets.specs.Sheet.{Values, valuesRead, fillingOf}
 use Rattle.sheets.specs.Judging.{mostLimitOrTolerance, sameLengths, valueTests, bodyTests, readerTests}
 use Rattle.method.specs.Pass as Pass

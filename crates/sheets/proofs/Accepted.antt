@@ -21,14 +21,14 @@ use Rattle.figures.specs.declared.Named.{Named}
 use Rattle.figures.specs.declared.Named.the-variants.{As, Nothing}
 use Rattle.figures.specs.Figure.{figureOf}
 use Rattle.layout.specs.declared.Kind.{Kind}
-use Rattle.layout.specs.declared.NamedKind.{NamedKind}
-use Rattle.layout.specs.declared.NamedKind.the-variants.{Is, NoKind}
+use Rattle.heads.specs.declared.NamedKind.{NamedKind}
+use Rattle.heads.specs.declared.NamedKind.the-variants.{Is, NoKind}
 use Rattle.layout.specs.declared.Lengths.{Lengths}
-use Rattle.layout.specs.declared.Look.{Look}
-use Rattle.layout.specs.declared.Look.the-variants.{Head}
-use Rattle.layout.specs.Layout.{kindOf, lengthsFrom, lengthsOf, sheetSize}
-use Rattle.layout.specs.Head.{isNoKind, isNoFigure, kindOrOther, figureOrOther, nameTests, kindNumberIn, codeIn, nIn, kindIn, figureIn, headTests, lookAfter, lookOf, headOf}
-use Rattle.layout.proofs.Naming.{Names, named, long-enough, kind-field, code-field, n-field}
+use Rattle.heads.specs.declared.Look.{Look}
+use Rattle.heads.specs.declared.Look.the-variants.{Head}
+use Rattle.layout.specs.Layout.{lengthsFrom, lengthsOf, sheetSize}
+use Rattle.heads.specs.Head.{kindOf, isNoKind, isNoFigure, kindOrOther, figureOrOther, nameTests, kindNumberIn, codeIn, nIn, kindIn, figureIn, headTests, lookAfter, lookOf, headOf}
+use Rattle.heads.proofs.Naming.{Names, named, long-enough, kind-field, code-field, n-field}
 use Rattle.sheets.specs.declared.Reading.{Reading}
 use Rattle.sheets.specs.declared.Reading.the-variants.{Read}
 use Rattle.sheets.specs.Sheet.{Values, valuesRead, fillingOf, packedSheet}

@@ -26,14 +26,14 @@ use Rattle.figures.specs.Figure.{description, figureOf}
 use Rattle.figures.proofs.Naming.{named-exactly}
 use Rattle.layout.specs.declared.Kind.{Kind}
 use Rattle.layout.specs.declared.Kind.the-variants.{FirstPass, SecondPass}
-use Rattle.layout.specs.declared.NamedKind.{NamedKind}
-use Rattle.layout.specs.declared.NamedKind.the-variants.{Is, NoKind}
+use Rattle.heads.specs.declared.NamedKind.{NamedKind}
+use Rattle.heads.specs.declared.NamedKind.the-variants.{Is, NoKind}
 use Rattle.layout.specs.declared.Lengths.{Lengths}
-use Rattle.layout.specs.declared.Look.{Look}
-use Rattle.layout.specs.declared.Look.the-variants.{Head}
-use Rattle.layout.specs.Layout.{kindOf, lengthsOf, sheetSize}
-use Rattle.layout.specs.Head.{isNoKind, isNoFigure, kindOrOther, figureOrOther, kindNumberIn, codeIn, nIn, kindIn, figureIn, headTests, lookAfter, lookOf}
-use Rattle.layout.proofs.Naming.{kind-exactly}
+use Rattle.heads.specs.declared.Look.{Look}
+use Rattle.heads.specs.declared.Look.the-variants.{Head}
+use Rattle.layout.specs.Layout.{lengthsOf, sheetSize}
+use Rattle.heads.specs.Head.{kindOf, isNoKind, isNoFigure, kindOrOther, figureOrOther, kindNumberIn, codeIn, nIn, kindIn, figureIn, headTests, lookAfter, lookOf}
+use Rattle.heads.proofs.Naming.{kind-exactly}
 use Rattle.sheets.specs.declared.Reading.{Reading}
 use Rattle.sheets.specs.declared.Reading.the-variants.{Read}
 use Rattle.sheets.specs.Sheet.{Values, valuesRead, fillingOf}

@@ -14,7 +14,7 @@ use Rattle.figures.specs.Figure.{figureOf}
 use Rattle.layout.specs.declared.Kind.the-variants.{FirstPass, SecondPass}
 use Rattle.layout.specs.declared.Lengths.{Lengths}
 use Rattle.layout.specs.Layout.{layout, bitCount, sheetSize, same, positionOf, held, lengthsOf}
-use Rattle.layout.specs.Head.{headTests}
+use Rattle.heads.specs.Head.{headTests}
 use Rattle.sheets.specs.declared.Reading.{Reading}
 use Rattle.sheets.specs.declared.Reading.the-variants.{Read}
 use Rattle.sheets.specs.Sheet.{Values, valuesRead, fillingOf, packedSheet, valuesFrom}

@@ -1,5 +1,5 @@
 -- How sheets are turned back: document 01, "Numbers given when a sheet is turned back". The reader's tests and the writer's, each as one list in
--- the paper's order, of which the first that fails is answered. Both lists begin with tests of the head (specs/Head.antt of `layout`).
+-- the paper's order, of which the first that fails is answered. Both lists begin with tests of the head (specs/Head.antt of `heads`).
 use Prim.Native.Nat.{ℕ}
 use mathlib.Core.Bool.{Bool, not, _&&_, _||_}
 use mathlib.Core.List.{List, [], _∷_, _++_}
@@ -17,8 +17,8 @@ use Rattle.figures.specs.Figure.{figureOf}
 use Rattle.layout.specs.declared.Kind.{Kind}
 use Rattle.layout.specs.declared.Kind.the-variants.{FirstPass, SecondPass}
 use Rattle.layout.specs.declared.Lengths.{Lengths}
-use Rattle.layout.specs.Layout.{kindOf, lengthsFrom, lengthsOf, sheetSize}
-use Rattle.layout.specs.Head.{kindOrOther, figureOrOther, nameTests, kindIn, figureIn, headTests}
+use Rattle.layout.specs.Layout.{lengthsFrom, lengthsOf, sheetSize}
+use Rattle.heads.specs.Head.{kindOf, kindOrOther, figureOrOther, nameTests, kindIn, figureIn, headTests}
 use Rattle.sheets.specs.declared.Reading.{Reading}
 use Rattle.sheets.specs.declared.Reading.the-variants.{Read}
 use Rattle.sheets.specs.Sheet.{Values, valuesRead, fillingOf, packedSheet}

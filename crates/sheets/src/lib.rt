@@ -3,13 +3,13 @@
 mod ranges;
 
 use figures::Figure;
+pub use heads::Look;
+pub use heads::NamedKind;
+pub use heads::kind_of;
+pub use heads::look_at;
 pub use layout::Kind;
 pub use layout::Lengths;
-pub use layout::Look;
-pub use layout::NamedKind;
-pub use layout::kind_of;
 pub use layout::lengths_of;
-pub use layout::look_at;
 pub use layout::sheet_size;
 pub use ranges::range_verdict;
 use refusals::Refusal;

@@ -43,10 +43,6 @@ after-same : (size at at′ : ℕ) (t t′ : List ℕ) → at + length t ≡ at�
 unfolding after
 after-same size at at′ t t′ e = ap (λ (k : ℕ). cond (leb k size) k (size + 1)) e
 
--- the position tells whether there was room
-pub room-told : (size at : ℕ) (t : List ℕ) → after size at t ≤ size → at + length t ≤ size
-room-told size at t h = room-or-none (at + length t ≤ size) (at + length t) size (λ room. room) (λ none. let past : size + 1 ≤ size = rw (after-none size at t none) at h in omega arith)
-
 pub length-laid : (buffer : List ℕ) (at : ℕ) (t : List ℕ) → length (laid buffer at t) ≡ length buffer
 length-laid buffer at t =
     room-or-none (length (laid buffer at t) ≡ length buffer) (at + length t) (length buffer)
@@ -85,16 +81,13 @@ module _ {start t buffer : List ℕ} {at : ℕ} (held : Holds start t buffer at)
     bytes = λ room. e ∙ next-bytes room;
   }
 
--- Where all of it has room, it is as if it had been laid at once; and the last position tells whether it had.
+-- Where all of it has room, it is as if it had been laid at once.
 module _ {start t buffer : List ℕ} {at : ℕ} (held : Holds start t buffer at) where
   pub holds-all : length t ≤ length start → buffer ≡ laid start 0 t
   holds-all room = held .bytes room ∙ sym (laid-room start 0 t (omega arith) ∙ ap (λ (k : ℕ). t ++ drop k start) (zero-add (length t)))
 
   pub holds-length : length t ≤ length start → at ≡ length t
   holds-length room = held .position ∙ after-room (length start) 0 t (omega arith) ∙ zero-add (length t)
-
-  pub holds-room : at ≤ length start → length t ≤ length start
-  holds-room h = let told : 0 + length t ≤ length start = room-told (length start) 0 t (rw (held .position) at h) in omega arith
 
   -- what was laid, read off the buffer
   pub holds-taken : length t ≤ length start → take at buffer ≡ t

@@ -2,5 +2,4 @@ mod Examples
 pub mod Laying
 pub mod Lines
 pub mod Numbers
-mod Spelling
 pub mod Tests

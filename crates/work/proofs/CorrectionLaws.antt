@@ -18,12 +18,14 @@ use Rattle.figures.specs.Figure.{denominator, angleCount}
 use Rattle.figures.specs.Numerators.{mostAngles}
 use Rattle.figures.proofs.Figures.{angle-bound}
 use Rattle.work.specs.declared.second.SecondWork.{SecondWork}
-use Rattle.work.specs.Column.{column, Below, Angles}
+use Rattle.columns.specs.Column.{column}
+use Rattle.work.specs.Premises.{Below, Angles}
 use Rattle.method.specs.Pass.{given, resultTest}
 use Rattle.method.specs.SecondPass.{secondReduced, sineMisclosure, sumOfSquares, secondNumerator, secondRounded, secondAdjusted, secondRest}
 use Rattle.work.specs.SecondWork.{mostDenominator, Corrections, sinesOf, secondWorkOf}
 use Rattle.work.proofs.ConditionLaws.{condition-agrees}
-use Rattle.work.proofs.ColumnLaws.{column-at, column-below, column-ext, column-search}
+use Rattle.columns.proofs.ColumnLaws.{column-at, column-ext, column-search}
+use Rattle.work.proofs.ColumnBounds.{column-below}
 use Rattle.work.proofs.ProductLaws.{product-magnitude}
 use Rattle.work.proofs.SineLaws.{denominator-bound}
 

@@ -28,18 +28,18 @@ use Rattle.figures.specs.Numerators.{conditionSum, sumOver, mostAngles}
 use Rattle.figures.specs.declared.Target.{Target}
 use Rattle.figures.proofs.Figures.{angle-bound, condition-bound, none}
 use Rattle.work.specs.declared.first.FirstJudged.{FirstJudged}
-use Rattle.work.specs.Column.{column, Angles}
+use Rattle.columns.specs.Column.{column}
+use Rattle.work.specs.Premises.{Angles}
 use Rattle.method.specs.FirstPass.{limitOf, shouldBe, misclosure, firstNumerator, firstRounded, corrected, firstRest, firstLengths, firstTests, misclosureTest}
 use Rattle.method.specs.Pass.{given, sameLengths, resultTest}
 use Rattle.method.specs.FirstSteps.{givenTests, workTests}
 use Rattle.work.specs.FirstWork.{StoreFits, StoresFit, firstWorkOf, firstWorked, firstJudgedOf, judgedAfter}
 use Rattle.work.proofs.Bounds.{condition-magnitude, numerator-magnitude}
-use Rattle.work.proofs.ColumnLaws.{column-at}
+use Rattle.columns.proofs.ColumnLaws.{column-at, column-search}
 use Rattle.method.proofs.EntryLaws.{between, results-within, angle-most, in-force-within}
 use Rattle.work.proofs.SmallEntries.{small-values}
 use Rattle.method.proofs.LengthLaws.{same-lists}
 use Rattle.work.proofs.MemberLaws.{past-conditions}
-use Rattle.work.proofs.ColumnLaws.{column-search}
 
 -- the tests of the work, over its columns
 pub columns-tested : (f : Figure) (limit : ℕ) (angles fixed : List ℕ)

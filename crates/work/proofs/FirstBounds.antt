@@ -14,7 +14,7 @@ use Rattle.figures.specs.Figure.{targetOf, denominator}
 use Rattle.figures.specs.Numerators.{conditionSum}
 use Rattle.method.specs.FirstPass.{shouldBe, misclosure, firstNumerator, firstRounded}
 use Rattle.method.specs.Pass.{given}
-use Rattle.work.specs.Column.{Angles}
+use Rattle.work.specs.Premises.{Angles}
 use Rattle.work.proofs.Bounds.{condition-magnitude, numerator-magnitude}
 
 -- each bound by powers of 2, loosely

@@ -1,5 +1,5 @@
 pub mod Bounds
-pub mod ColumnLaws
+pub mod ColumnBounds
 pub mod ConditionLaws
 pub mod CorrectionLaws
 pub mod FirstAccepted
@@ -10,5 +10,4 @@ pub mod SecondJudged
 pub mod SineLaws
 pub mod SmallEntries
 pub mod StepLaws
-pub mod TargetLaws
 pub mod ToleranceLaws

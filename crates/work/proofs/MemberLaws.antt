@@ -16,7 +16,7 @@ use Rattle.figures.specs.declared.Figure.{Figure}
 use Rattle.figures.specs.Figure.{Condition, description, conditionCount, membersOf, allFigures}
 use Rattle.figures.specs.Numerators.{sumOver, conditionSum, paddedMembers, mostAngles, mostConditions, mostMembers}
 use Rattle.figures.proofs.Figures.{each-figure, none, condition-bound, member-count}
-use Rattle.work.specs.Column.{MembersOfFigure}
+use Rattle.work.specs.Premises.{MembersOfFigure}
 
 -- ---- the bounds of the tables, by one test over all figures
 

@@ -12,7 +12,7 @@ use Rattle.whole.specs.Sums.{dot, vector}
 use Rattle.whole.proofs.Magnitudes.{natAbs-add, natAbs-mul, magnitude-fits}
 use Rattle.whole.proofs.Sums.{dot-more}
 use Rattle.figures.specs.Numerators.{mostAngles}
-use Rattle.work.specs.Column.{Below}
+use Rattle.work.specs.Premises.{Below}
 
 pub product-magnitude : (a b : ℤ) (m n : ℕ) → natAbs a ≤ m → natAbs b ≤ n → natAbs (a *ℤ b) ≤ m * n
 product-magnitude a b m n h k = rw (natAbs-mul a b) (mul-le-mul h k)

@@ -20,13 +20,15 @@ use Rattle.figures.specs.declared.Figure.{Figure}
 use Rattle.figures.specs.Figure.{description, denominator, allFigures}
 use Rattle.figures.specs.Numerators.{conditionSum, numerator, reducedCoefficient, paddedNumerators, paddedSigns, mostAngles, mostConditions, mostMembers}
 use Rattle.figures.proofs.Figures.{each-figure}
-use Rattle.work.specs.Column.{column, Below}
+use Rattle.columns.specs.Column.{column}
+use Rattle.work.specs.Premises.{Below}
 use Rattle.method.specs.Pass.{given}
 use Rattle.method.specs.SecondPass.{sineSign, signedDifference, secondReduced}
 use Rattle.work.specs.SecondWork.{mostDenominator}
 use Rattle.work.proofs.ConditionLaws.{numerator-agrees, reduced-agrees}
 use Rattle.work.proofs.Bounds.{condition-magnitude, numerator-magnitude}
-use Rattle.work.proofs.ColumnLaws.{column-at, column-below, column-ext}
+use Rattle.columns.proofs.ColumnLaws.{column-at, column-ext}
+use Rattle.work.proofs.ColumnBounds.{column-below}
 use Rattle.work.proofs.ProductLaws.{product-magnitude}
 
 -- what is below a power is below a greater one

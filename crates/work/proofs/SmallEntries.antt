@@ -13,7 +13,7 @@ use Rattle.refusals.specs.Ranges.{leastAngle, mostAngle, leastLogSine, mostLogS
 use Rattle.figures.specs.declared.Figure.{Figure}
 use Rattle.method.proofs.EntryLaws.{Entries, entries-passed, value-most, differences-most}
 use Rattle.method.proofs.SecondAccepted.{entryTests}
-use Rattle.work.specs.Column.{Angles}
+use Rattle.work.specs.Premises.{Angles}
 use Rattle.work.specs.SecondWork.{SineEntries}
 
 pub small-values : (values : List ℕ) → lowestOutside values leastAngle mostAngle ≡ Nowhere → Angles values

@@ -17,8 +17,8 @@ use Rattle.figures.specs.declared.Figure.{Figure}
 use Rattle.figures.specs.Figure.{description, angleCount, conditionCount, membersOf}
 use Rattle.figures.specs.Numerators.{sumOver, conditionSum, numerator, paddedNumerators, mostAngles, mostConditions}
 use Rattle.figures.proofs.Figures.{isAmong, members-are-angles, angle-bound, condition-bound}
-use Rattle.work.specs.Column.{column}
-use Rattle.work.proofs.ColumnLaws.{column-at, column-ext}
+use Rattle.columns.specs.Column.{column}
+use Rattle.columns.proofs.ColumnLaws.{column-at, column-ext}
 use Rattle.work.proofs.MemberLaws.{past-conditions}
 
 -- ---- a sum over a condition, and a numerator, look only at the figure's own angles and conditions

@@ -12,7 +12,7 @@ use Rattle.refusals.specs.Order.{answerOf}
 use Rattle.figures.specs.declared.Figure.{Figure}
 use Rattle.work.specs.declared.first.FirstJudged.{FirstJudged}
 use Rattle.work.specs.declared.first.FirstWork.{FirstWork}
-use Rattle.work.specs.Column.{column}
+use Rattle.columns.specs.Column.{column}
 use Rattle.method.specs.Pass.{resultTest}
 use Rattle.method.specs.FirstSteps.{givenTests}
 use Rattle.method.specs.FirstPass.{misclosureTest, misclosure, firstNumerator, firstRounded, corrected, firstRest}

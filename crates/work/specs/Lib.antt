@@ -1,3 +1,3 @@
-pub mod Column
 pub mod FirstWork
+pub mod Premises
 pub mod SecondWork

@@ -17,7 +17,7 @@ use Rattle.figures.specs.Figure.{denominator, angleCount, figureOf}
 use Rattle.figures.specs.Numerators.{conditionSum, mostAngles}
 use Rattle.work.specs.declared.sines.Sines.{Sines}
 use Rattle.work.specs.declared.second.SecondWork.{SecondWork}
-use Rattle.work.specs.Column.{column}
+use Rattle.columns.specs.Column.{column}
 use Rattle.method.specs.Pass.{given, lengthsTest, limitOrToleranceTest, angleTest, resultTest, ofNamed}
 use Rattle.method.specs.SecondPass.{secondReduced, sineMisclosure, sumOfSquares, differenceSquares, secondNumerator, secondRounded, secondAdjusted, secondRest, secondLengths, sineEntryTest, sumOfSquaresTest, toleranceTest}
 

@@ -1,13 +1,13 @@
 // The first pass: document 01, "The two passes".
 ghost use mathlib.Core.Path.{_≡_};
-ghost use Rattle.work.specs.Column.{Angles};
+ghost use Rattle.work.specs.Premises.{Angles};
 ghost use Rattle.work.specs.FirstWork.{firstWorkOf, firstWorked, firstJudgedOf, refusedBeforeWork};
-use crate::columns::column_of;
-use crate::columns::condition_sums;
-use crate::columns::narrowed;
-use crate::columns::quotients;
-use crate::columns::sum_of;
-use crate::targets::minus_targets;
+use crate::sums::condition_sums;
+use crate::sums::narrowed;
+use crate::sums::sum_of;
+use columns::column_of;
+use columns::minus_targets;
+use columns::quotients;
 use figures::Figure;
 use method::Column;
 use method::FirstLengths;
@@ -39,7 +39,8 @@ fn first_work(f: Figure, angles: &[u32], fixed: &[u32]) -> FirstWork
     let observed = column_of(angles);
     let misclosures = sum_of(condition_sums(f, observed), minus_targets(f, fixed));
     let numerators = tables::numerators_of(f, narrowed(misclosures));
-    let rounded = quotients(numerators, tables::counts_of(f).denominator as u64);
+    let denominator = tables::counts_of(f).denominator as u64;
+    let rounded = quotients(numerators, denominator);
     let corrected = sum_of(observed, rounded);
     let rests = sum_of(misclosures, condition_sums(f, rounded));
     FirstWork {

@@ -1,12 +1,9 @@
 // The work of both passes by value: document 01, "The two passes". Every test in its order, and a column for each thing that a pass gives.
-mod columns;
 mod first;
 mod second;
 mod sines;
 mod sums;
-mod targets;
 
-pub use columns::column_of;
 pub use first::FirstJudged;
 pub use first::FirstWork;
 pub use first::first_judged;

@@ -13,9 +13,9 @@ use Rattle.figures.specs.declared.Figure.{Figure}
 use Rattle.figures.specs.Figure.{angleCount}
 use Rattle.layout.specs.declared.Kind.{Kind}
 use Rattle.layout.specs.declared.Kind.the-variants.{FirstPass, SecondPass}
-use Rattle.layout.specs.declared.Look.{Look}
-use Rattle.layout.specs.declared.Look.the-variants.{Head}
-use Rattle.layout.specs.Head.{lookOf}
+use Rattle.heads.specs.declared.Look.{Look}
+use Rattle.heads.specs.declared.Look.the-variants.{Head}
+use Rattle.heads.specs.Head.{lookOf}
 use Rattle.layout.specs.Layout.{lengthsOf, fixedIn, sineEntriesIn}
 use Rattle.sheets.specs.declared.Reading.{Reading}
 use Rattle.sheets.specs.declared.Reading.the-variants.{Read}
@@ -27,7 +27,7 @@ use Rattle.worked.specs.declared.Outcome.{Outcome}
 use Rattle.worked.specs.declared.Outcome.the-variants.{First, Second}
 use Rattle.worked.specs.declared.SheetValues.{SheetValues}
 use Rattle.worked.specs.declared.WorkedSheet.{WorkedSheet}
-use Rattle.work.specs.Column.{column}
+use Rattle.columns.specs.Column.{column}
 use Rattle.method.specs.FirstPass.{firstLengths, firstTests}
 use Rattle.method.specs.Pass.{given}
 use Rattle.method.specs.SecondPass.{secondLengths, secondTests}

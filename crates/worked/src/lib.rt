@@ -1,6 +1,7 @@
 // A sheet worked through, by value: document 01, "Sheets worked through". Read by the reader's promise, and then its pass.
 ghost use mathlib.Core.Path.{_≡_};
 ghost use Rattle.worked.specs.Worked.{ReadInto, FullArrays, refusedSheet, firstShown, firstSheet, secondShown, secondSheet, workedFrom, workedOf};
+use columns::column_of;
 use figures::Figure;
 use method::Column;
 use method::first_lengths;
@@ -13,7 +14,6 @@ use sheets::Reading;
 use tables::MOST_ANGLES;
 use work::FirstWork;
 use work::SecondWork;
-use work::column_of;
 use work::figure_work;
 use work::first_judged;
 

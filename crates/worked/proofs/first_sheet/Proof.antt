@@ -8,7 +8,7 @@ use Rattle.refusals.specs.declared.Verdict.{Verdict}
 use Rattle.refusals.specs.Order.{answerOf}
 use Rattle.work.specs.declared.first.FirstJudged.{FirstJudged}
 use Rattle.work.specs.declared.first.FirstWork.{FirstWork}
-use Rattle.work.specs.Column.{column}
+use Rattle.columns.specs.Column.{column}
 use Rattle.method.specs.FirstPass.{firstLengths, firstTests}
 use Rattle.method.specs.Pass.{given}
 use Rattle.work.specs.FirstWork.{firstWorkOf, firstJudgedOf}

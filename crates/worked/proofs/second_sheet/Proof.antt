@@ -8,7 +8,7 @@ use lib.IntN.{ℤ}
 use Rattle.refusals.specs.declared.Verdict.{Verdict}
 use Rattle.refusals.specs.Order.{answerOf}
 use Rattle.work.specs.declared.second.SecondWork.{SecondWork}
-use Rattle.work.specs.Column.{column}
+use Rattle.columns.specs.Column.{column}
 use Rattle.method.specs.SecondPass.{secondLengths, secondTests}
 use Rattle.method.specs.Pass.{given}
 use Rattle.work.specs.SecondWork.{secondWorkOf, figureWork}

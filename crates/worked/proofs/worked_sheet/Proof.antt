@@ -9,7 +9,7 @@ use lib.ListN.{take}
 use Rattle.figures.specs.declared.Figure.{Figure}
 use Rattle.figures.specs.Figure.{angleCount}
 use Rattle.layout.specs.declared.Kind.{Kind}
-use Rattle.layout.specs.declared.Look.{Look}
+use Rattle.heads.specs.declared.Look.{Look}
 use Rattle.layout.specs.Layout.{lengthsOf, fixedIn, sineEntriesIn}
 use Rattle.sheets.specs.declared.Reading.{Reading}
 use Rattle.sheets.specs.declared.Reading.the-variants.{Read}

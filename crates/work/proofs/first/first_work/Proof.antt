@@ -11,10 +11,11 @@ use Rattle.figures.specs.declared.Figure.{Figure}
 use Rattle.figures.specs.declared.Counts.{Counts}
 use Rattle.figures.specs.Figure.{denominator, targetOf}
 use Rattle.figures.specs.Numerators.{conditionSum}
-use Rattle.work.specs.Column.{column, Below}
+use Rattle.columns.specs.Column.{column}
+use Rattle.work.specs.Premises.{Below}
 use Rattle.method.specs.FirstPass.{shouldBe, misclosure, firstNumerator, firstRounded, corrected, firstRest}
 use Rattle.method.specs.Pass.{given}
-use Rattle.work.proofs.ColumnLaws.{column-below}
+use Rattle.work.proofs.ColumnBounds.{column-below}
 use Rattle.work.proofs.FirstBounds.{given-small, sum-small, target-small, misclosure-small, rounded-small, rounded-sum-small}
 use Rattle.work.proofs.StepLaws.{sums-step, sum-step, numerators-step, quotients-step}
 use Rattle.work.proofs.first.first_work.Statement.{statement}
@@ -100,8 +101,8 @@ numerators-of-requires c κs = search needs
 counts-of-requires : tie.Need-counts-of-requires
 counts-of-requires c κs = search needs
 
-cast-quotients : tie.Need-cast-quotients
-cast-quotients c = search needs
+cast-denominator : tie.Need-cast-denominator
+cast-denominator c = search needs
 
 quotients-requires : tie.Need-quotients-requires
 quotients-requires c κs = search needs
@@ -154,7 +155,7 @@ first-work-spec =
     narrowed-requires
     numerators-of-requires
     counts-of-requires
-    cast-quotients
+    cast-denominator
     quotients-requires
     sum-of-requires-2
     condition-sums-requires-2

@@ -18,10 +18,11 @@ use Rattle.refusals.specs.Order.{failsAt, lowestPlace, numbered, outsideSigned}
 use Rattle.refusals.specs.Ranges.{leastAngle, mostAngle}
 use Rattle.figures.specs.declared.Counts.{Counts}
 use Rattle.figures.specs.Figure.{denominator, angleCount}
-use Rattle.work.specs.Column.{column, Below}
+use Rattle.columns.specs.Column.{column}
+use Rattle.work.specs.Premises.{Below}
 use Rattle.method.specs.Pass.{given}
 use Rattle.work.specs.SecondWork.{mostDenominator}
-use Rattle.work.proofs.ColumnLaws.{column-at, column-ext}
+use Rattle.columns.proofs.ColumnLaws.{column-at, column-ext}
 use Rattle.work.proofs.CorrectionLaws.{angles-below, factor-magnitude, numerators-below, numerators-turned, quotients-below}
 use Rattle.work.proofs.SineLaws.{below-as, denominator-bound}
 use Rattle.work.proofs.second.corrections.Statement.{statement}

@@ -9,8 +9,8 @@ use mir.Syntax.{w64}
 use mir.Val.{toZ}
 use mir.Facts.{toZ-pos}
 use Rattle.figures.specs.Figure.{denominator}
-use Rattle.work.specs.Column.{Below}
-use Rattle.work.proofs.ColumnLaws.{column-ext}
+use Rattle.work.specs.Premises.{Below}
+use Rattle.columns.proofs.ColumnLaws.{column-ext}
 use Rattle.work.proofs.SineLaws.{below-as, denominator-bound, reduced-at, scaled-below, numerators-below, sums-below}
 use Rattle.work.proofs.sines.reduced_coefficients.Statement.{statement}
 use Rattle.work.proofs.sines.reduced_coefficients.Tie as tie

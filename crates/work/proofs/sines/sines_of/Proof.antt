@@ -14,7 +14,8 @@ use Rattle.figures.specs.Figure.{angleCount}
 use Rattle.figures.specs.Numerators.{reducedCoefficient, mostAngles}
 use Rattle.figures.proofs.Figures.{angle-bound}
 use Rattle.work.specs.declared.sines.Sines.{Sines}
-use Rattle.work.specs.Column.{column, Below}
+use Rattle.columns.specs.Column.{column}
+use Rattle.work.specs.Premises.{Below}
 use Rattle.method.specs.Pass.{given}
 use Rattle.method.specs.SecondPass.{sineSign, signedDifference, secondReduced, sineMisclosure, sumOfSquares, differenceSquares}
 use Rattle.work.proofs.SineLaws.{below-as, sign-column, difference-column, reduced-column, dot-columns, signs-below, log-sines-below, differences-below, signed-below, reduced-below}

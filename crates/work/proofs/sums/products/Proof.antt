@@ -9,7 +9,7 @@ use mir.Facts.{toZ-ofZ}
 use Rattle.whole.specs.Sums.{vector}
 use Rattle.whole.proofs.Lists.{Filled, filled-none, filled-more, filled-all}
 use Rattle.figures.specs.Numerators.{mostAngles}
-use Rattle.work.specs.Column.{column}
+use Rattle.columns.specs.Column.{column}
 use Rattle.work.proofs.ProductLaws.{product-fits}
 use Rattle.work.proofs.sums.products.Statement.{statement}
 use Rattle.work.proofs.sums.products.Tie as tie

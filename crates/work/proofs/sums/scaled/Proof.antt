@@ -7,8 +7,9 @@ use mir.Val.{toZ, ofZ}
 use mir.Facts.{toZ-ofZ}
 use Rattle.whole.specs.Lists.{listed}
 use Rattle.whole.specs.Sums.{vector}
-use Rattle.work.specs.Column.{column}
-use Rattle.work.proofs.ColumnLaws.{column-at, column-below, column-ext}
+use Rattle.columns.specs.Column.{column}
+use Rattle.columns.proofs.ColumnLaws.{column-at, column-ext}
+use Rattle.work.proofs.ColumnBounds.{column-below}
 use Rattle.work.proofs.sums.scaled.Statement.{statement}
 use Rattle.work.proofs.sums.scaled.Tie as tie
 

@@ -3,7 +3,7 @@ use borrow.Author.Needs.{needs}
 use mathlib.Core.Path.{_≡_, refl, sym, _∙_}
 use lib.ListN.{length}
 use Rattle.figures.proofs.Naming.{named-exactly}
-use Rattle.layout.proofs.Naming.{Names, head-names, kind-exactly}
+use Rattle.heads.proofs.Naming.{Names, head-names, kind-exactly}
 use Rattle.sheets.specs.Sheet.{valuesFrom}
 use Rattle.sheets.specs.Judging.{writingOf, sheetGiven}
 use Rattle.sheets.proofs.Accepted.{given-accepted, writer-refused, writer-found, sheet-written, sheet-kept}

@@ -1,0 +1,2 @@
+pub mod ColumnLaws
+mod TargetLaws

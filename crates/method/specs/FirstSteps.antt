@@ -12,10 +12,12 @@ use Rattle.figures.specs.Figure.{angleCount, conditionCount}
 use Rattle.method.specs.Pass.{lengthsTest, limitOrToleranceTest, angleTest}
 use Rattle.method.specs.FirstPass.{firstLengths, fixedTest, limitOf}
 
+-- 2, 3, 4, 5: the lengths, L, the angles, the fixed angles
 abbrev pub givenTests : Figure → (limit : ℕ) (angles fixed lent : List ℕ) → List Verdict
 givenTests f limit angles fixed lent =
     lengthsTest lent (firstLengths f) ∷ limitOrToleranceTest mostLimit limit ∷ angleTest angles ∷ fixedTest fixed ∷ []
 
+-- 6 and 7: a misclosure beyond L or its default, and a corrected angle outside its range
 abbrev pub workTests : Figure → (limit : ℕ) (misclosures corrected : List ℤ) → List Verdict
 workTests f limit misclosures corrected =
     failsAt Refusal.MisclosureBeyondLimit

@@ -5,6 +5,5 @@ mod second;
 mod stores;
 
 pub use first::first_pass;
-pub use method::Column;
 pub use method::SecondAnswer;
 pub use second::second_pass;

@@ -1,5 +1,6 @@
 // The text of a worked sheet of each kind, and of a refusal, from the start of a lent byte slice: document 01, "Sheets worked through".
-// Each answers the position after the last byte; where the text has no room, a position past the end.
+// Each answers the position after the last byte; where the text has no room, it stands there as far as the slice reaches, and the answer is
+// a position past the end.
 ghost use mathlib.Core.Path.{_≡_};
 ghost use Prim.Native.Nat.{_≤_, _<_};
 ghost use Rattle.whole.specs.Sums.{vector};
@@ -42,7 +43,8 @@ fn put_tables(
     condition_width: usize,
 ) -> usize
     requires { ⌜ (0 < «angle_width») × («angle_width» ≤ 6) × (0 < «condition_width») × («condition_width» ≤ 6) ⌝ }
-    ensures { λ r. ⌜ Lays (tablesText f angles «angle_width» conditions «condition_width») (now (buffer .entry)) at (now (buffer .exit)) r ⌝ }
+    ensures { λ r. ⌜ Lays (tablesText f angles «angle_width» conditions «condition_width»)
+        (now (buffer .entry)) at (now (buffer .exit)) r ⌝ }
 {
     let counts = tables::counts_of(f);
     let after_angles = put_rows(buffer, at, b"", counts.angles, angles, angle_width);
@@ -91,7 +93,9 @@ pub fn first_lines(
     misclosures: Column,
     rests: Column,
 ) -> usize
-    ensures { λ r. ⌜ Holds (now (buffer .entry)) (firstText f (vector given) (vector numerators) (vector rounded) (vector results) (vector misclosures) (vector rests)) (now (buffer .exit)) r ⌝ }
+    ensures { λ r. ⌜ Holds (now (buffer .entry))
+        (firstText f (vector given) (vector numerators) (vector rounded) (vector results) (vector misclosures) (vector rests))
+        (now (buffer .exit)) r ⌝ }
 {
     let after_figure = first_figure(buffer, f);
     let angles = [given, numerators, rounded, results, NONE];
@@ -112,7 +116,9 @@ pub fn second_lines(
     results: Column,
     rests: Column,
 ) -> usize
-    ensures { λ r. ⌜ Holds (now (buffer .entry)) (secondText f w s (vector given) (vector reduced) (vector numerators) (vector rounded) (vector results) (vector rests)) (now (buffer .exit)) r ⌝ }
+    ensures { λ r. ⌜ Holds (now (buffer .entry))
+        (secondText f w s (vector given) (vector reduced) (vector numerators) (vector rounded) (vector results) (vector rests))
+        (now (buffer .exit)) r ⌝ }
 {
     let after_figure = second_figure(buffer, f, w, s);
     let angles = [given, reduced, numerators, rounded, results];

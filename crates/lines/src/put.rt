@@ -1,5 +1,5 @@
-// Lines of words and numbers, and tables of such lines, laid from a position of a lent byte slice. Each function lays one text more after what
-// was laid before it, and answers the position after it.
+// Lines of words and numbers, and tables of such lines, laid from a position of a lent byte slice. Each function lays one text more after
+// what was laid before it, and answers the position after it.
 ghost use mathlib.Core.Path.{_≡_};
 ghost use mathlib.Core.List.{[], _∷_, _++_};
 ghost use Prim.Native.Nat.{_≤_, _<_};

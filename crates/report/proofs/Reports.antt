@@ -11,7 +11,7 @@ use lib.Dec.{leb}
 use lib.ListN.{length, take, drop, replicate}
 use Rattle.text.specs.Text.{laid}
 use Rattle.text.specs.Holds.{Holds}
-use Rattle.text.proofs.Laying.{laid-room, holds-length, holds-taken}
+use Rattle.text.proofs.Laying.{laid-room, holds-size, holds-length, holds-taken}
 use Rattle.report.specs.declared.reporting.Reported.the-variants.{Written}
 use Rattle.lines.specs.Lines.{longestText}
 use Rattle.report.specs.Report.{reportText, hasRoom, reportedOf, afterReport}
@@ -22,7 +22,7 @@ module _ (t buffer : List ℕ) (end : ℕ) (held : Holds (replicate longestText 
   length-told = holds-length held fits
 
   pub end-within : end ≤ length buffer
-  end-within = rw (held .size) (omega (arith, length-told))
+  end-within = rw (holds-size held) (omega (arith, length-told))
 
   module _ (lent : List ℕ) where
     decided : hasRoom t lent ≡ leb end (length lent)

@@ -1,14 +1,14 @@
--- Laws of laying text in a buffer: where it has room and where not, and several texts laid one after the other from the start. Assumes nothing.
+-- Laws of laying text in a buffer: where it has room and where not, and several texts laid one after the other. Assumes nothing.
 use mathlib.Core.Path.{_≡_, refl, sym, ap, ap₂, _∙_}
 use mathlib.Core.Bool.{Bool, true, false, cond}
-use mathlib.Core.List.{List, [], _∷_, _++_, append-assoc, append-nil}
-use Prim.Native.Nat.{ℕ, zero, suc, _+_, _≤_, _<_}
+use mathlib.Core.List.{List, [], _++_, append-assoc, append-nil}
+use Prim.Native.Nat.{ℕ, _+_, _-_, _≤_, _<_}
 use native.Mathlib.Nat.{zero-add}
 use native.Mathlib.Omega.{arith}
 use borrow.Author.Tests.{le-leb, lt-leb, leb-true, leb-false}
 use lib.Dec.{leb}
-use lib.ListN.{length, take, drop, length-append, length-take, length-drop}
-use lib.Seq.{take-append-seam, drop-append-add, drop-drop, length-paste, paste, take-length}
+use lib.ListN.{length, take, drop, length-append, length-take, length-drop, drop-of-length-le}
+use lib.Seq.{take-all, take-append-seam, take-append-le, take-append-add, take-at, drop-at, drop-drop, length-take-le, paste, take-length}
 use Rattle.text.specs.Text.{laid, after}
 use Rattle.text.specs.Holds.{Holds}
 
@@ -19,17 +19,7 @@ room-or-none P m n room none = go (leb m n) refl
     go true e = room (leb-true m n e)
     go false e = none (leb-false m n e)
 
-pub laid-room : (buffer : List ℕ) (at : ℕ) (t : List ℕ) → at + length t ≤ length buffer → laid buffer at t ≡ take at buffer ++ t ++ drop (at + length t) buffer
-unfolding laid
-laid-room buffer at t h = rw (le-leb (at + length t) (length buffer) h)
-
--- as a copy of t, all of its bytes done, leaves it
-pub laid-whole : (buffer : List ℕ) (at : ℕ) (t : List ℕ) → at + length t ≤ length buffer → laid buffer at t ≡ paste buffer at t (length t)
-laid-whole buffer at t h = laid-room buffer at t h ∙ ap (λ (s : List ℕ). take at buffer ++ s ++ drop (at + length t) buffer) (sym (take-length t))
-
-pub laid-none : (buffer : List ℕ) (at : ℕ) (t : List ℕ) → length buffer < at + length t → laid buffer at t ≡ buffer
-unfolding laid
-laid-none buffer at t h = rw (lt-leb (at + length t) (length buffer) h)
+-- ---- The position
 
 pub after-room : (size at : ℕ) (t : List ℕ) → at + length t ≤ size → after size at t ≡ at + length t
 unfolding after
@@ -43,52 +33,115 @@ after-same : (size at at′ : ℕ) (t t′ : List ℕ) → at + length t ≡ at�
 unfolding after
 after-same size at at′ t t′ e = ap (λ (k : ℕ). cond (leb k size) k (size + 1)) e
 
-pub length-laid : (buffer : List ℕ) (at : ℕ) (t : List ℕ) → length (laid buffer at t) ≡ length buffer
-length-laid buffer at t =
-    room-or-none (length (laid buffer at t) ≡ length buffer) (at + length t) (length buffer)
-    (λ room. ap length (laid-whole buffer at t room) ∙ length-paste buffer at t (length t) room (omega arith))
-    (λ none. ap length (laid-none buffer at t none))
+-- ---- The bytes
 
--- ---- One after the other, from the start
+drop-past : (l : List ℕ) (i j : ℕ) → length l ≤ i → length l ≤ j → drop i l ≡ drop j l
+drop-past l i j p q = drop-of-length-le l p ∙ sym (drop-of-length-le l q)
+
+module _ (buffer : List ℕ) (at : ℕ) (t : List ℕ) where
+  pub length-laid : length (laid buffer at t) ≡ length buffer
+  unfolding laid
+  length-laid = simp (length-append, length-take, length-drop) (omega arith)
+
+  pub laid-room : at + length t ≤ length buffer → laid buffer at t ≡ take at buffer ++ t ++ drop (at + length t) buffer
+  unfolding laid
+  laid-room h = ap (λ (l : List ℕ). take at buffer ++ l ++ drop (at + length t) buffer) (take-all (length buffer - at) t (omega arith))
+
+  -- as a copy of t leaves it, when all of its bytes are done
+  pub laid-whole : at + length t ≤ length buffer → laid buffer at t ≡ paste buffer at t (length t)
+  laid-whole h = laid-room h ∙ ap (λ (l : List ℕ). take at buffer ++ l ++ drop (at + length t) buffer) (sym (take-length t))
+
+  -- and when as many are done as the buffer has room for
+  pub laid-cut : at ≤ length buffer → length buffer ≤ at + length t → laid buffer at t ≡ paste buffer at t (length buffer - at)
+  unfolding laid
+  laid-cut h cut =
+      ap (λ (l : List ℕ). take at buffer ++ take (length buffer - at) t ++ l)
+      (drop-past buffer (at + length t) (at + (length buffer - at)) (omega arith) (omega arith))
+
+  -- past the end nothing is laid
+  pub laid-past : length buffer ≤ at → laid buffer at t ≡ buffer
+  unfolding laid
+  laid-past h =
+      let none : length buffer - at ≡ 0 = omega arith in
+      rw (take-all at buffer h, none, drop-of-length-le buffer {i = at + length t} (omega arith)) (append-nil (buffer ++ []) ∙ append-nil buffer)
+
+-- ---- One after the other
+
+-- the second text at the position that the first one gave: it is as if both had been laid at once
+module _ (buffer : List ℕ) (at : ℕ) (t s : List ℕ) where
+  module _ (room : at + length t ≤ length buffer) where
+    -- what stands before the second text, and its position
+    abbrev head : List ℕ
+    head = take at buffer ++ t
+
+    abbrev next : ℕ
+    next = at + length t
+
+    length-head : length head ≡ next
+    length-head = rw (length-append, length-take-le at buffer (omega arith))
+
+    before : take next (laid buffer at t) ≡ head
+    before = ap (take next) (laid-room buffer at t room) ∙ take-at head (drop next buffer) next length-head
+
+    from : drop next (laid buffer at t) ≡ drop next buffer
+    from = ap (drop next) (laid-room buffer at t room) ∙ drop-at head (drop next buffer) next length-head
+
+    middle : head ++ take (length (laid buffer at t) - next) s ≡ take at buffer ++ take (length buffer - at) (t ++ s)
+    middle =
+        let left : length buffer - at ≡ length t + (length buffer - next) = omega arith in
+        ap (λ (k : ℕ). head ++ take (k - next) s) (length-laid buffer at t) ∙ append-assoc (take at buffer) t (take (length buffer - next) s)
+        ∙ ap (λ (l : List ℕ). take at buffer ++ l) (sym (ap (λ (k : ℕ). take k (t ++ s)) left ∙ take-append-add t s (length buffer - next)))
+
+    end : drop (next + length s) (laid buffer at t) ≡ drop (at + length (t ++ s)) buffer
+    end =
+        let same : next + length s ≡ at + length (t ++ s) = omega (arith, length-append t s) in
+        sym (drop-drop (length s) next (laid buffer at t)) ∙ ap (drop (length s)) from ∙ drop-drop (length s) next buffer ∙ ap (λ (k : ℕ). drop k buffer) same
+
+    then-room : laid (laid buffer at t) next s ≡ laid buffer at (t ++ s)
+    unfolding laid
+    then-room = ap₂ (λ (l m : List ℕ). l ++ m) (ap (λ (l : List ℕ). l ++ take (length (laid buffer at t) - next) s) before ∙ middle) end
+
+  then-none : length buffer < at + length t → laid buffer at t ≡ laid buffer at (t ++ s)
+  unfolding laid
+  then-none none =
+      ap₂ (λ (l m : List ℕ). take at buffer ++ l ++ m) (sym (take-append-le (length buffer - at) t s (omega arith)))
+      (drop-past buffer (at + length t) (at + length (t ++ s)) (omega arith) (omega (arith, length-append t s)))
+
+  pub laid-then : laid (laid buffer at t) (after (length buffer) at t) s ≡ laid buffer at (t ++ s)
+  laid-then =
+      room-or-none (laid (laid buffer at t) (after (length buffer) at t) s ≡ laid buffer at (t ++ s)) (at + length t) (length buffer)
+      (λ room. ap (λ (k : ℕ). laid (laid buffer at t) k s) (after-room (length buffer) at t room) ∙ then-room room)
+      (λ none. ap (λ (k : ℕ). laid (laid buffer at t) k s) (after-none (length buffer) at t none)
+      ∙ laid-past (laid buffer at t) (length buffer + 1) s (omega (arith, length-laid buffer at t)) ∙ then-none none)
+
+pub after-then : (size at : ℕ) (t s : List ℕ) → after size (after size at t) s ≡ after size at (t ++ s)
+after-then size at t s =
+    room-or-none (after size (after size at t) s ≡ after size at (t ++ s)) (at + length t) size
+    (λ room. ap (λ (k : ℕ). after size k s) (after-room size at t room) ∙ after-same size (at + length t) at s (t ++ s) (omega (arith, length-append t s)))
+    (λ none. ap (λ (k : ℕ). after size k s) (after-none size at t none)
+    ∙ after-none size (size + 1) s (omega arith) ∙ sym (after-none size at (t ++ s) (omega (arith, length-append t s))))
+
+-- ---- From the start
 
 pub holds-none : (start : List ℕ) → Holds start [] start 0
-holds-none start = record { size = refl; position = sym (after-room (length start) 0 [] (omega arith)); bytes = λ room. refl }
+holds-none start = record { bytes = sym (laid-room start 0 [] (omega arith)); position = sym (after-room (length start) 0 [] (omega arith)) }
 
--- the next text is laid at the position that the last one gave
-module _ {start t buffer : List ℕ} {at : ℕ} (held : Holds start t buffer at) (s : List ℕ) where
-  next-position : after (length buffer) at s ≡ after (length start) 0 (t ++ s)
-  next-position =
-      room-or-none (after (length buffer) at s ≡ after (length start) 0 (t ++ s)) (length t) (length start)
-      (λ room. rw (held .size, held .position, after-room (length start) 0 t (omega arith))
-      (after-same (length start) (0 + length t) 0 s (t ++ s) (omega (arith, length-append t s))))
-      (λ none. rw (held .size, held .position, after-none (length start) 0 t (omega arith))
-      (after-none (length start) (length start + 1) s (omega arith) ∙ sym (after-none (length start) 0 (t ++ s) (omega (arith, length-append t s)))))
+module _ {start t buffer : List ℕ} {at : ℕ} (held : Holds start t buffer at) where
+  pub holds-size : length buffer ≡ length start
+  holds-size = ap length (held .bytes) ∙ length-laid start 0 t
 
-  next-bytes : length (t ++ s) ≤ length start → laid buffer at s ≡ t ++ s ++ drop (length (t ++ s)) start
-  next-bytes room =
-      let sum : length (t ++ s) ≡ length t + length s = length-append t s in
-      let fits : length t + length s ≤ length (t ++ drop (length t) start) = rw (length-append, length-drop) (omega arith) in
-      let position : at ≡ length t = held .position ∙ after-room (length start) 0 t (omega arith) ∙ omega arith in
-      ap₂ (λ (l : List ℕ) (k : ℕ). laid l k s) (held .bytes (omega arith)) position
-      ∙ laid-room (t ++ drop (length t) start) (length t) s fits
-      ∙ ap₂ (λ (front back : List ℕ). front ++ s ++ back) (take-append-seam t (drop (length t) start))
-      (drop-append-add t (drop (length t) start) (length s) ∙ drop-drop (length s) (length t) start ∙ ap (λ (k : ℕ). drop k start) (sym sum))
-
-  pub holds-more : {buffer′ : List ℕ} {at′ : ℕ} → buffer′ ≡ laid buffer at s → at′ ≡ after (length buffer) at s → Holds start (t ++ s) buffer′ at′
-  holds-more e p = record {
-    size = ap length e ∙ length-laid buffer at s ∙ held .size;
-    position = p ∙ next-position;
-    bytes = λ room. e ∙ next-bytes room;
+  -- the next text is laid at the position that the last one gave
+  pub holds-more : (s : List ℕ) {buffer′ : List ℕ} {at′ : ℕ} → buffer′ ≡ laid buffer at s → at′ ≡ after (length buffer) at s → Holds start (t ++ s) buffer′ at′
+  holds-more s e p = record {
+    bytes = e ∙ ap₂ (λ (l : List ℕ) (k : ℕ). laid l k s) (held .bytes) (held .position) ∙ laid-then start 0 t s;
+    position = p ∙ ap₂ (λ (size k : ℕ). after size k s) holds-size (held .position) ∙ after-then (length start) 0 t s;
   }
 
--- Where all of it has room, it is as if it had been laid at once.
-module _ {start t buffer : List ℕ} {at : ℕ} (held : Holds start t buffer at) where
-  pub holds-all : length t ≤ length start → buffer ≡ laid start 0 t
-  holds-all room = held .bytes room ∙ sym (laid-room start 0 t (omega arith) ∙ ap (λ (k : ℕ). t ++ drop k start) (zero-add (length t)))
+  -- where all of it has room
+  module _ (room : length t ≤ length start) where
+    pub holds-length : at ≡ length t
+    holds-length = held .position ∙ after-room (length start) 0 t (omega arith) ∙ zero-add (length t)
 
-  pub holds-length : length t ≤ length start → at ≡ length t
-  holds-length room = held .position ∙ after-room (length start) 0 t (omega arith) ∙ zero-add (length t)
-
-  -- what was laid, read off the buffer
-  pub holds-taken : length t ≤ length start → take at buffer ≡ t
-  holds-taken room = ap₂ take (holds-length room) (held .bytes room) ∙ take-append-seam t (drop (length t) start)
+    -- what was laid, read off the buffer
+    pub holds-taken : take at buffer ≡ t
+    holds-taken = ap₂ take holds-length (held .bytes ∙ laid-room start 0 t (omega arith)) ∙ take-append-seam t (drop (0 + length t) start)

@@ -1,14 +1,13 @@
--- What a buffer and a position are after texts were laid one after the other from the start: `t` is all of them together, and `start` the buffer
--- as it was before the first.
+-- What a buffer and a position are after texts were laid one after the other from the start: as if `t`, all of them together, had been laid
+-- at once. `start` is the buffer as it was before the first.
 use mathlib.Core.Path.{_≡_}
-use mathlib.Core.List.{List, _++_}
-use Prim.Native.Nat.{ℕ, _≤_}
-use lib.ListN.{length, drop}
-use Rattle.text.specs.Text.{after}
+use mathlib.Core.List.{List}
+use Prim.Native.Nat.{ℕ}
+use lib.ListN.{length}
+use Rattle.text.specs.Text.{laid, after}
 
 pub record Holds (start t buffer : List ℕ) (at : ℕ) : Type 0 where
-  pub size : length buffer ≡ length start
-  -- past the end where t had no room
+  -- t in front, as far as the buffer reaches, and what lies past it untouched
+  pub bytes : buffer ≡ laid start 0 t
+  -- past the end where t has no room
   pub position : at ≡ after (length start) 0 t
-  -- where it had, t is in front, and what lies past it is untouched
-  pub bytes : length t ≤ length start → buffer ≡ t ++ drop (length t) start

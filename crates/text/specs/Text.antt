@@ -100,9 +100,10 @@ readLines t = map parts (splitLines t)
 
 -- ---- Laying text in a buffer
 
--- The text t laid at a position of the buffer: where it has room there, t stands in place and every other byte as it was; else nothing changes.
+-- The text t laid at a position of the buffer: its bytes stand there one after the other, as far as the buffer reaches, and every other byte
+-- is as it was.
 unfoldable pub laid : List ℕ → ℕ → List ℕ → List ℕ
-laid buffer at t = cond (leb (at + length t) (length buffer)) (take at buffer ++ t ++ drop (at + length t) buffer) buffer
+laid buffer at t = take at buffer ++ take (length buffer - at) t ++ drop (at + length t) buffer
 
 -- The position after it; where it has no room, one past the end of a buffer of this size. There nothing has room, so that it stays past the
 -- end: the last position of several texts laid one after the other tells whether all had room.

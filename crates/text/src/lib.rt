@@ -1,5 +1,6 @@
 // Printed text, and words of it laid in a lent byte slice: document 01, "Sheets worked through". Every function answers every input, as
-// specs/Text.antt says: a text that has no room changes nothing, and the position past the end that it gives leaves no room for the next.
+// specs/Text.antt says: a text is laid as far as the slice reaches, and where that cuts it short, the position past the end that it gives
+// leaves no room for the next.
 ghost use mathlib.Core.Path.{_≡_};
 ghost use mathlib.Core.List.{[], _∷_};
 ghost use lib.ListN.{length};
@@ -14,11 +15,12 @@ pub fn put_word(buffer: &mut [u8], at: usize, word: &[u8]) -> usize
     if at > size {
         return size + 1;
     }
-    if word.len() > size - at {
-        return size + 1;
-    }
+    let room = size - at;
     let mut done = 0;
     while done < word.len() {
+        if done == room {
+            return size + 1;
+        }
         buffer[at + done] = word[done];
         done += 1;
     }

@@ -1,37 +1,47 @@
--- `text::put_word` meets its contract: where the word has room, the bytes before `done` are in place and every other byte of the buffer is as it
--- was; a turn lays the next one (`paste-suc`).
+-- `text::put_word` meets its contract: the bytes before `done` are in place and every other byte of the buffer is as it was; a turn lays the
+-- next one (`paste-suc`), until the word or the room is at its end.
 use mathlib.Core.Path.{_≡_, sym, ap, _∙_}
 use Prim.Native.Nat.{ℕ, _+_, _-_, _≤_, _<_}
 use native.Mathlib.Numerals.{add-one}
 use native.Mathlib.Omega.{arith}
-use borrow.Author.Needs.{needs}
 use mathlib.Core.List.{List}
 use lib.ListN.{length, getD, set, length-set}
-use lib.Seq.{paste, paste-zero, paste-suc, take-length}
-use Rattle.text.proofs.Laying.{laid-none, laid-whole, after-none, after-room}
+use lib.Seq.{paste, paste-zero, paste-suc}
+use Rattle.text.proofs.Laying.{laid-past, laid-whole, laid-cut, after-none, after-room}
 use Rattle.text.proofs.put_word.Statement.{statement}
 use Rattle.text.proofs.put_word.Tie as tie
 
 abbrev Inv-loop : tie.InvT-loop
-Inv-loop buffer₀ at word size done₀ buffer done = (done ≤ length word) × (length buffer ≡ length buffer₀) × (buffer ≡ paste buffer₀ at word done)
+Inv-loop buffer₀ at word size room done₀ buffer done =
+    (done ≤ length word) × (done ≤ room) × (length buffer ≡ length buffer₀) × (buffer ≡ paste buffer₀ at word done)
 
 abbrev μ-loop : tie.MeasureT-loop
-μ-loop buffer₀ at word size done₀ buffer done = length word - done
+μ-loop buffer₀ at word size room done₀ buffer done = length word - done
 
 add-result : tie.Need-add-result Inv-loop μ-loop
 add-result c = omega arith
 
 returns : tie.Need-returns Inv-loop μ-loop
-returns c = (sym (laid-none _ _ _ (omega arith)), sym (after-none _ _ _ (omega arith)))
+returns c = (sym (laid-past _ _ _ (omega arith)), sym (after-none _ _ _ (omega arith)))
+
+loop-holds : tie.Need-loop-holds Inv-loop μ-loop
+loop-holds c = let a = c .before .args in (omega arith, omega arith, omega arith, paste-zero (a .buffer .now) (a .at) (a .word .now))
 
 add-result-2 : tie.Need-add-result-2 Inv-loop μ-loop
 add-result-2 c = omega arith
 
-returns-2 : tie.Need-returns-2 Inv-loop μ-loop
-returns-2 c = (sym (laid-none _ _ _ (omega arith)), sym (after-none _ _ _ (omega arith)))
+same-length : tie.Need-same-length Inv-loop μ-loop
+same-length c = omega arith
 
-loop-holds : tie.Need-loop-holds Inv-loop μ-loop
-loop-holds c = let start = c .before .before in (omega arith, omega arith, paste-zero (start .args .buffer .now) (start .args .at) (start .args .word .now))
+returns-2 : tie.Need-returns-2 Inv-loop μ-loop
+returns-2 c =
+    let a = c .before .before .before .before .args in
+    let loop = c .before .before .loop in
+    let cut : loop .done ≡ length (a .buffer .now) - a .at = omega arith in (
+      loop .inv .3 ∙ ap (paste (a .buffer .now) (a .at) (a .word .now)) cut
+          ∙ sym (laid-cut (a .buffer .now) (a .at) (a .word .now) (omega arith) (omega arith)),
+      sym (after-none _ _ _ (omega arith)),
+    )
 
 shared-slice-read-buffer : tie.Need-shared-slice-read-buffer Inv-loop μ-loop
 shared-slice-read-buffer c = omega arith
@@ -51,28 +61,29 @@ loop-less c = omega arith
 loop-again : tie.Need-loop-again Inv-loop μ-loop
 loop-again c =
     let a = c .before .before .before .before .before .args in
-    let loop = c .before .before .loop in (
+    let loop = c .before .before .before .loop in (
+      omega arith,
       omega arith,
       simp length-set (omega arith),
-      ap (λ (l : List ℕ). set l (a .at + loop .done) (getD (a .word .now) (loop .done) 0)) (loop .inv .2)
+      ap (λ (l : List ℕ). set l (a .at + loop .done) (getD (a .word .now) (loop .done) 0)) (loop .inv .3)
           ∙ paste-suc (a .buffer .now) (a .at) (a .word .now) (loop .done) 0 (omega arith) (omega arith)
-          ∙ ap (λ (k : ℕ). paste (a .buffer .now) (a .at) (a .word .now) k) (sym (add-one (loop .done))),
+          ∙ ap (paste (a .buffer .now) (a .at) (a .word .now)) (sym (add-one (loop .done))),
     )
 
 add-result-3 : tie.Need-add-result-3 Inv-loop μ-loop
 add-result-3 c = omega arith
 
-same-length : tie.Need-same-length Inv-loop μ-loop
-same-length c = omega arith
+same-length-2 : tie.Need-same-length-2 Inv-loop μ-loop
+same-length-2 c = omega arith
 
 returns-3 : tie.Need-returns-3 Inv-loop μ-loop
 returns-3 c =
-    let a = c .before .before .before .before .args in
+    let a = c .before .before .before .args in
     let loop = c .before .loop in
     let all : loop .done ≡ length (a .word .now) = omega arith in
     let room : a .at + length (a .word .now) ≤ length (a .buffer .now) = omega arith in (
-      loop .inv .2 ∙ ap (λ (k : ℕ). paste (a .buffer .now) (a .at) (a .word .now) k) all ∙ sym (laid-whole (a .buffer .now) (a .at) (a .word .now) room),
-      ap (λ (k : ℕ). a .at + k) all ∙ sym (after-room (length (a .buffer .now)) (a .at) (a .word .now) room),
+      loop .inv .3 ∙ ap (paste (a .buffer .now) (a .at) (a .word .now)) all ∙ sym (laid-whole (a .buffer .now) (a .at) (a .word .now) room),
+      omega (arith, after-room (length (a .buffer .now)) (a .at) (a .word .now) room),
     )
 
 pub put-word-spec : {M : Type 1} → statement M
@@ -83,9 +94,10 @@ put-word-spec =
     μ-loop
     add-result
     returns
-    add-result-2
-    returns-2
     loop-holds
+    add-result-2
+    same-length
+    returns-2
     shared-slice-read-buffer
     add-buffer
     slice-write-buffer
@@ -93,5 +105,5 @@ put-word-spec =
     loop-less
     loop-again
     add-result-3
-    same-length
+    same-length-2
     returns-3)

@@ -130,7 +130,3 @@ unfolding fillingWidth
 bitsOf-bytesOf-whole b n e =
     let none : fillingWidth (length b) ≡ 0 = omega arith in
     bitsOf-bytesOf b ∙ ap (λ (k : ℕ). b ++ replicate k false) none ∙ append-nil b
-
--- the filling bits may be written out
-pub bytesOf-filled : (b : List Bool) → bytesOf (b ++ replicate (fillingWidth (length b)) false) ≡ bytesOf b
-bytesOf-filled b = ap bytesOf (sym (bitsOf-bytesOf b)) ∙ bytesOf-bitsOf (bytesOf b) (bytesOf-bytes b)

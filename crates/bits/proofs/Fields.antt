@@ -1,19 +1,17 @@
--- A field read and written: what a written field reads, and that no other bit changes. Assumes nothing.
-use mathlib.Core.Bool.{Bool, true, false, cond, _&&_, and-eq-true-iff, and-false}
-use mathlib.Core.List.{List, [], _∷_, _++_}
-use mathlib.Core.Logic.{_⊎_, inl, inr}
+-- A field read and written, by the bits that it is. Assumes nothing.
+use mathlib.Core.Bool.{Bool, true, false, cond, and-eq-true-iff, and-false}
+use mathlib.Core.List.{List, _++_}
 use mathlib.Core.Path.{_≡_, refl, sym, ap, ap₂, _∙_, subst}
-use Prim.Native.Nat.{ℕ, zero, suc, _+_, _-_, _*_, _%_, _^_, _≤_, _<_}
-use native.Mathlib.Nat.{suc-add, zero-add}
+use Prim.Native.Nat.{ℕ, _+_, _*_, _^_, _≤_, _<_}
 use native.Mathlib.Omega.{arith}
 use borrow.Author.Tests.{leb-true, le-leb, lt-leb}
 use lib.Dec.{leb}
 use lib.ListN.{length, take, drop, length-append, length-drop}
 use lib.Pow.{pow-pos}
-use lib.Seq.{take-at, drop-at, take-add, take-take, take-nil, drop-nil, drop-drop, length-take-le}
+use lib.Seq.{take-at, drop-at, take-add, length-take-le}
 use Rattle.bits.specs.Bits.{bits, value, bitsOf, bytesOf, byteCount, inside, fieldAt, withField}
 use Rattle.bits.proofs.Bytes.{AreBytes, length-bitsOf, bitsOf-bytesOf-whole, bytesOf-bytes, length-bytesOf}
-use Rattle.bits.proofs.Numbers.{length-bits, bits-value, value-lt, value-bits-mod}
+use Rattle.bits.proofs.Numbers.{length-bits, bits-value, value-lt}
 
 -- ---- where a field lies
 
@@ -36,11 +34,6 @@ inside-past s at w h = rw (lt-leb (at + w) (8 * length s) h) refl
 pub inside-wide : (s : List ℕ) (at w : ℕ) → 32 < w → inside s at w ≡ false
 unfolding inside
 inside-wide s at w h = rw (lt-leb w 32 h) (and-false (leb (at + w) (8 * length s)))
-
--- whether a field lies within bytes goes by their number alone
-pub inside-same : (s t : List ℕ) (at w : ℕ) → length s ≡ length t → inside s at w ≡ inside t at w
-unfolding inside
-inside-same s t at w e = ap (λ (n : ℕ). leb (at + w) (8 * n) && leb w 32) e
 
 -- ---- bits with another number's in the place of some
 
@@ -74,27 +67,6 @@ module _ (b : List Bool) (at w v : ℕ) (fits : at + w ≤ length b) where
 
   pub laid-start : take (at + w) (laid b at w v) ≡ take at b ++ bits w v
   laid-start = take-add at w (laid b at w v) ∙ ap₂ (λ (x y : List Bool). x ++ y) laid-before laid-there
-
-  pub laid-after : drop (at + w) (laid b at w v) ≡ drop (at + w) b
-  laid-after =
-      sym (drop-drop w at (laid b at w v)) ∙ ap (drop w) laid-from ∙ drop-at (bits w v) (drop (at + w) b) w (length-bits w v)
-
--- ---- bits that lie within a part of a run go by that part
-
-take-drop : (p w : ℕ) (l : List Bool) → take w (drop p l) ≡ drop p (take (p + w) l)
-take-drop zero w l = ap (λ (n : ℕ). take n l) (sym (zero-add w))
-take-drop (suc p) w [] = take-nil w ∙ sym (drop-nil (suc p)) ∙ ap (drop (suc p)) (sym (take-nil (suc p + w)))
-take-drop (suc p) w (x ∷ l) = take-drop p w l ∙ ap (λ (n : ℕ). drop (suc p) (take n (x ∷ l))) (sym (suc-add p w))
-
-same-before : (n p w : ℕ) (l m : List Bool) → p + w ≤ n → take n l ≡ take n m → take w (drop p l) ≡ take w (drop p m)
-same-before n p w l m h e =
-    take-drop p w l ∙ ap (drop p) (sym (take-take (p + w) n l h) ∙ ap (take (p + w)) e ∙ take-take (p + w) n m h) ∙ sym (take-drop p w m)
-
-same-after : (n p w : ℕ) (l m : List Bool) → n ≤ p → drop n l ≡ drop n m → take w (drop p l) ≡ take w (drop p m)
-same-after n p w l m h e =
-    let far : p ≡ n + (p - n) = omega arith in
-    ap (λ (k : ℕ). take w (drop k l)) far ∙ ap (take w) (sym (drop-drop (p - n) n l) ∙ ap (drop (p - n)) e ∙ drop-drop (p - n) n m)
-    ∙ ap (λ (k : ℕ). take w (drop k m)) (sym far)
 
 -- the two ways a test can come out
 by-test {ℓ} : {X : Type ℓ} (t : Bool) → (t ≡ true → X) → (t ≡ false → X) → X
@@ -159,34 +131,3 @@ module _ (s : List ℕ) (at w : ℕ) where
       by-test (inside s at w)
       (λ e. rw (fieldAt-is e) (subst (λ (n : ℕ). value (take w (drop at (bitsOf s))) < 2 ^ n) (field-length e) (value-lt (take w (drop at (bitsOf s))))))
       (λ e. rw (fieldAt-outside e) (pow-pos w))
-
--- ---- a field that is read after one was written
-
--- the written field holds the last w bits of v
-pub field-written : (s : List ℕ) (at w v : ℕ) → inside s at w ≡ true → fieldAt (withField s at w v) at w ≡ v % 2 ^ w
-field-written s at w v e =
-    fieldAt-is (withField s at w v) at w (inside-same (withField s at w v) s at w (length-withField s at w v) ∙ e)
-    ∙ ap (λ (b : List Bool). value (take w (drop at b))) (bitsOf-withField s at w v e)
-    ∙ ap value (laid-there (bitsOf s) at w v (room s at w v e)) ∙ value-bits-mod w v
-
--- two fields have no bit in common
-abbrev pub Apart : ℕ → ℕ → ℕ → ℕ → Type 0
-Apart at w at′ w′ = (at′ + w′ ≤ at) ⊎ (at + w ≤ at′)
-
-same-bits : (s : List ℕ) (at w v at′ w′ : ℕ) → inside s at w ≡ true → Apart at w at′ w′
-    → take w′ (drop at′ (bitsOf (withField s at w v))) ≡ take w′ (drop at′ (bitsOf s))
-same-bits s at w v at′ w′ e (inl h) =
-    ap (λ (b : List Bool). take w′ (drop at′ b)) (bitsOf-withField s at w v e)
-    ∙ same-before at at′ w′ (laid (bitsOf s) at w v) (bitsOf s) h (laid-before (bitsOf s) at w v (room s at w v e))
-same-bits s at w v at′ w′ e (inr h) =
-    ap (λ (b : List Bool). take w′ (drop at′ b)) (bitsOf-withField s at w v e)
-    ∙ same-after (at + w) at′ w′ (laid (bitsOf s) at w v) (bitsOf s) h (laid-after (bitsOf s) at w v (room s at w v e))
-
--- a field apart from the written one holds what it held
-pub field-apart : (s : List ℕ) (at w v at′ w′ : ℕ) → Apart at w at′ w′ → fieldAt (withField s at w v) at′ w′ ≡ fieldAt s at′ w′
-unfolding fieldAt
-field-apart s at w v at′ w′ h =
-    by-test (inside s at w)
-    (λ e.
-    ap₂ (λ (t : Bool) (b : List Bool). cond t (value b) 0) (inside-same (withField s at w v) s at′ w′ (length-withField s at w v)) (same-bits s at w v at′ w′ e h))
-    (λ e. ap (λ (t : List ℕ). fieldAt t at′ w′) (withField-outside s at w v e))

@@ -4,15 +4,15 @@ use mathlib.Core.Bool.{Bool, true, false}
 use mathlib.Core.List.{List, [], _∷_, _++_, append-assoc, append-nil}
 use mathlib.Core.Path.{_≡_, refl, sym, ap, ap₂, _∙_}
 use Prim.Native.Nat.{ℕ, zero, suc, _+_, _*_, _≤_, _<_}
-use native.Mathlib.Nat.{zero-add, add-assoc, le-of-suc-le-suc, lt-of-lt-of-le}
+use native.Mathlib.Nat.{zero-add, add-assoc, le-of-suc-le-suc}
 use native.Mathlib.Omega.{arith}
-use lib.ListN.{length, take, drop, getD, length-append, length-take, length-drop, length-map, length-replicate, replicate, take-append-drop}
-use lib.Pow.{pow-mono, pow-pos}
+use lib.ListN.{length, take, drop, getD, length-append, length-drop, length-map, length-replicate, replicate, take-append-drop}
+use lib.Pow.{pow-pos}
 use lib.Seq.{take-at, drop-at, take-add, drop-drop, length-take-le, take-all}
 use Rattle.bits.specs.Bits.{bits, value, bitsOf, bytesOf, byteCount, fillingWidth, inside, fieldAt, withField, Field, widths, totalWidth, packedBits, readFields, AllFit}
 use Rattle.bits.proofs.Bytes.{AreBytes, length-bitsOf, bitsOf-injective, bytesOf-bytes, length-bytesOf, bitsOf-bytesOf}
 use Rattle.bits.proofs.Fields.{is-inside, fieldAt-is, bits-fieldAt, bitsOf-withField, laid-start, room}
-use Rattle.bits.proofs.Numbers.{length-bits, bits-zero, bits-value, value-bits, value-lt}
+use Rattle.bits.proofs.Numbers.{length-bits, bits-zero, bits-value, value-bits}
 
 -- ---- how long, and runs joined
 
@@ -34,35 +34,15 @@ unfolding totalWidth
 totalWidth-append [] us = sym (zero-add (totalWidth us))
 totalWidth-append (w ∷ ws) us = ap (λ (n : ℕ). w + n) (totalWidth-append ws us) ∙ sym (add-assoc w (totalWidth ws) (totalWidth us))
 
-pub readFields-append : (ws us : List ℕ) (b : List Bool) → readFields (ws ++ us) b ≡ readFields ws b ++ readFields us (drop (totalWidth ws) b)
-unfolding readFields totalWidth
-readFields-append [] us b = refl
-readFields-append (w ∷ ws) us b =
-    ap (λ (l : List Field). record { width = w; holds = value (take w b) } ∷ l)
-    (readFields-append ws us (drop w b) ∙ ap (λ (c : List Bool). readFields ws (drop w b) ++ readFields us c) (drop-drop (totalWidth ws) w b))
-
 pub widths-append : (fs gs : List Field) → widths (fs ++ gs) ≡ widths fs ++ widths gs
 unfolding widths
 widths-append [] gs = refl
 widths-append (f ∷ fs) gs = ap (λ (l : List ℕ). f .width ∷ l) (widths-append fs gs)
 
-pub AllFit-append : (fs gs : List Field) → AllFit fs → AllFit gs → AllFit (fs ++ gs)
-unfolding AllFit
-AllFit-append [] gs h k = k
-AllFit-append (f ∷ fs) gs h k = (h .0, AllFit-append fs gs (h .1) k)
-
 pub widths-readFields : (ws : List ℕ) (b : List Bool) → widths (readFields ws b) ≡ ws
 unfolding widths readFields
 widths-readFields [] b = refl
 widths-readFields (w ∷ ws) b = ap (λ (l : List ℕ). w ∷ l) (widths-readFields ws (drop w b))
-
--- what is read off fits its width
-pub readFields-fit : (ws : List ℕ) (b : List Bool) → AllFit (readFields ws b)
-unfolding readFields AllFit
-readFields-fit [] b = tt
-readFields-fit (w ∷ ws) b =
-    let short : length (take w b) ≤ w = omega (arith, length-take w b) in
-    (lt-of-lt-of-le (value-lt (take w b)) (pow-mono short), readFields-fit ws (drop w b))
 
 -- ---- both round trips
 
@@ -85,9 +65,6 @@ packedBits-readFields [] b h = refl
 packedBits-readFields (w ∷ ws) b h =
     ap₂ (λ (x y : List Bool). x ++ y) (bits-value w (take w b) (length-take-le w b (omega arith)))
     (packedBits-readFields ws (drop w b) (omega (arith, length-drop w b))) ∙ sym (take-add w (totalWidth ws) b)
-
-pub packedBits-readFields-all : (ws : List ℕ) (b : List Bool) → length b ≡ totalWidth ws → packedBits (readFields ws b) ≡ b
-packedBits-readFields-all ws b e = packedBits-readFields ws b (omega arith) ∙ take-all (totalWidth ws) b (omega arith)
 
 -- ---- fields by their positions
 

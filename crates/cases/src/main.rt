@@ -1,6 +1,7 @@
 // The cases of document 01 that are not starred, and the published examples, worked by direct calls and compared: a line for each, and last their count.
 mod first;
 mod packed;
+mod printed;
 mod same;
 mod second;
 
@@ -11,12 +12,13 @@ use first::first_as_expected;
 use libc::STDOUT_FILENO;
 use second::second_as_expected;
 
-const CASES: u64 = 13;
+const CASES: u64 = 17;
 
 fn main() {
     let document = case_8() + case_9() + case_10();
+    let accepted = codes_2_and_3();
     let published = book_000_example_1() + book_000_example_2() + book_001_example_8_1();
-    io::print_decimal(STDOUT_FILENO, document + published);
+    io::print_decimal(STDOUT_FILENO, document + accepted + published);
     io::write_all(STDOUT_FILENO, b" of ");
     io::print_decimal(STDOUT_FILENO, CASES);
     io::write_all(STDOUT_FILENO, b" cases as expected\n");
@@ -62,6 +64,27 @@ fn case_10() -> u64
         + tell(
             b"case 10: a kind 1 sheet of code 1 with 27 bytes gives 12",
             packed::one_byte_more_gives_12(),
+        )
+}
+
+fn codes_2_and_3() -> u64
+    ensures { λ r. ⌜ r ≤ 4 ⌝ }
+{
+    tell(
+        b"code 2, n = 3, a sheet of kind 1",
+        printed::point_in_triangle_first(),
+    )
+        + tell(
+            b"code 2, n = 3, a sheet of kind 2",
+            printed::point_in_triangle_second(),
+        )
+        + tell(
+            b"code 3, n = 3, a sheet of kind 1",
+            printed::central_triangle_first(),
+        )
+        + tell(
+            b"code 3, n = 3, a sheet of kind 2",
+            printed::central_triangle_second(),
         )
 }
 

@@ -1,11 +1,7 @@
 // The cases of packed bytes. The slices lent to the reader are those of kind 1 and code 1.
+use crate::printed::prints;
 use reading::read_sheet;
-use report::Reported;
-use report::report;
 use sheets::Reading;
-
-// How long "refused 12 0" is with its line feed; number 12 has no place.
-const REFUSED_12_LENGTH: usize = 13;
 
 pub fn no_bytes_give_12() -> bool {
     gives_12(b"")
@@ -43,14 +39,5 @@ fn number_read(sheet: &[u8]) -> u32 {
             figure: _,
             limit_or_tolerance: _,
         } => 0,
-    }
-}
-
-// Whether a sheet's text is exactly these bytes, as many as a refusal with number 12 has.
-fn prints(sheet: &[u8], expected: &[u8]) -> bool {
-    let mut text = [0; REFUSED_12_LENGTH];
-    match report(sheet, &mut text) {
-        Reported::Written(_) => check::same(&text, expected),
-        Reported::NoRoom => false,
     }
 }

@@ -1,21 +1,23 @@
--- Laws of columns: what stands at an index, and what is stored of one and found in it. Assumes nothing.
-use mathlib.Core.Path.{_≡_, sym, ap, ap₂, _∙_}
-use mathlib.Core.List.{List}
+-- Laws of columns: what stands at an index, what is stored of one, and its first numbers. Assumes nothing.
+use mathlib.Core.Path.{_≡_, refl, ap, ap₂, _∙_}
+use mathlib.Core.List.{List, _∷_}
 use Prim.Native.Nat.{ℕ, zero, suc, _≤_, _<_}
-use native.Mathlib.Nat.{lt-of-lt-of-le}
-use native.Mathlib.Omega.{arith}
+use native.Mathlib.Nat.{lt-of-lt-of-le, le-of-suc-le-suc, not-suc-le-zero}
 use lib.IntN.{ℤ, pos}
+use lib.ListN.{length, take}
 use Rattle.whole.specs.Lists.{listed}
 use Rattle.whole.specs.Sums.{vector}
-use Rattle.whole.proofs.Lists.{getD-listed, listed-ext}
-use Rattle.refusals.specs.Order.{lowestPlace, numbered, outsideSigned}
-use Rattle.refusals.proofs.Places.{lowest-agrees}
+use Rattle.whole.proofs.Lists.{length-listed, getD-listed, listed-ext}
 use Rattle.figures.specs.Numerators.{mostAngles}
 use Rattle.columns.specs.Column.{column}
 
 pub column-at : (f : ℕ → ℤ) (i : ℕ) → i < mostAngles → vector (column f) i ≡ f i
 unfolding column
 column-at f i h = getD-listed mostAngles f i (pos 0) h
+
+pub column-length : (f : ℕ → ℤ) → length (column f) ≡ mostAngles
+unfolding column
+column-length f = length-listed mostAngles f
 
 pub column-ext : (f g : ℕ → ℤ) → ((i : ℕ) → i < mostAngles → f i ≡ g i) → column f ≡ column g
 unfolding column
@@ -28,12 +30,13 @@ stored-column g read x count n e h few =
     ap₂ (λ (l : List ℤ) (k : ℕ). listed k (λ i. read (vector l i))) e h
     ∙ listed-ext n _ _ (λ i b. ap read (column-at g i (lt-of-lt-of-le b few)))
 
--- a search over a column is the search over its rule
-pub column-search : (g : ℕ → ℤ) (least most : ℤ) (count : ℕ) → count ≤ mostAngles
-    → lowestPlace (λ place. outsideSigned least most (numbered (listed count g) place (pos 0))) count ≡ lowestPlace (λ place. outsideSigned least most (numbered (column g) place (pos 0))) count
-column-search g least most count few =
-    lowest-agrees _ _ count (λ place from to. ap (outsideSigned least most) (same place from to))
-  where
-    same : (place : ℕ) → 1 ≤ place → place ≤ count → numbered (listed count g) place (pos 0) ≡ numbered (column g) place (pos 0)
-    same zero from to = absurd (omega arith)
-    same (suc i) from to = getD-listed count g i (pos 0) to ∙ sym (column-at g i (lt-of-lt-of-le to few))
+-- the first of a column are its rule, listed
+take-listed : (n m : ℕ) (g : ℕ → ℤ) → n ≤ m → take n (listed m g) ≡ listed n g
+unfolding listed
+take-listed zero m g h = refl
+take-listed (suc n) zero g h = absurd (not-suc-le-zero h)
+take-listed (suc n) (suc m) g h = ap (λ (l : List ℤ). g zero ∷ l) (take-listed n m (λ i. g (suc i)) (le-of-suc-le-suc h))
+
+pub take-column : (n : ℕ) (g : ℕ → ℤ) → n ≤ mostAngles → take n (column g) ≡ listed n g
+unfolding column
+take-column n g few = take-listed n mostAngles g few

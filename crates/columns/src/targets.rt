@@ -1,7 +1,7 @@
 // What the angles of each condition should sum to, taken away from their sum.
 ghost use mathlib.Core.Path.{_≡_};
 ghost use lib.IntN.{pos, negℤ};
-ghost use Rattle.refusals.specs.Order.{numbered};
+ghost use Rattle.refusals.specs.Numbers.{numbered};
 ghost use Rattle.figures.specs.Figure.{targetOf};
 ghost use Rattle.figures.specs.Numerators.{mostConditions};
 ghost use Rattle.figures.specs.declared.Target.the-variants.{NoCondition};

@@ -19,7 +19,7 @@ pub fn column_of(values: &[u32]) -> Column
     out
 }
 
-pub fn value_at(values: &[u32], i: usize) -> i64
+pub(crate) fn value_at(values: &[u32], i: usize) -> i64
     ensures { λ r. ⌜ r ≡ given (now (values .entry)) i ⌝ }
 {
     if i < values.len() {

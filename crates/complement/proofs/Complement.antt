@@ -116,17 +116,6 @@ module _ (w : ℕ) (some : 1 ≤ w) (narrow : w ≤ 32) where
   twosComplement-signedOf v h =
       elim (decLe (halfRange w) v) [ yes k ↦ high-back v k (omega (arith, whole-range w some narrow)) | no k ↦ low-back v (lt-of-not-le k) ]
 
-  -- what is read is in the range
-  pub signedOf-mag : (v : ℕ) → mag (signedOf w v) < 2 ^ (w - 1)
-  signedOf-mag v =
-      elim (decLe (halfRange w) v) [
-        | yes h ↦ elim (decLe (2 * halfRange w) v) [
-          | yes k ↦ rw (signed-beyond w v k) (pow-pos (w - 1))
-          | no k ↦ rw (signed-high w v h (lt-of-not-le k)) (omega (arith, half-is w some narrow))
-        ]
-        | no h ↦ rw (signed-low w v (lt-of-not-le h)) (omega (arith, half-is w some narrow))
-      ]
-
 held-lt : (w : ℕ) (z : ℤ) → mag z < halfRange w → twosComplement w z < 2 ^ w
 held-lt w (pos n) h = rw (complement-pos w n h) (omega (arith, range-le w))
 held-lt w (negsuc n) h = rw (complement-neg w n h) (omega (arith, range-le w))

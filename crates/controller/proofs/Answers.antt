@@ -1,72 +1,53 @@
--- What an answer tells: it is 0 exactly if all is done; number and place can be taken apart again; and two results that one promise allows are equal.
-use Prim.Native.Nat.{ℕ, _+_, _*_, _/_, _%_, _≤_, _<_}
-use mathlib.Core.Bool.{Bool, false, cond}
+-- What an answer tells: number and place can be taken apart again, and it is 0 exactly if all is done. Assumes nothing.
+use Prim.Native.Nat.{ℕ, _+_, _*_, _/_, _%_, _<_}
 use mathlib.Core.List.{List}
-use mathlib.Core.Path.{_≡_, refl, sym, ap, _∙_}
+use mathlib.Core.Path.{_≡_, refl, sym, ap, ap₂, _∙_}
+use native.Mathlib.Nat.{lt-of-le-of-lt}
 use native.Mathlib.Omega.{arith}
-use borrow.Author.Tests.{ne-eqb}
-use lib.Dec.{eqb}
+use lib.Dec.{T, lit<}
 use Rattle.refusals.specs.declared.Refusal.{Refusal}
 use Rattle.refusals.specs.declared.Verdict.{Verdict}
 use Rattle.refusals.specs.declared.Verdict.the-variants.{Passed, Failed}
-use Rattle.refusals.specs.Numbers.{numberOf, placeOf}
-use Rattle.controller.specs.Answer.{placeStep, numberAndPlace, answerNumber, afterAnswer}
-
-pub record FromTable (number : ℕ) : Type 0 where
-  pub first : 1 ≤ number
-  pub last : number ≤ 13
-
-pub from-table : (r : Refusal) → FromTable (numberOf r)
-from-table Refusal.NoSuchFigure = record { first = omega arith; last = omega arith }
-from-table Refusal.WrongLength = record { first = omega arith; last = omega arith }
-from-table Refusal.LimitOrToleranceOutOfRange = record { first = omega arith; last = omega arith }
-from-table (Refusal.AngleOutOfRange p) = record { first = omega arith; last = omega arith }
-from-table (Refusal.FixedAngleOutOfRange p) = record { first = omega arith; last = omega arith }
-from-table (Refusal.MisclosureBeyondLimit p) = record { first = omega arith; last = omega arith }
-from-table (Refusal.ResultOutOfRange p) = record { first = omega arith; last = omega arith }
-from-table (Refusal.SineEntryOutOfRange p) = record { first = omega arith; last = omega arith }
-from-table Refusal.SineMisclosureBeyondTolerance = record { first = omega arith; last = omega arith }
-from-table Refusal.SumOfSquaresIsZero = record { first = omega arith; last = omega arith }
-from-table Refusal.NoSuchKind = record { first = omega arith; last = omega arith }
-from-table Refusal.WrongSheetLength = record { first = omega arith; last = omega arith }
-from-table Refusal.FillingBitSet = record { first = omega arith; last = omega arith }
-
--- a refusal is never 0
-pub never-done : (r : Refusal) → eqb (numberAndPlace r) 0 ≡ false
-unfolding numberAndPlace
-never-done r = ne-eqb (numberOf r * placeStep + placeOf r) 0 (λ e. omega (arith, from-table r .first))
-
--- a refusal leaves what was lent
-pub kept : {A : Type 0} (r : Refusal) (new old : List A) → afterAnswer (numberAndPlace r) new old ≡ old
-kept r new old = ap (λ (b : Bool). cond b new old) (never-done r)
-
--- an answer of one of the refusals leaves what was lent
-pub kept-by : {A : Type 0} {answer : ℕ} (r : Refusal) (new old : List A) → answer ≡ numberAndPlace r → old ≡ afterAnswer answer new old
-kept-by r new old e = sym (ap (λ (k : ℕ). afterAnswer k new old) e ∙ kept r new old)
-
--- what goes by a verdict goes by its answer
-pub by-answer : {A : Type 0} (after : Verdict → List A) (v : Verdict) {answer : ℕ} (new old : List A) {left : List A}
-    → after Passed ≡ new → ((r : Refusal) → after (Failed r) ≡ old) → answer ≡ answerNumber v → left ≡ after v → left ≡ afterAnswer answer new old
-by-answer after Passed new old done refused e h = h ∙ done ∙ sym (ap (λ (k : ℕ). afterAnswer k new old) e)
-by-answer after (Failed r) new old done refused e h = h ∙ refused r ∙ kept-by r new old e
+use Rattle.refusals.specs.Numbers.{placeOf, Told, told, refusalTold, verdictTold}
+use Rattle.refusals.specs.Order.{Row, allInTable, judged}
+use Rattle.refusals.proofs.PlaceBounds.{PlacesWithin, place-within}
+use Rattle.refusals.proofs.Rows.{passed-told}
+use Rattle.figures.specs.Numerators.{mostAngles}
+use Rattle.controller.specs.Answer.{placeStep, answerNumber, answerTold}
+use Rattle.controller.specs.Promises.{answerBy}
 
 -- number and place of an answer
-pub number-told : (r : Refusal) → placeOf r < placeStep → numberAndPlace r / placeStep ≡ numberOf r
-unfolding numberAndPlace
-number-told r small = omega arith
+pub told-again : (t : Told) → t .place < placeStep → answerTold (answerNumber t) ≡ t
+unfolding answerNumber answerTold
+told-again t small =
+    let number-is : (t .number * placeStep + t .place) / placeStep ≡ t .number = omega arith in
+    let place-is : (t .number * placeStep + t .place) % placeStep ≡ t .place = omega arith in
+    ap₂ told number-is place-is
 
-pub place-told : (r : Refusal) → placeOf r < placeStep → numberAndPlace r % placeStep ≡ placeOf r
-unfolding numberAndPlace
-place-told r small = omega arith
+-- done is answered as 0
+pub done-number : answerNumber (told 0 0) ≡ 0
+unfolding answerNumber
+done-number = refl
 
 -- a lent slice of the wrong length
-pub wrong-length-is : numberAndPlace Refusal.WrongLength ≡ 512
-unfolding numberAndPlace
+pub wrong-length-is : answerNumber (refusalTold Refusal.WrongLength) ≡ 512
+unfolding answerNumber
 wrong-length-is = refl
 
--- two results that the promise of a function allows are equal: the answers, and what is left of anything lent
-pub decided : {A : Type 0} {promised answer answer′ : ℕ} (new old : List A) {left left′ : List A} → answer ≡ promised → answer′ ≡ promised
-    → left ≡ afterAnswer answer new old → left′ ≡ afterAnswer answer′ new old → (answer ≡ answer′) × (left ≡ left′)
-decided new old p q x y =
-    let same = p ∙ sym q in
-    (same, x ∙ ap (λ (k : ℕ). afterAnswer k new old) same ∙ sym y)
+-- ---- an order with no more places than a figure has angles
+
+module _ (rows : List Row) (ok : T (allInTable rows)) (within : PlacesWithin mostAngles rows) where
+  pub place-small : verdictTold (judged rows) .place < placeStep
+  place-small = lt-of-le-of-lt (place-within mostAngles rows ok within) (lit< tt)
+
+  pub refusal-small : {refusal : Refusal} → judged rows ≡ Failed refusal → placeOf refusal < placeStep
+  refusal-small e = rw (sym (ap (λ (v : Verdict). verdictTold v .place) e)) place-small
+
+  -- what C is answered tells what the order is judged to be
+  pub answer-tells : {answer : ℕ} → answer ≡ answerBy rows → answerTold answer ≡ verdictTold (judged rows)
+  answer-tells e = ap answerTold e ∙ told-again (verdictTold (judged rows)) place-small
+
+  -- and 0 that no row holds
+  pub answered-done : answerBy rows ≡ 0 → judged rows ≡ Passed
+  unfolding answerTold
+  answered-done e = passed-told (judged rows) (sym (told-again (verdictTold (judged rows)) place-small) ∙ ap answerTold e)

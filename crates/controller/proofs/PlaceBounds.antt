@@ -1,56 +1,63 @@
--- No place that is answered is above 24, the most angles that a figure has: a test with places comes after the test of the lengths, or searches no
--- more places than the figure has. So the place of an answer stays below 256.
-use Prim.Native.Nat.{ℕ, _≤_, _<_, zero-le}
-use mathlib.Core.Bool.{Bool, not, _&&_, and-eq-true-iff}
+-- No place that is answered is above 24, the most angles that a figure has: a row with places comes after that of the lengths, or has no more places than
+-- the figure. So the place of an answer stays below 256. Assumes nothing.
+use Prim.Native.Nat.{ℕ, _≤_}
+use mathlib.Core.Bool.{Bool, true, false, cond}
 use mathlib.Core.List.{List, [], _∷_, _++_}
-use mathlib.Core.Path.{_≡_, refl, sym, ap, subst}
+use mathlib.Core.Path.{_≡_}
 use native.Mathlib.Omega.{arith}
-use borrow.Author.Tests.{not-false}
-use lib.Dec.{eqb}
+use lib.Dec.{T, eqb}
 use lib.ListN.{length}
-use lib.IntN.{ℤ}
-use Rattle.refusals.specs.declared.Refusal.{Refusal}
-use Rattle.refusals.specs.declared.Verdict.{Verdict}
-use Rattle.refusals.specs.declared.Verdict.the-variants.{Passed, Failed}
-use Rattle.refusals.specs.Numbers.{placeOf}
-use Rattle.refusals.specs.Order.{answerOf, failsIf}
-use Rattle.refusals.proofs.Verdicts.{if-passes}
+use Rattle.refusals.specs.Order.{allInTable}
+use Rattle.refusals.proofs.Nowhere.{same-lengths}
+use Rattle.refusals.proofs.PlaceBounds.{PlacesWithin}
 use Rattle.figures.specs.declared.Figure.{Figure}
 use Rattle.figures.specs.declared.Named.{Named}
 use Rattle.figures.specs.declared.Named.the-variants.{As, Nothing}
-use Rattle.figures.specs.Figure.{figureOf, angleCount, fixedCount}
+use Rattle.figures.specs.Figure.{angleCount, fixedCount, figureOf, ofNamed}
 use Rattle.figures.specs.Numerators.{mostAngles}
 use Rattle.figures.proofs.Figures.{angle-bound}
 use Rattle.layout.specs.declared.Kind.{Kind}
 use Rattle.layout.specs.declared.Kind.the-variants.{FirstPass, SecondPass}
-use Rattle.layout.specs.declared.Lengths.{Lengths}
 use Rattle.layout.specs.Layout.{lengthsOf, sheetSize}
-use Rattle.heads.specs.Head.{kindOf, kindOrOther, figureOrOther, headTests, nameTests}
-use Rattle.sheets.specs.Sheet.{Values}
-use Rattle.sheets.specs.Judging.{readerTests, valueTests, givenTests, writerTests, writingOf, lengthsGiven, sameLengths}
-use Rattle.sheets.proofs.Accepted.{equal-lengths}
 use Rattle.layout.proofs.Sizes.{fixed-bound}
-use Rattle.method.specs.Pass as pass
-use Rattle.method.specs.FirstPass.{firstLengths, firstTests, firstPassTests, firstPassVerdict}
-use Rattle.method.specs.SecondPass.{secondLengths, secondTests, secondPassTests, secondPassVerdict}
-use Rattle.method.proofs.LengthLaws.{same-lists}
-use Rattle.report.proofs.PlaceBounds.{PlaceWithin, TestsWithin, if-within, _then_, once-passed, append-within, names-within, values-within, head-within, reader-within, first-within, second-within}
-use Rattle.controller.specs.Answer.{placeStep, placeIn}
+use Rattle.heads.specs.declared.Look.{Look}
+use Rattle.heads.specs.declared.Look.the-variants.{Head}
+use Rattle.heads.specs.Head.{headRows, headOf, lookOf, ofHead}
+use Rattle.sheets.specs.Sheet.{Values}
+use Rattle.sheets.specs.Judging.{ownLengths, lengthsGiven, bodyRows, readerRows, givenRows, writerRows}
+use Rattle.sheets.proofs.Refusals.{reader-in-table}
+use Rattle.method.specs.FirstPass.{firstLengths, firstRows, firstPassRows}
+use Rattle.method.specs.SecondPass.{secondLengths, secondRows, secondPassRows}
+use Rattle.method.proofs.Refusals.{second-in-table}
+use Rattle.passes.specs.Promises.{FirstGiven, FirstLent, firstLengthsLent, firstRowsOf, SecondGiven, secondLengthsLent}
+use Rattle.report.proofs.PlaceBounds as pages
+use Rattle.controller.specs.Answer.{lengthsWith}
+use Rattle.controller.specs.Promises.{lookRows, ReadLent, readRows, SumsLent, sumsRows, TextLent, reportRows}
 
-abbrev Small : Verdict → Type 0
-Small v = placeIn v ≤ mostAngles
+-- ---- a look, the reader
 
-small : (v : Verdict) → PlaceWithin v → Small v
-small Passed h = zero-le
-small (Failed refusal) h = h
+pub look-in-table : (sheet head : List ℕ) → T (allInTable (lookRows sheet head))
+unfolding headRows
+look-in-table sheet head = tt
 
--- ---- reader and writer
+pub look-within : (sheet head : List ℕ) → PlacesWithin mostAngles (lookRows sheet head)
+look-within sheet head = pages.head-within sheet _ (λ lengths. tt)
 
-pub looked-small : (s : List ℕ) → Small (answerOf (headTests s))
-looked-small s = small (answerOf (headTests s)) (head-within s .answer)
+pub reader-within : (sheet lent : List ℕ) → PlacesWithin mostAngles (readerRows sheet lent)
+unfolding readerRows bodyRows
+reader-within sheet lent = pages.head-within sheet _ (go (lookOf sheet))
+  where
+    go : (found : Look) → PlacesWithin mostAngles (ofHead found [] (λ kind f. bodyRows kind f sheet lent))
+    go (Head kind f) = pages.body-within kind f sheet lent [] tt
+    go (Look.Refused refusal) = tt
 
-pub reader-small : (s : List ℕ) (lent : Lengths) → Small (answerOf (readerTests s lent))
-reader-small s lent = small (answerOf (readerTests s lent)) (reader-within s lent .answer)
+pub read-in-table : (sheet : List ℕ) (lent : ReadLent) → T (allInTable (readRows sheet lent))
+read-in-table sheet lent = reader-in-table sheet _
+
+pub read-within : (sheet : List ℕ) (lent : ReadLent) → PlacesWithin mostAngles (readRows sheet lent)
+read-within sheet lent = reader-within sheet _
+
+-- ---- the writer
 
 fixed-few : (f : Figure) → fixedCount f ≤ mostAngles
 fixed-few f = omega (arith, fixed-bound f)
@@ -63,81 +70,64 @@ pub sines-in-few : (kind : Kind) (f : Figure) → lengthsOf kind f .«log_sines�
 sines-in-few FirstPass f = omega arith
 sines-in-few SecondPass f = angle-bound f
 
-given-within : (kind : Kind) (f : Figure) (v : Values) (size : ℕ) → TestsWithin (givenTests kind f v size)
-unfolding givenTests
-given-within kind f v size =
-    let same = sameLengths (lengthsGiven v) (lengthsOf kind f) in
-    let sized = eqb size (sheetSize kind f) in
-    let lengths-test = if-within (not (same && sized)) Refusal.WrongLength zero-le in
-    once-passed (failsIf (not (same && sized)) Refusal.WrongLength) (valueTests kind v) lengths-test (λ e.
-    let right = and-eq-true-iff same sized .0 (not-false (same && sized) (if-passes (not (same && sized)) Refusal.WrongLength .0 e)) in
-    let lengths = equal-lengths (lengthsGiven v) (lengthsOf kind f) (right .0) in
-    lengths-test
-    then values-within kind v
-    (omega (arith, ap (λ (l : Lengths). l .angles) lengths, angle-bound f))
-    (omega (arith, ap (λ (l : Lengths). l .fixed) lengths, fixed-in-few kind f))
-    (omega (arith, ap (λ (l : Lengths). l .«log_sines») lengths, sines-in-few kind f)))
-
-pub writer-small : (kind code n : ℕ) (v : Values) (size : ℕ) → Small (writingOf kind code n v size)
-unfolding writingOf writerTests
-writer-small kind code n v size =
-    let given = givenTests (kindOrOther (kindOf kind)) (figureOrOther (figureOf code n)) v size in
-    small (answerOf (nameTests kind code n ++ given))
-    (append-within (nameTests kind code n) given (names-within kind code n) (given-within (kindOrOther (kindOf kind)) (figureOrOther (figureOf code n)) v size) .answer)
+pub write-within : (kind code n : ℕ) (v : Values) (size : ℕ) → PlacesWithin mostAngles (writerRows kind code n v size)
+unfolding writerRows givenRows
+write-within kind code n v size = λ no-kind no-figure. go (headOf kind code n)
+  where
+    go : (found : Look) → PlacesWithin mostAngles (ofHead found [] (λ k f. givenRows k f v size))
+    go (Head k f) = λ lengths range. (
+        let same = same-lengths (lengthsGiven v ++ (size ∷ [])) (ownLengths k f ++ (sheetSize k f ∷ [])) lengths in
+        let by-angle : length (v .angles) ≡ lengthsOf k f .angles = cc in
+        let by-fixed : length (v .fixed) ≡ lengthsOf k f .fixed = cc in
+        let by-sine : length (v .logSines) ≡ lengthsOf k f .«log_sines» = cc in (
+          omega (arith, by-angle, angle-bound f),
+          λ angles. (omega (arith, by-fixed, fixed-in-few k f), λ fixed. (omega (arith, by-sine, sines-in-few k f), λ sines. tt)),
+        )
+        )
+    go (Look.Refused refusal) = tt
 
 -- ---- the passes
 
-right-lengths : (lent own : List ℕ) → pass.lengthsTest lent own ≡ Passed → lent ≡ own
-right-lengths lent own e = same-lists lent own (not-false (pass.sameLengths lent own) (if-passes (not (pass.sameLengths lent own)) Refusal.WrongLength .0 e))
+pub first-within : (given : FirstGiven) (lent : FirstLent) → PlacesWithin mostAngles (firstRowsOf given lent)
+unfolding firstPassRows
+first-within given lent = λ no-figure. go (figureOf (given .code) (given .n))
+  where
+    go : (named : Named)
+        → PlacesWithin mostAngles (ofNamed named [] (λ f. firstRows f (given .limit) (given .angles) (given .fixed) (firstLengthsLent given lent)))
+    go Nothing = tt
+    go (As f) =
+        pages.first-within f (given .limit) (given .angles) (given .fixed) (firstLengthsLent given lent) (λ lengths.
+        let same = same-lengths (firstLengthsLent given lent) (firstLengths f) lengths in
+        let by-angle : length (given .angles) ≡ angleCount f = cc in
+        let by-fixed : length (given .fixed) ≡ fixedCount f = cc in
+        (omega (arith, by-angle, angle-bound f), omega (arith, by-fixed, fixed-few f)))
 
--- number 1, and then the tests of the figure
-named-small : (named : Named) (tests : Figure → List Verdict) → ((f : Figure) → TestsWithin (tests f))
-    → Small (answerOf (pass.ofNamed named (Failed Refusal.NoSuchFigure ∷ []) (λ f. Passed ∷ tests f)))
-unfolding answerOf
-named-small Nothing tests each = zero-le
-named-small (As f) tests each = small (answerOf (tests f)) (each f .answer)
+-- the lengths that are judged are those of the slices, or none
+judged-lengths : (b : Bool) (f : Figure) (given : SecondGiven) (others : List ℕ)
+    → cond b (length (given .angles) ∷ length (given .logSines) ∷ others) [] ≡ secondLengths f
+    → (length (given .angles) ≤ mostAngles) × (length (given .logSines) ≤ mostAngles)
+judged-lengths true f given others same =
+    let by-angle : length (given .angles) ≡ angleCount f = cc in
+    let by-sine : length (given .logSines) ≡ angleCount f = cc in
+    (omega (arith, by-angle, angle-bound f), omega (arith, by-sine, angle-bound f))
+judged-lengths false f given others same = absurd (let z : _≡_ {A = ℕ} 0 1 = cc in omega arith)
 
-module _ (angles fixed others : List ℕ) where
-  abbrev first-lent : List ℕ
-  first-lent = length angles ∷ length fixed ∷ others
+pub sums-in-table : (given : SecondGiven) (lent : SumsLent) → T (allInTable (sumsRows given lent))
+sums-in-table given lent = second-in-table (given .code) (given .n) (given .tolerance) (given .angles) (given .logSines) (given .differences) _
 
-  figure-first : (f : Figure) (limit : ℕ) → TestsWithin (firstTests f limit angles fixed first-lent)
-  unfolding firstTests
-  figure-first f limit =
-      once-passed _ _ (if-within (not (pass.sameLengths first-lent (firstLengths f))) Refusal.WrongLength zero-le) (λ e.
-      let same = right-lengths first-lent (firstLengths f) e in
-      let by-angle : length angles ≡ angleCount f = cc in
-      let by-fixed : length fixed ≡ fixedCount f = cc in
-      first-within f limit angles fixed first-lent (omega (arith, by-angle, angle-bound f)) (omega (arith, by-fixed, fixed-few f)))
+pub sums-within : (given : SecondGiven) (lent : SumsLent) → PlacesWithin mostAngles (sumsRows given lent)
+unfolding secondPassRows
+sums-within given lent = λ no-figure. go (figureOf (given .code) (given .n))
+  where
+    go : (named : Named)
+        → PlacesWithin mostAngles (ofNamed named [] (λ f. secondRows f (given .tolerance) (given .angles) (given .logSines) (given .differences)
+        (lengthsWith (length (lent .sums)) 2 (secondLengthsLent given (lent .values)))))
+    go Nothing = tt
+    go (As f) =
+        pages.second-within f (given .tolerance) (given .angles) (given .logSines) (given .differences) _ (λ lengths.
+        judged-lengths (eqb (length (lent .sums)) 2) f given _ (same-lengths _ (secondLengths f) lengths))
 
-  pub first-pass-small : (code n limit : ℕ) → Small (firstPassVerdict code n limit angles fixed first-lent)
-  unfolding firstPassVerdict firstPassTests
-  first-pass-small code n limit = named-small (figureOf code n) (λ f. firstTests f limit angles fixed first-lent) (λ f. figure-first f limit)
+-- ---- a sheet's text
 
-module _ (angles logSines : List ℕ) (differences : List ℤ) (others : List ℕ) where
-  abbrev second-lent : List ℕ
-  second-lent = length angles ∷ length logSines ∷ length differences ∷ others
-
-  figure-second : (f : Figure) (tolerance : ℕ) → TestsWithin (secondTests f tolerance angles logSines differences second-lent)
-  unfolding secondTests
-  figure-second f tolerance =
-      once-passed _ _ (if-within (not (pass.sameLengths second-lent (secondLengths f))) Refusal.WrongLength zero-le) (λ e.
-      let same = right-lengths second-lent (secondLengths f) e in
-      let by-angle : length angles ≡ angleCount f = cc in
-      let by-log-sine : length logSines ≡ angleCount f = cc in
-      let by-difference : length differences ≡ angleCount f = cc in
-      second-within f tolerance angles logSines differences second-lent (omega (arith, by-angle, angle-bound f)) (omega (arith, by-log-sine, angle-bound f)) (omega (arith, by-difference, angle-bound f)))
-
-  pub second-pass-small : (code n tolerance : ℕ) → Small (secondPassVerdict code n tolerance angles logSines differences second-lent)
-  unfolding secondPassVerdict secondPassTests
-  second-pass-small code n tolerance = named-small (figureOf code n) (λ f. secondTests f tolerance angles logSines differences second-lent) (λ f. figure-second f tolerance)
-
--- ---- what is answered
-
-pub place-fits : {promised v : Verdict} → v ≡ promised → Small promised → placeIn v < placeStep
-place-fits {v} e fits =
-    let there : placeIn v ≤ mostAngles = subst Small (sym e) fits in
-    omega arith
-
-pub refusal-fits : {r : Refusal} {promised : Verdict} → promised ≡ Failed r → Small promised → placeOf r < placeStep
-refusal-fits e fits = place-fits (sym e) fits
+pub report-within : (sheet : List ℕ) (lent : TextLent) → PlacesWithin mostAngles (reportRows sheet lent)
+report-within sheet lent = λ lengths room. tt

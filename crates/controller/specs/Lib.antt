@@ -1,4 +1,2 @@
 pub mod Answer
-pub mod Heads
-pub mod Reporting
-pub mod Working
+pub mod Promises

@@ -1,14 +1,12 @@
 // A look at the head of a sheet: what it is for, and how long the slices are that its values need.
 ghost use mathlib.Core.Path.{_≡_};
-ghost use lib.ListN.{length};
-ghost use Rattle.layout.specs.Layout.{numberOfKind};
-ghost use Rattle.controller.specs.Answer.{afterAnswer};
-ghost use Rattle.controller.specs.Heads.{lookAnswer, lookHead, headLooked};
+ghost use Rattle.controller.specs.Promises.{lookHead, LookPromise};
 use crate::answer::DONE;
 use crate::answer::refused;
 use crate::stores::store;
 use figures::Figure;
 use figures::name_of;
+use heads::number_of_kind;
 use refusals::Refusal;
 use sheets::Kind;
 use sheets::Look;
@@ -18,15 +16,6 @@ use tables::counts_of;
 
 // Kind, code, n, and how many angles, fixed angles, log-sines and conditions.
 const HEAD_LENGTH: usize = 7;
-
-pub fn number_of_kind(kind: Kind) -> u32
-    ensures { λ number. ⌜ number ≡ numberOfKind kind ⌝ }
-{
-    match kind {
-        Kind::FirstPass => 1,
-        Kind::SecondPass => 2,
-    }
-}
 
 fn head_of(kind: Kind, figure: Figure) -> [u32; HEAD_LENGTH]
     ensures { λ head. ⌜ head ≡ lookHead kind figure ⌝ }
@@ -49,8 +38,7 @@ fn head_of(kind: Kind, figure: Figure) -> [u32; HEAD_LENGTH]
 // Does not look at the sheet's size: the reader does.
 #[no_mangle]
 pub extern "C" fn bienguloc_look(sheet: &[u8], head: &mut [u32]) -> u32
-    ensures { λ answer. ⌜ answer ≡ lookAnswer (now (sheet .entry)) (length (now (head .entry))) ⌝ }
-    ensures { λ answer. ⌜ now (head .exit) ≡ afterAnswer answer (headLooked (now (sheet .entry))) (now (head .entry)) ⌝ }
+    ensures { λ answer. ⌜ LookPromise (now (sheet .entry)) (now (head .entry)) answer (now (head .exit)) ⌝ }
 {
     match look_at(sheet) {
         Look::Refused(refusal) => refused(refusal),

@@ -1,17 +1,18 @@
 // The reader for C: what the sheet's head and its L or e say is lent a slice too.
 ghost use mathlib.Core.Path.{_≡_};
-ghost use lib.ListN.{length};
+ghost use mathlib.Core.List.{[], _∷_};
+ghost use Rattle.figures.specs.Figure.{description};
+ghost use Rattle.layout.specs.Layout.{numberOfKind};
 ghost use Rattle.sheets.specs.declared.Reading.{Reading};
-ghost use Rattle.layout.specs.Layout.{lengthsFrom};
 ghost use Rattle.sheets.specs.Judging.{readingOf};
-ghost use Rattle.controller.specs.Answer.{afterAnswer};
-ghost use Rattle.controller.specs.Heads.{lengthsOfNoSheet, readAnswer, readHead, headRead, valuesIn};
+ghost use Rattle.sheets.specs.Promises.{slices};
+ghost use Rattle.controller.specs.Promises.{readLent, ReadPromise};
 use crate::answer::DONE;
 use crate::answer::refused;
-use crate::look::number_of_kind;
 use crate::stores::store;
 use figures::Figure;
 use figures::name_of;
+use heads::number_of_kind;
 use reading::read_sheet;
 use refusals::Refusal;
 use sheets::Kind;
@@ -24,7 +25,7 @@ use sheets::sheet_size;
 const HEAD_LENGTH: usize = 4;
 
 fn head_of(kind: Kind, figure: Figure, limit_or_tolerance: u32) -> [u32; HEAD_LENGTH]
-    ensures { λ head. ⌜ head ≡ readHead kind figure «limit_or_tolerance» ⌝ }
+    ensures { λ head. ⌜ head ≡ numberOfKind kind ∷ description figure .code ∷ description figure .n ∷ «limit_or_tolerance» ∷ [] ⌝ }
 {
     let number = number_of_kind(kind);
     let name = name_of(figure);
@@ -33,7 +34,7 @@ fn head_of(kind: Kind, figure: Figure, limit_or_tolerance: u32) -> [u32; HEAD_LE
 
 // What the reader answers where a slice has a length that no sheet has.
 fn refusal_of_lengths(sheet: &[u8]) -> Refusal
-    ensures { λ refusal. ⌜ readingOf (now (sheet .entry)) lengthsOfNoSheet ≡ Reading.Refused refusal ⌝ }
+    ensures { λ refusal. ⌜ readingOf (now (sheet .entry)) [] ≡ Reading.Refused refusal ⌝ }
 {
     match look_at(sheet) {
         Look::Refused(refusal) => refusal,
@@ -56,12 +57,12 @@ pub extern "C" fn bienguloc_read(
     log_sines: &mut [u32],
     differences: &mut [i32],
 ) -> u32
-    ensures { λ answer. ⌜ answer ≡ readAnswer (now (sheet .entry)) (length (now (head .entry))) (lengthsFrom (length (now (angles .entry))) (length (now (fixed .entry))) (length (now («log_sines» .entry))) (length (now (differences .entry)))) ⌝ }
-    ensures { λ answer. ⌜ now (head .exit) ≡ afterAnswer answer (headRead (now (sheet .entry))) (now (head .entry)) ⌝ }
-    ensures { λ answer. ⌜ now (angles .exit) ≡ afterAnswer answer (valuesIn (now (sheet .entry)) .angles) (now (angles .entry)) ⌝ }
-    ensures { λ answer. ⌜ now (fixed .exit) ≡ afterAnswer answer (valuesIn (now (sheet .entry)) .fixed) (now (fixed .entry)) ⌝ }
-    ensures { λ answer. ⌜ now («log_sines» .exit) ≡ afterAnswer answer (valuesIn (now (sheet .entry)) .logSines) (now («log_sines» .entry)) ⌝ }
-    ensures { λ answer. ⌜ now (differences .exit) ≡ afterAnswer answer (valuesIn (now (sheet .entry)) .differences) (now (differences .entry)) ⌝ }
+    ensures { λ answer. ⌜ ReadPromise (now (sheet .entry))
+        (readLent (now (head .entry))
+        (slices (now (angles .entry)) (now (fixed .entry)) (now («log_sines» .entry)) (now (differences .entry))))
+        answer
+        (readLent (now (head .exit))
+        (slices (now (angles .exit)) (now (fixed .exit)) (now («log_sines» .exit)) (now (differences .exit)))) ⌝ }
 {
     if head.len() != HEAD_LENGTH {
         return refused(refusal_of_lengths(sheet));

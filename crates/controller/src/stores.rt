@@ -2,7 +2,7 @@
 ghost use mathlib.Core.Path.{_≡_};
 ghost use lib.ListN.{length};
 
-pub fn store(values: &[u32], lent: &mut [u32])
+pub(crate) fn store(values: &[u32], lent: &mut [u32])
     requires { ⌜ length (now lent) ≡ length (now values) ⌝ }
     ensures { λ _. ⌜ now (lent .exit) ≡ now (values .entry) ⌝ }
 {

@@ -1,14 +1,9 @@
 // The two passes for C.
 ghost use mathlib.Core.Path.{_≡_};
-ghost use mathlib.Core.List.{[], _∷_};
-ghost use lib.IntN.{natAbs};
-ghost use lib.ListN.{length};
-ghost use Rattle.figures.specs.Figure.{figureOf};
-ghost use Rattle.method.specs.Pass.{ofNamed};
-ghost use Rattle.method.specs.FirstPass.{firstPassVerdict, misclosuresOf, numeratorsOf, roundedOf, correctedOf, restsOf};
-ghost use Rattle.method.specs.SecondPass.{secondPassVerdict, secondReduced, secondNumerator, secondRounded, secondAdjusted, secondRest, forAngles, forConditions};
-ghost use Rattle.controller.specs.Answer.{answerNumber, afterAnswer};
-ghost use Rattle.controller.specs.Working.{refusalOfLengths, lengthsJudged, sumsOf};
+ghost use Rattle.refusals.specs.declared.Refusal.{Refusal};
+ghost use Rattle.figures.specs.Figure.{figureOf, ofNamed};
+ghost use Rattle.passes.specs.Promises.{firstGiven, firstLent, secondGiven, secondLent};
+ghost use Rattle.controller.specs.Promises.{FirstPassPromise, sumsLent, SecondPassPromise};
 use crate::answer::DONE;
 use crate::answer::answered;
 use crate::answer::refused;
@@ -35,12 +30,13 @@ pub extern "C" fn bienguloc_first_pass(
     corrected: &mut [u32],
     rests: &mut [i32],
 ) -> u32
-    ensures { λ answer. ⌜ answer ≡ answerNumber (firstPassVerdict code n limit (now (angles .entry)) (now (fixed .entry)) (length (now (angles .entry)) ∷ length (now (fixed .entry)) ∷ length (now (misclosures .entry)) ∷ length (now (numerators .entry)) ∷ length (now (rounded .entry)) ∷ length (now (corrected .entry)) ∷ length (now (rests .entry)) ∷ [])) ⌝ }
-    ensures { λ answer. ⌜ now (misclosures .exit) ≡ afterAnswer answer (ofNamed (figureOf code n) [] (λ f. misclosuresOf f (now (angles .entry)) (now (fixed .entry)))) (now (misclosures .entry)) ⌝ }
-    ensures { λ answer. ⌜ now (numerators .exit) ≡ afterAnswer answer (ofNamed (figureOf code n) [] (λ f. numeratorsOf f (now (angles .entry)) (now (fixed .entry)))) (now (numerators .entry)) ⌝ }
-    ensures { λ answer. ⌜ now (rounded .exit) ≡ afterAnswer answer (ofNamed (figureOf code n) [] (λ f. roundedOf f (now (angles .entry)) (now (fixed .entry)))) (now (rounded .entry)) ⌝ }
-    ensures { λ answer. ⌜ now (corrected .exit) ≡ afterAnswer answer (ofNamed (figureOf code n) [] (λ f. correctedOf f (now (angles .entry)) (now (fixed .entry)))) (now (corrected .entry)) ⌝ }
-    ensures { λ answer. ⌜ now (rests .exit) ≡ afterAnswer answer (ofNamed (figureOf code n) [] (λ f. restsOf f (now (angles .entry)) (now (fixed .entry)))) (now (rests .entry)) ⌝ }
+    ensures { λ answer. ⌜ FirstPassPromise
+        (firstGiven code n limit (now (angles .entry)) (now (fixed .entry)))
+        (firstLent (now (misclosures .entry)) (now (numerators .entry)) (now (rounded .entry))
+        (now (corrected .entry)) (now (rests .entry)))
+        answer
+        (firstLent (now (misclosures .exit)) (now (numerators .exit)) (now (rounded .exit))
+        (now (corrected .exit)) (now (rests .exit))) ⌝ }
 {
     answered(first_pass(
         code,
@@ -58,7 +54,7 @@ pub extern "C" fn bienguloc_first_pass(
 
 // What the second pass answers where a slice has a length that no figure has.
 fn refusal_of_lengths(code: u32, n: u32) -> Refusal
-    ensures { λ refusal. ⌜ refusal ≡ refusalOfLengths code n ⌝ }
+    ensures { λ refusal. ⌜ refusal ≡ ofNamed (figureOf code n) Refusal.NoSuchFigure (λ f. Refusal.WrongLength) ⌝ }
 {
     match figure_of(code, n) {
         Named::Nothing => Refusal::NoSuchFigure,
@@ -81,13 +77,13 @@ pub extern "C" fn bienguloc_second_pass(
     adjusted: &mut [u32],
     rests: &mut [i32],
 ) -> u32
-    ensures { λ answer. ⌜ answer ≡ answerNumber (secondPassVerdict code n tolerance (now (angles .entry)) (now («log_sines» .entry)) (now (differences .entry)) (lengthsJudged (length (now (sums .entry))) (length (now (angles .entry)) ∷ length (now («log_sines» .entry)) ∷ length (now (differences .entry)) ∷ length (now (reduced .entry)) ∷ length (now (numerators .entry)) ∷ length (now (rounded .entry)) ∷ length (now (adjusted .entry)) ∷ length (now (rests .entry)) ∷ []))) ⌝ }
-    ensures { λ answer. ⌜ now (sums .exit) ≡ afterAnswer answer (sumsOf code n (now («log_sines» .entry)) (now (differences .entry))) (now (sums .entry)) ⌝ }
-    ensures { λ answer. ⌜ now (reduced .exit) ≡ afterAnswer answer (forAngles code n (λ f. secondReduced f (now (differences .entry)))) (now (reduced .entry)) ⌝ }
-    ensures { λ answer. ⌜ now (numerators .exit) ≡ afterAnswer answer (forAngles code n (λ f. secondNumerator f (now («log_sines» .entry)) (now (differences .entry)))) (now (numerators .entry)) ⌝ }
-    ensures { λ answer. ⌜ now (rounded .exit) ≡ afterAnswer answer (forAngles code n (λ f. secondRounded f (now («log_sines» .entry)) (now (differences .entry)))) (now (rounded .entry)) ⌝ }
-    ensures { λ answer. ⌜ now (adjusted .exit) ≡ afterAnswer answer (forAngles code n (λ f i. natAbs (secondAdjusted f (now (angles .entry)) (now («log_sines» .entry)) (now (differences .entry)) i))) (now (adjusted .entry)) ⌝ }
-    ensures { λ answer. ⌜ now (rests .exit) ≡ afterAnswer answer (forConditions code n (λ f. secondRest f (now («log_sines» .entry)) (now (differences .entry)))) (now (rests .entry)) ⌝ }
+    ensures { λ answer. ⌜ SecondPassPromise
+        (secondGiven code n tolerance (now (angles .entry)) (now («log_sines» .entry)) (now (differences .entry)))
+        (sumsLent (now (sums .entry))
+        (secondLent (now (reduced .entry)) (now (numerators .entry)) (now (rounded .entry)) (now (adjusted .entry)) (now (rests .entry))))
+        answer
+        (sumsLent (now (sums .exit))
+        (secondLent (now (reduced .exit)) (now (numerators .exit)) (now (rounded .exit)) (now (adjusted .exit)) (now (rests .exit)))) ⌝ }
 {
     if sums.len() != SUMS_LENGTH {
         return refused(refusal_of_lengths(code, n));

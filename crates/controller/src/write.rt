@@ -1,9 +1,6 @@
 // The writer for C.
-ghost use mathlib.Core.Path.{_≡_};
-ghost use lib.ListN.{length};
 ghost use Rattle.sheets.specs.Sheet.{valuesFrom};
-ghost use Rattle.sheets.specs.Judging.{writingOf, sheetGiven};
-ghost use Rattle.controller.specs.Answer.{answerNumber, afterAnswer};
+ghost use Rattle.controller.specs.Promises.{WritePromise};
 use crate::answer::answered;
 use writing::write_sheet;
 
@@ -19,8 +16,9 @@ pub extern "C" fn bienguloc_write(
     differences: &[i32],
     sheet: &mut [u8],
 ) -> u32
-    ensures { λ answer. ⌜ answer ≡ answerNumber (writingOf kind code n (valuesFrom «limit_or_tolerance» (now (angles .entry)) (now (fixed .entry)) (now («log_sines» .entry)) (now (differences .entry))) (length (now (sheet .entry)))) ⌝ }
-    ensures { λ answer. ⌜ now (sheet .exit) ≡ afterAnswer answer (sheetGiven kind code n (valuesFrom «limit_or_tolerance» (now (angles .entry)) (now (fixed .entry)) (now («log_sines» .entry)) (now (differences .entry)))) (now (sheet .entry)) ⌝ }
+    ensures { λ answer. ⌜ WritePromise kind code n
+        (valuesFrom «limit_or_tolerance» (now (angles .entry)) (now (fixed .entry)) (now («log_sines» .entry)) (now (differences .entry)))
+        (now (sheet .entry)) answer (now (sheet .exit)) ⌝ }
 {
     answered(write_sheet(
         kind,

@@ -2,20 +2,19 @@
 -- certified. Assumes nothing.
 use mathlib.Core.Path.{_≡_, sym, subst}
 use mathlib.Core.Bool.{Bool, true, false, not, _&&_, _||_}
-use mathlib.Core.List.{List, [], _∷_, map}
-use Prim.Native.Nat.{ℕ, zero, suc, _≤_, _<_}
-use lib.Dec.{T, eqb, leb, ltb, eqb→eq, leb→le, lit<}
+use mathlib.Core.List.{List, [], _∷_}
+use Prim.Native.Nat.{ℕ, suc, _≤_, _<_}
+use lib.Dec.{T, eqb, leb, eqb→eq, leb→le, lit<}
 use lib.ListN.{length, getD}
 use lib.IntN.{ℤ, pos, negsuc}
-use Rattle.whole.specs.Sums.{sum, dot, composed, identity, table}
+use Rattle.whole.specs.Sums.{sum, dot, composed, table}
 use Rattle.whole.specs.Lists.{every, everyBelow}
 use Rattle.whole.proofs.Computed.{every-at, every-below}
 use Rattle.figures.specs.declared.Figure.{Figure}
 use Rattle.figures.specs.declared.Figure.the-variants.{Quadrilateral, PointInTriangle, CentralTriangle, CentralQuadrilateral, CentralPentagon, CentralHexagon, CentralHeptagon, CentralOctagon}
 use Rattle.figures.specs.declared.Target.{Target}
 use Rattle.figures.specs.declared.Target.the-variants.{HalfTurn, FullTurn, FixedAngle, NoCondition}
-use Rattle.figures.specs.Figure.{Condition, quadrilateral, pointInTriangle, centralPolygon, description, allFigures, inner, left, right, triangle, corner, previous, horizon, denominator, angleCount, conditionCount, fixedCount, conditionAt, membersOf, targetOf}
-use Rattle.figures.specs.Rows.{eachOf, around, pointRow, polygonRow, quadrilateralRows, quadrilateralSigns, pointInTriangleRows, centralPolygonRows, triangleSigns}
+use Rattle.figures.specs.Figure.{Condition, description, allFigures, denominator, angleCount, conditionCount, fixedCount, membersOf, targetOf}
 use Rattle.figures.specs.Numerators.{mostAngles, mostConditions, mostMembers}
 use Rattle.figures.proofs.LeastSquares.{Certified}
 use Rattle.figures.proofs.Certificate.{membership, joined, correlates, quadrilateralCorrelates, pointInTriangleCorrelates, centralPolygonCorrelates, rowOf, difference, equal, sameTables, certifies, certifiesFigure, certificate}

@@ -1,4 +1,3 @@
-pub mod Cases
 pub mod Certificate
 pub mod Figures
 pub mod LeastSquares

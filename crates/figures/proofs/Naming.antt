@@ -1,16 +1,16 @@
 -- What a code and an n name: exactly the eight figures. Assumes nothing.
 use mathlib.Core.Path.{_≡_, refl, sym, subst, ap, ap₂, _∙_}
 use mathlib.Core.Logic.{_↔_}
-use mathlib.Core.Bool.{Bool, true, false, cond, _&&_}
-use mathlib.Core.List.{List, [], _∷_}
+use mathlib.Core.Bool.{Bool, true, false, cond, not, _&&_, _||_}
+use mathlib.Core.List.{List, [], _∷_, map}
 use Prim.Native.Nat.{ℕ, zero, suc, _+_}
 use lib.Dec.{T, eqb, eqb→eq}
-use Rattle.whole.proofs.Computed.{and-left, and-right}
+use Rattle.refusals.specs.Questions.{noneOf, among, asked}
 use Rattle.figures.specs.declared.Figure.{Figure}
 use Rattle.figures.specs.declared.Figure.the-variants.{Quadrilateral, PointInTriangle, CentralTriangle, CentralQuadrilateral, CentralPentagon, CentralHexagon, CentralHeptagon, CentralOctagon}
 use Rattle.figures.specs.declared.Named.{Named}
 use Rattle.figures.specs.declared.Named.the-variants.{As, Nothing}
-use Rattle.figures.specs.Figure.{description, allFigures, namedAmong, figureOf}
+use Rattle.figures.specs.Figure.{description, allFigures, namedAmong, figureOf, figureNames}
 
 -- a figure's code and n name it
 pub own-name : (f : Figure) → figureOf (description f .code) (description f .n) ≡ As f
@@ -51,6 +51,26 @@ named-among (g ∷ others) code n f e =
 pub named-exactly : (code n : ℕ) (f : Figure) → (figureOf code n ≡ As f) ↔ ((code ≡ description f .code) × (n ≡ description f .n))
 unfolding figureOf
 named-exactly code n f = (named-among allFigures code n f, λ e. ap₂ figureOf (e .0) (e .1) ∙ own-name f)
+
+-- number 1 asks whether none is named
+among-names : (figures : List Figure) (code n : ℕ)
+    → among (code ∷ n ∷ []) (map (λ f. description f .code ∷ description f .n ∷ []) figures) ≡ isNamed (namedAmong figures code n)
+among-names [] code n = refl
+among-names (f ∷ others) code n = choose (eqb code (description f .code)) (eqb n (description f .n)) _ (namedAmong others code n) (among-names others code n)
+  where
+    choose : (a b rest : Bool) (found : Named) → rest ≡ isNamed found → ((a && (b && true)) || rest) ≡ isNamed (cond (a && b) (As f) found)
+    choose true true rest found e = refl
+    choose true false rest found e = e
+    choose false b rest found e = e
+
+module _ (code n : ℕ) where
+  pub none-named : figureOf code n ≡ Nothing → asked (noneOf (code ∷ n ∷ []) figureNames) ≡ true
+  unfolding figureOf
+  none-named e = ap not (among-names allFigures code n ∙ ap isNamed e)
+
+  pub one-named : {f : Figure} → figureOf code n ≡ As f → asked (noneOf (code ∷ n ∷ []) figureNames) ≡ false
+  unfolding figureOf
+  one-named e = ap not (among-names allFigures code n ∙ ap isNamed e)
 
 -- the pairs below a bound that name a figure, counted
 abbrev one : Named → ℕ

@@ -4,15 +4,15 @@ use mathlib.Core.Path.{_≡_, refl, sym, ap, ap₂, _∙_}
 use mathlib.Core.List.{List, [], _∷_}
 use Prim.Native.Nat.{ℕ, zero, suc, _<_}
 use lib.Dec.{T, leb, leb→le}
-use lib.ListN.{getD, List·getD-map}
-use lib.IntN.{ℤ, pos, negℤ, _+ℤ_, _*ℤ_}
+use lib.ListN.{List·getD-map}
+use lib.IntN.{ℤ, pos, negℤ, _+ℤ_, _*ℤ_, *ℤ-zero}
 use lib.Signed.{_≤ℤ_}
 use Rattle.whole.specs.Sums.{dot, squares, applied, identity, table}
 use Rattle.whole.specs.Lists.{every}
 use Rattle.whole.proofs.Computed.{and-left, and-right}
-use Rattle.whole.proofs.Sums.{dot-ext, dot-comm, dot-add, dot-zero, applied-ext, applied-identity}
+use Rattle.whole.proofs.Sums.{dot-ext, dot-comm, dot-add, dot-zero, applied-ext, applied-scale, applied-identity}
 use Rattle.figures.specs.declared.Figure.{Figure}
-use Rattle.figures.specs.Figure.{Condition, description, denominator, angleCount, conditionCount, conditionAt, membersOf}
+use Rattle.figures.specs.Figure.{Condition, description, denominator, angleCount, conditionCount, membersOf}
 use Rattle.figures.specs.Numerators.{sumOver, conditionSum, numerator, reducedCoefficient}
 use Rattle.figures.proofs.Certificate.{joined, membership}
 use Rattle.figures.proofs.Figures.{isAmong, none, certified, members-are-angles}
@@ -39,6 +39,23 @@ unfolding applied membership conditionSum
 condition-applied f x j b =
     ap (λ (members : List ℕ). dot (angleCount f) (joined members) x) (List·getD-map (λ (c : Condition). c .angles) (description f .conditions) j none)
     ∙ joined-sum (angleCount f) (membersOf f (suc j)) x (members-are-angles f j b)
+
+-- the sum over a condition reads the figure's own angles alone
+pub condition-agrees : (f : Figure) (x y : ℕ → ℤ) → ((i : ℕ) → i < angleCount f → x i ≡ y i) → (j : ℕ) → j < conditionCount f
+    → conditionSum f x j ≡ conditionSum f y j
+condition-agrees f x y same j b =
+    sym (condition-applied f x j b) ∙ applied-ext (angleCount f) (membership (description f)) x y same j ∙ condition-applied f y j b
+
+condition-scaled : (f : Figure) (c : ℤ) (x : ℕ → ℤ) (j : ℕ) → j < conditionCount f → conditionSum f (λ i. c *ℤ x i) j ≡ c *ℤ conditionSum f x j
+condition-scaled f c x j b =
+    sym (condition-applied f (λ i. c *ℤ x i) j b)
+    ∙ applied-scale (angleCount f) (membership (description f)) c x j
+    ∙ ap (λ (t : ℤ). c *ℤ t) (condition-applied f x j b)
+
+-- and a numerator the figure's own conditions alone
+pub numerator-agrees : (f : Figure) (v w : ℕ → ℤ) → ((j : ℕ) → j < conditionCount f → v j ≡ w j) → (i : ℕ) → numerator f v i ≡ numerator f w i
+unfolding numerator
+numerator-agrees f v w same i = applied-ext (conditionCount f) _ v w same i
 
 -- ---- the theorem
 
@@ -77,6 +94,14 @@ module _ (f : Figure) (d : ℕ → ℤ) where
       sym (condition-applied f (reducedCoefficient f d) j b)
       ∙ applied-ext (angleCount f) (membership (description f)) (reducedCoefficient f d) (LeastSquares.reduced (certified f) d) (λ i c. sym (reduced-is i)) j
       ∙ LeastSquares.reduced-closes (certified f) d j b
+
+  -- nor do any numbers that are one multiple of them
+  pub multiple-closes : (c : ℤ) (x : ℕ → ℤ) → ((i : ℕ) → i < angleCount f → x i ≡ c *ℤ reducedCoefficient f d i) → (j : ℕ) → j < conditionCount f
+      → conditionSum f x j ≡ pos 0
+  multiple-closes c x are j b =
+      condition-agrees f x (λ i. c *ℤ reducedCoefficient f d i) are j b
+      ∙ condition-scaled f c (reducedCoefficient f d) j b
+      ∙ ap (λ (t : ℤ). c *ℤ t) (reduced-closes j b) ∙ *ℤ-zero c
 
   -- D·Σ d·A = Σ A²
   pub reduced-squares : pos (denominator f) *ℤ dot (angleCount f) d (reducedCoefficient f d) ≡ squares (angleCount f) (reducedCoefficient f d)

@@ -1,6 +1,6 @@
 -- The eight figures of document 01, "The eight figures", in its numbering: corners, triangles, angles, conditions and fixed angles count from 1.
 use Prim.Native.Nat.{ℕ, zero, suc, _+_, _-_, _*_}
-use mathlib.Core.Bool.{Bool, cond, _&&_}
+use mathlib.Core.Bool.{cond, _&&_}
 use mathlib.Core.List.{List, [], _∷_, _++_, map}
 use lib.Dec.{eqb}
 use lib.ListN.{length, getD}
@@ -124,6 +124,15 @@ namedAmong (f ∷ others) code n = cond (eqb code (description f .code) && eqb n
 
 unfoldable pub figureOf : ℕ → ℕ → Named
 figureOf code n = namedAmong allFigures code n
+
+-- the code and n of each figure
+abbrev pub figureNames : List (List ℕ)
+figureNames = map (λ f. description f .code ∷ description f .n ∷ []) allFigures
+
+-- what the figure has that is named, where one is
+abbrev pub ofNamed : {A : Type 0} → Named → (none : A) → (Figure → A) → A
+ofNamed Nothing none some = none
+ofNamed (As f) none some = some f
 
 -- ---- what the code asks of a figure
 

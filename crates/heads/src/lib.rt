@@ -12,6 +12,7 @@ use layout::N_AT;
 use layout::N_WIDTH;
 use refusals::Refusal;
 ghost use mathlib.Core.Path.{_≡_};
+ghost use Rattle.layout.specs.Layout.{numberOfKind};
 ghost use Rattle.heads.specs.Head.{kindOf, headOf, lookOf};
 
 // What a kind's number names.
@@ -26,13 +27,22 @@ pub enum Look {
     Refused(Refusal),
 }
 
-pub fn kind_of(number: u32) -> NamedKind
+fn kind_of(number: u32) -> NamedKind
     ensures { λ named. ⌜ named ≡ kindOf number ⌝ }
 {
     match number {
         1 => NamedKind::Is(Kind::FirstPass),
         2 => NamedKind::Is(Kind::SecondPass),
         _ => NamedKind::NoKind,
+    }
+}
+
+pub fn number_of_kind(kind: Kind) -> u32
+    ensures { λ number. ⌜ number ≡ numberOfKind kind ⌝ }
+{
+    match kind {
+        Kind::FirstPass => 1,
+        Kind::SecondPass => 2,
     }
 }
 

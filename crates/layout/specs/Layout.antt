@@ -18,22 +18,25 @@ abbrev pub numberOfKind : Kind → ℕ
 numberOfKind FirstPass = 1
 numberOfKind SecondPass = 2
 
+abbrev pub allKinds : List Kind
+allKinds = FirstPass ∷ SecondPass ∷ []
+
 -- ---- what stands in a sheet, and in which width
 
 -- angles, fixed angles, log-sines and differences by their number, counted from 1
-pub data Place : Type 0 where
-  theKind : Place
-  theCode : Place
-  theN : Place
-  limit : Place
-  tolerance : Place
-  angle : ℕ → Place
-  fixedAngle : ℕ → Place
-  logSine : ℕ → Place
-  difference : ℕ → Place
+pub data Item : Type 0 where
+  theKind : Item
+  theCode : Item
+  theN : Item
+  limit : Item
+  tolerance : Item
+  angle : ℕ → Item
+  fixedAngle : ℕ → Item
+  logSine : ℕ → Item
+  difference : ℕ → Item
 
 -- "kind 4 bits, code 4, n 4, L 10, each angle 23"; "e 6"; "23 angle, 27 log-sine, 15 sine difference"
-abbrev pub widthOf : Place → ℕ
+abbrev pub widthOf : Item → ℕ
 widthOf theKind = 4
 widthOf theCode = 4
 widthOf theN = 4
@@ -44,22 +47,22 @@ widthOf (fixedAngle i) = 23
 widthOf (logSine i) = 27
 widthOf (difference i) = 15
 
--- where L or e stands
-abbrev pub limitOrTolerancePlace : Kind → Place
-limitOrTolerancePlace FirstPass = limit
-limitOrTolerancePlace SecondPass = tolerance
+-- L or e
+abbrev pub limitOrToleranceItem : Kind → Item
+limitOrToleranceItem FirstPass = limit
+limitOrToleranceItem SecondPass = tolerance
 
 -- what stands in every sheet, of whatever kind
-abbrev pub head : List Place
+abbrev pub head : List Item
 head = theKind ∷ theCode ∷ theN ∷ []
 
 -- kind 1: each angle, then the fixed angles. Kind 2: per angle the angle, its log-sine, its sine difference
-abbrev pub body : Kind → Figure → List Place
+abbrev pub body : Kind → Figure → List Item
 body FirstPass f = eachOf (angleCount f) (λ i. angle i ∷ []) ++ eachOf (fixedCount f) (λ j. fixedAngle j ∷ [])
 body SecondPass f = eachOf (angleCount f) (λ i. angle i ∷ logSine i ∷ difference i ∷ [])
 
-unfoldable pub layout : Kind → Figure → List Place
-layout kind f = head ++ (limitOrTolerancePlace kind ∷ body kind f)
+unfoldable pub layout : Kind → Figure → List Item
+layout kind f = head ++ (limitOrToleranceItem kind ∷ body kind f)
 
 -- ---- how many of each, and how many bytes
 
@@ -85,10 +88,10 @@ bitCount kind f = totalWidth (map widthOf (layout kind f))
 unfoldable pub sheetSize : Kind → Figure → ℕ
 sheetSize kind f = byteCount (bitCount kind f)
 
--- ---- where each place begins, and what a sheet holds there
+-- ---- where each item begins, and what a sheet holds there
 
--- a place is told by its sort and its number
-unfoldable pub sort : Place → ℕ
+-- an item is told by its sort and its number
+unfoldable pub sort : Item → ℕ
 sort theKind = 0
 sort theCode = 1
 sort theN = 2
@@ -99,27 +102,27 @@ sort (fixedAngle i) = 6
 sort (logSine i) = 7
 sort (difference i) = 8
 
-unfoldable pub numberOfPlace : Place → ℕ
-numberOfPlace theKind = 0
-numberOfPlace theCode = 0
-numberOfPlace theN = 0
-numberOfPlace limit = 0
-numberOfPlace tolerance = 0
-numberOfPlace (angle i) = i
-numberOfPlace (fixedAngle i) = i
-numberOfPlace (logSine i) = i
-numberOfPlace (difference i) = i
+unfoldable pub numberOfItem : Item → ℕ
+numberOfItem theKind = 0
+numberOfItem theCode = 0
+numberOfItem theN = 0
+numberOfItem limit = 0
+numberOfItem tolerance = 0
+numberOfItem (angle i) = i
+numberOfItem (fixedAngle i) = i
+numberOfItem (logSine i) = i
+numberOfItem (difference i) = i
 
-unfoldable pub same : Place → Place → Bool
-unfolding sort numberOfPlace
-same p q = eqb (sort p) (sort q) && eqb (numberOfPlace p) (numberOfPlace q)
+unfoldable pub same : Item → Item → Bool
+unfolding sort numberOfItem
+same p q = eqb (sort p) (sort q) && eqb (numberOfItem p) (numberOfItem q)
 
--- where a place begins, counted in bits: after the widths of all places before it
-unfoldable pub positionOf : Place → List Place → ℕ
+-- where an item begins, counted in bits: after the widths of all items before it
+unfoldable pub positionOf : Item → List Item → ℕ
 unfolding same
 positionOf p [] = 0
 positionOf p (q ∷ later) = cond (same p q) 0 (widthOf q + positionOf p later)
 
--- what a sheet that is laid out so holds at a place
-unfoldable pub held : List Place → List ℕ → Place → ℕ
-held places sheet p = fieldAt sheet (positionOf p places) (widthOf p)
+-- what a sheet that is laid out so holds as an item
+unfoldable pub held : List Item → List ℕ → Item → ℕ
+held items sheet item = fieldAt sheet (positionOf item items) (widthOf item)

@@ -26,21 +26,21 @@ pub type Column = [i64; MOST_ANGLES];
 pub type Columns = [Column; MOST_COLUMNS];
 
 // A word, with the space after it.
-pub fn put_word(buffer: &mut [u8], at: usize, word: &[u8]) -> usize
+pub(crate) fn put_word(buffer: &mut [u8], at: usize, word: &[u8]) -> usize
     ensures { λ r. ⌜ Lays (now (word .entry)) (now (buffer .entry)) at (now (buffer .exit)) r ⌝ }
 {
     text::put_word(buffer, at, word)
 }
 
 // A number and the byte that ends it.
-pub fn put_part(buffer: &mut [u8], at: usize, value: i64, end: u8) -> usize
+pub(crate) fn put_part(buffer: &mut [u8], at: usize, value: i64, end: u8) -> usize
     ensures { λ r. ⌜ Lays (decimal value ++ (end ∷ [])) (now (buffer .entry)) at (now (buffer .exit)) r ⌝ }
 {
     let after = numerals::put_number(buffer, at, value);
     text::put_byte(buffer, after, end)
 }
 
-pub fn put_natural(buffer: &mut [u8], at: usize, value: u64, end: u8) -> usize
+pub(crate) fn put_natural(buffer: &mut [u8], at: usize, value: u64, end: u8) -> usize
     ensures { λ r. ⌜ Lays (decimal (pos value) ++ (end ∷ [])) (now (buffer .entry)) at (now (buffer .exit)) r ⌝ }
 {
     let after = numerals::put_natural(buffer, at, value);
@@ -62,7 +62,13 @@ fn put_numbers(buffer: &mut [u8], at: usize, values: Numbers, count: usize) -> u
 }
 
 // A word, with the space after it, and the first `count` numbers, as a line.
-pub fn put_line(buffer: &mut [u8], at: usize, word: &[u8], values: Numbers, count: usize) -> usize
+pub(crate) fn put_line(
+    buffer: &mut [u8],
+    at: usize,
+    word: &[u8],
+    values: Numbers,
+    count: usize,
+) -> usize
     requires { ⌜ (0 < count) × (count ≤ 6) ⌝ }
     ensures { λ r. ⌜ Lays (now (word .entry) ++ numbersLine count values) (now (buffer .entry)) at (now (buffer .exit)) r ⌝ }
 {
@@ -108,7 +114,7 @@ fn put_row(
 }
 
 // A line for each of `count` angles or conditions: the word, if any, with the space after it, and the first `width` of its numbers.
-pub fn put_rows(
+pub(crate) fn put_rows(
     buffer: &mut [u8],
     at: usize,
     word: &[u8],

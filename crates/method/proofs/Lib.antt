@@ -1,14 +1,10 @@
-pub mod EntryLaws
 mod FirstExamples
-pub mod FirstRefusals
-pub mod FirstTheorem
-pub mod LengthLaws
-pub mod OrderLaws
+pub mod PassRows
+pub mod Refusals
 pub mod Rests
+pub mod ResultLengths
 pub mod SecondAccepted
 mod SecondExamples
 pub mod SecondLaws
-pub mod SecondPassTheorem
-pub mod SecondRefusals
 pub mod StarredCases
-pub mod Verdicts
+pub mod WithinRange

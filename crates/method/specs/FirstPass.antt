@@ -1,21 +1,20 @@
 -- The first pass: document 01, "The two passes". Angles and conditions are used by their indices, counted from 0.
 use Prim.Native.Nat.{ℕ, suc}
-use mathlib.Core.Bool.{Bool}
-use mathlib.Core.List.{List, [], _∷_}
-use lib.IntN.{ℤ, pos, negℤ, natAbs, _+ℤ_, _-ℤ_}
+use mathlib.Core.List.{List, [], _∷_, _++_}
+use lib.IntN.{ℤ, pos, natAbs, _+ℤ_, _-ℤ_}
 use Rattle.whole.specs.Lists.{listed}
 use Rattle.whole.specs.Quotient.{roundedQuotient}
 use Rattle.refusals.specs.declared.Verdict.{Verdict}
-use Rattle.refusals.specs.declared.Verdict.the-variants.{Passed, Failed}
-use Rattle.refusals.specs.declared.Refusal.{Refusal}
-use Rattle.refusals.specs.Order.{answerOf, failsAt, lowestPlace, lowestOutside, numbered, outsideSigned}
-use Rattle.refusals.specs.Ranges.{leastAngle, mostAngle, mostLimit}
+use Rattle.refusals.specs.Numbers.{numbered}
+use Rattle.refusals.specs.Order.{Row, judged}
+use Rattle.refusals.specs.Ranges.{mostLimit}
+use Rattle.refusals.specs.Table.{figureRow, lengthsRow, limitOrToleranceRow, anglesRow, fixedRow, misclosuresRow, resultsRow}
 use Rattle.figures.specs.declared.Figure.{Figure}
 use Rattle.figures.specs.declared.Target.{Target}
 use Rattle.figures.specs.declared.Target.the-variants.{HalfTurn, FullTurn, FixedAngle, NoCondition}
-use Rattle.figures.specs.Figure.{denominator, angleCount, conditionCount, fixedCount, targetOf, figureOf}
+use Rattle.figures.specs.Figure.{denominator, angleCount, conditionCount, fixedCount, targetOf, figureOf, figureNames, ofNamed}
 use Rattle.figures.specs.Numerators.{conditionSum, numerator}
-use Rattle.method.specs.Pass.{inForce, given, lengthsTest, limitOrToleranceTest, angleTest, resultTest, ofNamed}
+use Rattle.method.specs.Pass.{inForce, given}
 
 -- the misclosure limit L: 0 stands for the default 150
 abbrev pub limitOf : ℕ → ℕ
@@ -66,39 +65,39 @@ correctedOf f angles fixed = listed (angleCount f) (λ i. natAbs (corrected f an
 abbrev pub restsOf : Figure → (angles fixed : List ℕ) → List ℤ
 restsOf f angles fixed = listed (conditionCount f) (firstRest f angles fixed)
 
--- ---- the tests, in their order 1, 2, 3, 4, 5, 6, 7
+-- ---- the order: 1, 2, 3, 4, 5, 6, 7
 
--- number 2: the lengths of angles, fixed angles, misclosures, numerators, rounded corrections, corrected angles and rests
+-- number 2: the lengths of misclosures, numerators, rounded corrections, corrected angles and rests
+abbrev pub firstResultLengths : Figure → List ℕ
+firstResultLengths f = conditionCount f ∷ angleCount f ∷ angleCount f ∷ angleCount f ∷ conditionCount f ∷ []
+
+-- and before them those of angles and fixed angles
 abbrev pub firstLengths : Figure → List ℕ
-firstLengths f = angleCount f ∷ fixedCount f ∷ conditionCount f ∷ angleCount f ∷ angleCount f ∷ angleCount f ∷ conditionCount f ∷ []
+firstLengths f = angleCount f ∷ fixedCount f ∷ firstResultLengths f
 
--- number 5: a fixed angle outside range, at its number
-abbrev pub fixedTest : (fixed : List ℕ) → Verdict
-fixedTest fixed = failsAt Refusal.FixedAngleOutOfRange (lowestOutside fixed leastAngle mostAngle)
-
--- number 6: a misclosure beyond ±L, at its condition
-abbrev pub misclosureFails : Figure → (limit : ℕ) → (angles fixed : List ℕ) → (place : ℕ) → Bool
-misclosureFails f limit angles fixed place =
-    outsideSigned (negℤ (pos (limitOf limit))) (pos (limitOf limit)) (numbered (misclosuresOf f angles fixed) place (pos 0))
-
-abbrev pub misclosureTest : Figure → (limit : ℕ) → (angles fixed : List ℕ) → Verdict
-misclosureTest f limit angles fixed = failsAt Refusal.MisclosureBeyondLimit (lowestPlace (misclosureFails f limit angles fixed) (conditionCount f))
-
--- numbers 2 to 7 of a figure
-unfoldable pub firstTests : Figure → (limit : ℕ) → (angles fixed lent : List ℕ) → List Verdict
-firstTests f limit angles fixed lent =
-    lengthsTest lent (firstLengths f)
-    ∷ limitOrToleranceTest mostLimit limit
-    ∷ angleTest angles
-    ∷ fixedTest fixed
-    ∷ misclosureTest f limit angles fixed
-    ∷ resultTest f (corrected f angles fixed)
+-- 2 to 5: what can be said before any work
+abbrev pub givenRows : Figure → (limit : ℕ) → (angles fixed lent : List ℕ) → List Row
+givenRows f limit angles fixed lent =
+    lengthsRow lent (firstLengths f)
+    ∷ limitOrToleranceRow mostLimit limit
+    ∷ anglesRow angles
+    ∷ fixedRow fixed
     ∷ []
 
--- number 1, and then those of the figure
-unfoldable pub firstPassTests : (code n limit : ℕ) → (angles fixed lent : List ℕ) → List Verdict
-firstPassTests code n limit angles fixed lent =
-    ofNamed (figureOf code n) (Failed Refusal.NoSuchFigure ∷ []) (λ f. Passed ∷ firstTests f limit angles fixed lent)
+-- 6 and 7: what the work says
+abbrev pub workRows : (limit : ℕ) → (misclosures corrected : List ℤ) → List Row
+workRows limit misclosures corrected = misclosuresRow (limitOf limit) misclosures ∷ resultsRow corrected ∷ []
+
+-- of a figure: 2, 3, 4, 5, 6, 7
+unfoldable pub firstRows : Figure → (limit : ℕ) → (angles fixed lent : List ℕ) → List Row
+firstRows f limit angles fixed lent =
+    givenRows f limit angles fixed lent
+    ++ workRows limit (misclosuresOf f angles fixed) (listed (angleCount f) (corrected f angles fixed))
+
+-- 1, and then those of the figure that code and n name
+unfoldable pub firstPassRows : (code n limit : ℕ) → (angles fixed lent : List ℕ) → List Row
+firstPassRows code n limit angles fixed lent =
+    figureRow code n figureNames ∷ ofNamed (figureOf code n) [] (λ f. firstRows f limit angles fixed lent)
 
 unfoldable pub firstPassVerdict : (code n limit : ℕ) → (angles fixed lent : List ℕ) → Verdict
-firstPassVerdict code n limit angles fixed lent = answerOf (firstPassTests code n limit angles fixed lent)
+firstPassVerdict code n limit angles fixed lent = judged (firstPassRows code n limit angles fixed lent)

@@ -1,4 +1,3 @@
 pub mod FirstPass
-pub mod FirstSteps
 pub mod Pass
 pub mod SecondPass

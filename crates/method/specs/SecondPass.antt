@@ -1,24 +1,23 @@
 -- The second pass: document 01, "The two passes". Angles and conditions are used by their indices, counted from 0.
-use Prim.Native.Nat.{ℕ, _*_}
-use mathlib.Core.Bool.{Bool}
-use mathlib.Core.List.{List, [], _∷_}
-use lib.Dec.{eqb}
+use Prim.Native.Nat.{ℕ}
+use mathlib.Core.List.{List, [], _∷_, _++_}
 use lib.IntN.{ℤ, pos, negℤ, natAbs, _+ℤ_, _*ℤ_}
-use lib.Signed.{ltZ}
 use Rattle.whole.specs.Lists.{listed}
 use Rattle.whole.specs.Quotient.{roundedQuotient}
 use Rattle.whole.specs.Sums.{dot, squares, vector}
 use Rattle.refusals.specs.declared.Verdict.{Verdict}
 use Rattle.refusals.specs.declared.Verdict.the-variants.{Passed, Failed}
 use Rattle.refusals.specs.declared.Refusal.{Refusal}
-use Rattle.refusals.specs.Order.{answerOf, failsIf, failsAt, earlierOf, lowestOutside, lowestSignedOutside}
-use Rattle.refusals.specs.Ranges.{leastLogSine, mostLogSine, mostDifference, mostTolerance}
+use Rattle.refusals.specs.Numbers.{Told, told, refusalTold}
+use Rattle.refusals.specs.Order.{Row, judged}
+use Rattle.refusals.specs.Ranges.{mostTolerance}
+use Rattle.refusals.specs.Table.{figureRow, lengthsRow, limitOrToleranceRow, anglesRow, resultsRow, sineEntriesRow, sineMisclosureRow, sumOfSquaresRow}
 use Rattle.figures.specs.declared.Figure.{Figure}
-use Rattle.figures.specs.Figure.{description, denominator, angleCount, conditionCount, figureOf}
+use Rattle.figures.specs.Figure.{description, denominator, angleCount, conditionCount, figureOf, figureNames, ofNamed}
 use Rattle.figures.specs.Numerators.{conditionSum, reducedCoefficient}
 use Rattle.method.specs.declared.second.SecondAnswer.{SecondAnswer}
 use Rattle.method.specs.declared.second.SecondAnswer.the-variants.{Done, Refused}
-use Rattle.method.specs.Pass.{inForce, given, lengthsTest, limitOrToleranceTest, angleTest, resultTest, ofNamed}
+use Rattle.method.specs.Pass.{inForce, given}
 
 -- the sine tolerance e: 0 stands for 10
 abbrev pub toleranceOf : ℕ → ℕ
@@ -64,77 +63,78 @@ secondAdjusted f angles logSines differences i = given angles i +ℤ secondRound
 unfoldable pub secondRest : Figure → (logSines : List ℕ) → (differences : List ℤ) → ℕ → ℤ
 secondRest f logSines differences j = conditionSum f (secondRounded f logSines differences) j
 
--- ---- the tests, in their order 1, 2, 3, 4, 8, 10, 9, 7
-
--- number 2: the lengths of angles, log-sines, differences, reduced coefficients, numerators, rounded corrections, adjusted angles and rests
-abbrev pub secondLengths : Figure → List ℕ
-secondLengths f =
-    angleCount f ∷ angleCount f ∷ angleCount f ∷ angleCount f ∷ angleCount f ∷ angleCount f ∷ angleCount f ∷ conditionCount f ∷ []
-
--- number 8: a log-sine or a difference outside range, at its angle
-abbrev pub sineEntryTest : (logSines : List ℕ) → (differences : List ℤ) → Verdict
-sineEntryTest logSines differences =
-    failsAt Refusal.SineEntryOutOfRange
-    (earlierOf (lowestOutside logSines leastLogSine mostLogSine)
-    (lowestSignedOutside differences (negℤ (pos mostDifference)) (pos mostDifference)))
-
--- number 10: S is 0
-abbrev pub sumOfSquaresTest : (squares : ℤ) → Verdict
-sumOfSquaresTest squares = failsIf (eqb (natAbs squares) 0) Refusal.SumOfSquaresIsZero
-
--- number 9: 100·W² exceeds e² times the sum of d²
-abbrev pub exceeds : (misclosure : ℤ) → (tolerance : ℕ) → (differenceSquares : ℤ) → Bool
-exceeds w e differenceSquares = ltZ (pos (e * e) *ℤ differenceSquares) (pos 100 *ℤ (w *ℤ w))
-
-abbrev pub toleranceTest : (misclosure : ℤ) → (tolerance : ℕ) → (differenceSquares : ℤ) → Verdict
-toleranceTest w tolerance differenceSquares =
-    failsIf (exceeds w (toleranceOf tolerance) differenceSquares) Refusal.SineMisclosureBeyondTolerance
-
--- the sum of d²: an angle with sign 0 counts for nothing in it
+-- the sum of d², for number 9: an angle with sign 0 counts for nothing in it
 unfoldable pub differenceSquares : Figure → (differences : List ℤ) → ℤ
 differenceSquares f differences = squares (angleCount f) (signedDifference f differences)
 
--- numbers 2 to 7 of a figure
-unfoldable pub secondTests : Figure → (tolerance : ℕ) → (angles logSines : List ℕ) → (differences : List ℤ) → (lent : List ℕ) → List Verdict
-secondTests f tolerance angles logSines differences lent =
-    lengthsTest lent (secondLengths f)
-    ∷ limitOrToleranceTest mostTolerance tolerance
-    ∷ angleTest angles
-    ∷ sineEntryTest logSines differences
-    ∷ sumOfSquaresTest (sumOfSquares f differences)
-    ∷ toleranceTest (sineMisclosure f logSines) tolerance (differenceSquares f differences)
-    ∷ resultTest f (secondAdjusted f angles logSines differences)
+-- ---- what is stored, in the order of the numbers of angles and conditions
+
+abbrev pub reducedOf : Figure → (differences : List ℤ) → List ℤ
+reducedOf f differences = listed (angleCount f) (secondReduced f differences)
+
+abbrev pub secondNumeratorsOf : Figure → (logSines : List ℕ) → (differences : List ℤ) → List ℤ
+secondNumeratorsOf f logSines differences = listed (angleCount f) (secondNumerator f logSines differences)
+
+abbrev pub secondRoundedOf : Figure → (logSines : List ℕ) → (differences : List ℤ) → List ℤ
+secondRoundedOf f logSines differences = listed (angleCount f) (secondRounded f logSines differences)
+
+-- an adjusted angle that is stored is within range, so it is its own magnitude
+abbrev pub adjustedOf : Figure → (angles logSines : List ℕ) → (differences : List ℤ) → List ℕ
+adjustedOf f angles logSines differences = listed (angleCount f) (λ i. natAbs (secondAdjusted f angles logSines differences i))
+
+abbrev pub secondRestsOf : Figure → (logSines : List ℕ) → (differences : List ℤ) → List ℤ
+secondRestsOf f logSines differences = listed (conditionCount f) (secondRest f logSines differences)
+
+-- ---- the order: 1, 2, 3, 4, 8, 10, 9, 7
+
+-- number 2: the lengths of reduced coefficients, numerators, rounded corrections, adjusted angles and rests
+abbrev pub secondResultLengths : Figure → List ℕ
+secondResultLengths f = angleCount f ∷ angleCount f ∷ angleCount f ∷ angleCount f ∷ conditionCount f ∷ []
+
+-- and before them those of angles, log-sines and differences
+abbrev pub secondLengths : Figure → List ℕ
+secondLengths f = angleCount f ∷ angleCount f ∷ angleCount f ∷ secondResultLengths f
+
+-- 2, 3, 4, 8: what can be said before any work
+abbrev pub entryRows : Figure → (tolerance : ℕ) → (angles logSines : List ℕ) → (differences : List ℤ) → (lent : List ℕ) → List Row
+entryRows f tolerance angles logSines differences lent =
+    lengthsRow lent (secondLengths f)
+    ∷ limitOrToleranceRow mostTolerance tolerance
+    ∷ anglesRow angles
+    ∷ sineEntriesRow logSines differences
     ∷ []
 
--- number 1, and then those of the figure
-unfoldable pub secondPassTests : (code n tolerance : ℕ) → (angles logSines : List ℕ) → (differences : List ℤ) → (lent : List ℕ) → List Verdict
-secondPassTests code n tolerance angles logSines differences lent =
-    ofNamed (figureOf code n) (Failed Refusal.NoSuchFigure ∷ []) (λ f. Passed ∷ secondTests f tolerance angles logSines differences lent)
+-- 10, 9: what W, S and the sum of d² say
+abbrev pub sineRows : (tolerance : ℕ) → (w s differenceSquares : ℤ) → List Row
+sineRows tolerance w s differenceSquares = sumOfSquaresRow s ∷ sineMisclosureRow (toleranceOf tolerance) w differenceSquares ∷ []
+
+-- of a figure: 2, 3, 4, 8, 10, 9, 7
+unfoldable pub secondRows : Figure → (tolerance : ℕ) → (angles logSines : List ℕ) → (differences : List ℤ) → (lent : List ℕ) → List Row
+secondRows f tolerance angles logSines differences lent =
+    entryRows f tolerance angles logSines differences lent
+    ++ sineRows tolerance (sineMisclosure f logSines) (sumOfSquares f differences) (differenceSquares f differences)
+    ++ (resultsRow (listed (angleCount f) (secondAdjusted f angles logSines differences)) ∷ [])
+
+-- 1, and then those of the figure that code and n name
+unfoldable pub secondPassRows : (code n tolerance : ℕ) → (angles logSines : List ℕ) → (differences : List ℤ) → (lent : List ℕ) → List Row
+secondPassRows code n tolerance angles logSines differences lent =
+    figureRow code n figureNames ∷ ofNamed (figureOf code n) [] (λ f. secondRows f tolerance angles logSines differences lent)
 
 unfoldable pub secondPassVerdict : (code n tolerance : ℕ) → (angles logSines : List ℕ) → (differences : List ℤ) → (lent : List ℕ) → Verdict
-secondPassVerdict code n tolerance angles logSines differences lent = answerOf (secondPassTests code n tolerance angles logSines differences lent)
+secondPassVerdict code n tolerance angles logSines differences lent = judged (secondPassRows code n tolerance angles logSines differences lent)
 
--- ---- what is answered, and what the lent slices hold in the end
+-- ---- what is answered: W and S where no row holds, and else the refusal
 
--- W and S where every test passed, and else the refusal
 abbrev pub secondAnswerOf : Verdict → (w s : ℤ) → SecondAnswer
 secondAnswerOf Passed w s = Done w s
 secondAnswerOf (Failed refusal) w s = Refused refusal
 
 unfoldable pub secondPassAnswer : (code n tolerance : ℕ) → (angles logSines : List ℕ) → (differences : List ℤ) → (lent : List ℕ) → SecondAnswer
 secondPassAnswer code n tolerance angles logSines differences lent =
-    secondAnswerOf (secondPassVerdict code n tolerance angles logSines differences lent)
-    (ofNamed (figureOf code n) (pos 0) (λ f. sineMisclosure f logSines))
-    (ofNamed (figureOf code n) (pos 0) (λ f. sumOfSquares f differences))
+    ofNamed (figureOf code n) (Refused Refusal.NoSuchFigure)
+    (λ f. secondAnswerOf (secondPassVerdict code n tolerance angles logSines differences lent) (sineMisclosure f logSines) (sumOfSquares f differences))
 
--- the new values where W and S are answered, and else what the slice held
-abbrev pub storedAfter : {A : Type 0} → SecondAnswer → (new old : List A) → List A
-storedAfter (Done w s) new old = new
-storedAfter (Refused refusal) new old = old
-
--- a value for each angle, and for each condition, of the figure that a code and an n name
-abbrev pub forAngles : {A : Type 0} → (code n : ℕ) → (Figure → ℕ → A) → List A
-forAngles code n value = ofNamed (figureOf code n) [] (λ f. listed (angleCount f) (value f))
-
-abbrev pub forConditions : {A : Type 0} → (code n : ℕ) → (Figure → ℕ → A) → List A
-forConditions code n value = ofNamed (figureOf code n) [] (λ f. listed (conditionCount f) (value f))
+-- its number and place
+abbrev pub secondTold : SecondAnswer → Told
+secondTold (Done w s) = told 0 0
+secondTold (Refused refusal) = refusalTold refusal

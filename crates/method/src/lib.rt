@@ -1,20 +1,27 @@
-// The method of both passes: document 01, "The two passes". What each gives and what holds of it are in the definitions and theorems; here are the tests
-// that need nothing of a sheet, and the lengths of its slices.
-mod columns;
+// The method of both passes: document 01, "The two passes". What each gives and what holds of it are in the definitions
+// and theorems; here are the lengths of a sheet's slices, and the rows of each order that need no work but a search.
 mod first;
-mod lengths;
 mod second;
-mod tests;
 
-pub use columns::Column;
-pub use first::FirstLengths;
 pub use first::first_given_verdict;
-pub use first::first_lengths;
+pub use first::first_result_lengths;
 pub use first::first_work_verdict;
 pub use second::SecondAnswer;
-pub use second::SecondLengths;
 pub use second::second_given_verdict;
-pub use second::second_lengths;
-pub use second::squares_verdict;
-pub use tests::in_force;
-pub use tests::results_verdict;
+pub use second::second_result_lengths;
+ghost use mathlib.Core.Path.{_≡_};
+ghost use Rattle.method.specs.Pass.{inForce};
+use tables::MOST_ANGLES;
+
+// A column of the work: a number for each angle or condition.
+pub type Column = [i64; MOST_ANGLES];
+
+// The lengths of the five slices that a pass is lent for its results.
+pub type ResultLengths = [usize; 5];
+
+// L or e in force: 0 stands for the default.
+pub fn in_force(value: u32, default: u32) -> u32
+    ensures { λ force. ⌜ force ≡ inForce default value ⌝ }
+{
+    if value == 0 { default } else { value }
+}

@@ -1,27 +1,20 @@
-// The tests of the second pass that need nothing of a sheet, and what it answers: document 01, "The two passes" and "Numbers given when a sheet is turned
-// back".
+// The order of the second pass, as far as it needs no work, and what the pass answers: document 01, "The two passes" and
+// "Numbers given when a sheet is turned back".
 ghost use mathlib.Core.Path.{_≡_};
-ghost use mathlib.Core.List.{[], _∷_};
-ghost use Rattle.refusals.specs.Order.{answerOf};
-ghost use Rattle.refusals.specs.Ranges.{mostTolerance};
-ghost use Rattle.method.specs.Pass.{angleTest, lengthsTest, limitOrToleranceTest};
-ghost use Rattle.method.specs.SecondPass.{secondLengths, sineEntryTest, sumOfSquaresTest};
-use crate::lengths::lengths_verdict;
-use crate::tests::angles_verdict;
-use crate::tests::first_of_four;
-use crate::tests::limit_or_tolerance_verdict;
+ghost use mathlib.Core.List.{_∷_};
+ghost use lib.ListN.{length};
+ghost use Rattle.refusals.specs.Order.{judged};
+ghost use Rattle.method.specs.SecondPass.{secondResultLengths, entryRows};
+use crate::ResultLengths;
 use figures::Figure;
-use refusals::LEAST_DIFFERENCE;
-use refusals::LEAST_LOG_SINE;
-use refusals::Lowest;
-use refusals::MOST_DIFFERENCE;
-use refusals::MOST_LOG_SINE;
 use refusals::MOST_TOLERANCE;
 use refusals::Refusal;
 use refusals::Verdict;
-
-// The lengths of angles, log-sines, differences, reduced coefficients, numerators, rounded corrections, adjusted angles and rests.
-pub type SecondLengths = [usize; 8];
+use refusals::angles_verdict;
+use refusals::first_to_fail;
+use refusals::lengths_verdict;
+use refusals::limit_or_tolerance_verdict;
+use refusals::sine_entries_verdict;
 
 // W and S, or why the sheet is turned back.
 pub enum SecondAnswer {
@@ -29,61 +22,58 @@ pub enum SecondAnswer {
     Refused(Refusal),
 }
 
-pub fn second_lengths(f: Figure) -> SecondLengths
-    ensures { λ r. ⌜ r ≡ secondLengths f ⌝ }
+// Of reduced coefficients, numerators, rounded corrections, adjusted angles and rests.
+pub fn second_result_lengths(f: Figure) -> ResultLengths
+    ensures { λ lengths. ⌜ lengths ≡ secondResultLengths f ⌝ }
 {
     let counts = tables::counts_of(f);
     let angles = counts.angles;
+    [angles, angles, angles, angles, counts.conditions]
+}
+
+// Of angles, log-sines, differences and results.
+fn second_lengths(
+    angles: usize,
+    log_sines: usize,
+    differences: usize,
+    results: ResultLengths,
+) -> [usize; 8]
+    ensures { λ lengths. ⌜ lengths ≡ angles ∷ «log_sines» ∷ differences ∷ results ⌝ }
+{
     [
         angles,
-        angles,
-        angles,
-        angles,
-        angles,
-        angles,
-        angles,
-        counts.conditions,
+        log_sines,
+        differences,
+        results[0],
+        results[1],
+        results[2],
+        results[3],
+        results[4],
     ]
 }
 
-// Numbers 2, 3, 4 and 8.
+// Numbers 2, 3, 4 and 8: what can be said before any work.
 pub fn second_given_verdict(
     f: Figure,
     tolerance: u32,
     angles: &[u32],
     log_sines: &[u32],
     differences: &[i32],
-    lent: SecondLengths,
+    results: ResultLengths,
 ) -> Verdict
-    ensures { λ r. ⌜ r ≡ answerOf (lengthsTest lent (secondLengths f) ∷ limitOrToleranceTest mostTolerance tolerance ∷ angleTest (now (angles .entry)) ∷ sineEntryTest (now («log_sines» .entry)) (now (differences .entry)) ∷ []) ⌝ }
+    ensures { λ verdict.
+        ⌜ verdict ≡ judged (entryRows f tolerance (now (angles .entry)) (now («log_sines» .entry)) (now (differences .entry))
+        (length (now (angles .entry)) ∷ length (now («log_sines» .entry)) ∷ length (now (differences .entry)) ∷ results)) ⌝ }
 {
-    let own = second_lengths(f);
+    let count = tables::counts_of(f).angles;
+    let lent = second_lengths(angles.len(), log_sines.len(), differences.len(), results);
+    let own = second_lengths(count, count, count, second_result_lengths(f));
     let lengths = lengths_verdict(&lent, &own);
     let range = limit_or_tolerance_verdict(tolerance, MOST_TOLERANCE);
     let angle = angles_verdict(angles);
-    let sine_entry = sine_entry_verdict(log_sines, differences);
-    first_of_four(lengths, range, angle, sine_entry)
-}
-
-// Number 8.
-fn sine_entry_verdict(log_sines: &[u32], differences: &[i32]) -> Verdict
-    ensures { λ r. ⌜ r ≡ sineEntryTest (now («log_sines» .entry)) (now (differences .entry)) ⌝ }
-{
-    let log_sine = places::lowest_outside(log_sines, LEAST_LOG_SINE, MOST_LOG_SINE);
-    let difference = places::lowest_signed_outside(differences, LEAST_DIFFERENCE, MOST_DIFFERENCE);
-    match places::earlier_place(log_sine, difference) {
-        Lowest::Nowhere => Verdict::Passed,
-        Lowest::At(place) => Verdict::Failed(Refusal::SineEntryOutOfRange(place)),
-    }
-}
-
-// Number 10.
-pub fn squares_verdict(squares: i64) -> Verdict
-    ensures { λ r. ⌜ r ≡ sumOfSquaresTest squares ⌝ }
-{
-    if squares == 0 {
-        Verdict::Failed(Refusal::SumOfSquaresIsZero)
-    } else {
-        Verdict::Passed
-    }
+    let sine_entry = sine_entries_verdict(log_sines, differences);
+    first_to_fail(
+        lengths,
+        first_to_fail(range, first_to_fail(angle, sine_entry)),
+    )
 }

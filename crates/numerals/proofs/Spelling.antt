@@ -1,13 +1,13 @@
 -- A number spelled from its last digit backwards, into a room that the text is to end with: what the loop of `numerals::digits` keeps, and its steps.
 -- Assumes nothing.
-use mathlib.Core.Path.{_≡_, refl, sym, ap, ap₂, _∙_, subst}
-use mathlib.Core.List.{List, [], _∷_, _++_, append-nil}
+use mathlib.Core.Path.{_≡_, sym, ap, ap₂, _∙_, subst}
+use mathlib.Core.List.{List, _∷_, _++_, append-nil}
 use Prim.Native.Nat.{ℕ, zero, suc, _+_, _-_, _/_, _%_, _^_, _≤_, _<_}
 use native.Mathlib.Nat.{le-of-eq, pow-suc, div-lt-iff-lt-mul}
 use native.Mathlib.Numerals.{add-one}
 use native.Mathlib.Omega.{arith}
 use lib.Dec.{lit<}
-use lib.ListN.{length, getD, drop, set, length-set, drop-of-length-le}
+use lib.ListN.{length, drop, set, length-set, drop-of-length-le}
 use lib.Seq.{drop-cons, drop-set-lt, getD-set-same, append-snoc}
 use Rattle.text.specs.Text.{digit, natural}
 use Rattle.text.proofs.Numbers.{natural-last, natural-before}

@@ -1,2 +1,2 @@
-pub mod FirstStores
-pub mod SecondStores
+mod FirstPromised
+mod SecondPromised

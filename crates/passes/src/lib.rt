@@ -1,4 +1,4 @@
-// The two passes of document 01 over lent slices: every test first, then the work by value, and the stores last, so that a
+// The two passes of document 01 over lent slices: every row first, then the work by value, and the stores last, so that a
 // refusal changes nothing.
 mod first;
 mod second;

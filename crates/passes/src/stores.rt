@@ -1,4 +1,4 @@
-// The stores, once every test has passed: a column's numbers into a lent slice.
+// The stores, once no row holds: a column's numbers into a lent slice.
 ghost use mathlib.Core.Path.{_≡_};
 ghost use Prim.Native.Nat.{ℕ, _≤_, _<_};
 ghost use lib.IntN.{pos, natAbs};
@@ -9,7 +9,7 @@ ghost use Rattle.whole.specs.Sums.{vector};
 ghost use Rattle.figures.specs.Numerators.{mostAngles};
 use method::Column;
 
-pub fn store_wide(x: Column, lent: &mut [i64])
+pub(crate) fn store_wide(x: Column, lent: &mut [i64])
     requires { ⌜ length (now lent) ≤ mostAngles ⌝ }
     ensures { λ _. ⌜ now (lent .exit) ≡ listed (length (now (lent .entry))) (vector x) ⌝ }
 {
@@ -20,7 +20,7 @@ pub fn store_wide(x: Column, lent: &mut [i64])
     }
 }
 
-pub fn store_signed(x: Column, lent: &mut [i32])
+pub(crate) fn store_signed(x: Column, lent: &mut [i32])
     requires { ⌜ length (now lent) ≤ mostAngles ⌝ }
     requires { ⌜ ((i : ℕ) → i < length (now lent) → natAbs (vector x i) < 2147483648) ⌝ }
     ensures { λ _. ⌜ now (lent .exit) ≡ listed (length (now (lent .entry))) (vector x) ⌝ }
@@ -32,7 +32,7 @@ pub fn store_signed(x: Column, lent: &mut [i32])
     }
 }
 
-pub fn store_angles(x: Column, lent: &mut [u32])
+pub(crate) fn store_angles(x: Column, lent: &mut [u32])
     requires { ⌜ length (now lent) ≤ mostAngles ⌝ }
     requires { ⌜ ((i : ℕ) → i < length (now lent) → pos 0 ≤ℤ vector x i) ⌝ }
     requires { ⌜ ((i : ℕ) → i < length (now lent) → natAbs (vector x i) < 2147483648) ⌝ }

@@ -1,16 +1,20 @@
--- Where the reader looks for the values of one sort: at start, start + step, start + 2·step and so on, each in the same width. That these are the
--- places of the layout is a law (proofs/ColumnLaws.antt).
-use Prim.Native.Nat.{ℕ, _+_, _*_}
+-- Where the reader looks for the values of one sort: at start, start + step, start + 2·step and so on, each in the same width. That these are where
+-- the layout has them is a law (proofs/ColumnLaws.antt).
+use Prim.Native.Nat.{ℕ, _+_, _*_, _≤_}
 use mathlib.Core.List.{List}
 use lib.IntN.{ℤ}
+use lib.ListN.{length, take}
 use Rattle.whole.specs.Lists.{listed}
 use Rattle.figures.specs.declared.Figure.{Figure}
 use Rattle.figures.specs.Figure.{angleCount}
+use Rattle.figures.specs.Numerators.{mostAngles}
 use Rattle.bits.specs.Bits.{fieldAt}
 use Rattle.complement.specs.Complement.{signedOf}
 use Rattle.layout.specs.declared.Kind.{Kind}
 use Rattle.layout.specs.declared.Kind.the-variants.{FirstPass, SecondPass}
-use Rattle.layout.specs.Layout.{limitOrTolerancePlace, widthOf}
+use Rattle.layout.specs.Layout.{fixedIn, sineEntriesIn}
+use Rattle.sheets.specs.Sheet.{Values, valuesFrom, mostBits}
+use Rattle.sheets.specs.Promises.{Slices}
 use Rattle.reading.specs.declared.columns.Column.{Column}
 
 abbrev pub columnFrom : (start step width : ℕ) → Column
@@ -29,6 +33,10 @@ logSineColumn = columnFrom 41 65 27
 abbrev pub differenceColumn : Column
 differenceColumn = columnFrom 68 65 15
 
+-- so many of its values are few, and end early
+abbrev pub ColumnFits : Column → (count : ℕ) → Type 0
+ColumnFits c count = (count ≤ mostAngles) × (c .start + c .step * count ≤ mostBits)
+
 -- the values of a column
 unfoldable pub columnValues : List ℕ → Column → (count : ℕ) → List ℕ
 columnValues sheet c count = listed count (λ i. fieldAt sheet (c .start + c .step * i) (c .width))
@@ -36,6 +44,16 @@ columnValues sheet c count = listed count (λ i. fieldAt sheet (c .start + c .st
 unfoldable pub signedColumnValues : List ℕ → Column → (count : ℕ) → List ℤ
 signedColumnValues sheet c count = listed count (λ i. signedOf (c .width) (fieldAt sheet (c .start + c .step * i) (c .width)))
 
--- L or e stands after the head, whatever the figure
-abbrev pub limitOrToleranceIn : Kind → List ℕ → ℕ
-limitOrToleranceIn kind sheet = fieldAt sheet 12 (widthOf (limitOrTolerancePlace kind))
+-- ---- values that were taken off a sheet
+
+-- as many of each sort as the kind and the figure have
+abbrev pub valuesTaken : Kind → Figure → (limitOrTolerance : ℕ) (angles fixed logSines : List ℕ) (differences : List ℤ) → Values
+valuesTaken kind f limitOrTolerance angles fixed logSines differences =
+    valuesFrom limitOrTolerance (take (angleCount f) angles) (take (fixedIn kind f) fixed)
+    (take (sineEntriesIn kind f) logSines) (take (sineEntriesIn kind f) differences)
+
+-- no slice is longer than the arrays
+abbrev pub ShortEnough : Slices → Type 0
+ShortEnough lent =
+    (length (lent .angles) ≤ mostAngles) × (length (lent .fixed) ≤ mostAngles)
+    × (length (lent .logSines) ≤ mostAngles) × (length (lent .differences) ≤ mostAngles)

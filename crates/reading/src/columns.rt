@@ -1,4 +1,4 @@
-// Columns of a sheet: the values of one sort, read off it and searched.
+// Columns of a sheet: the values of one sort, as they stand in it.
 use bits::field;
 use complement::signed;
 use figures::Figure;
@@ -10,18 +10,12 @@ use layout::Kind;
 use layout::LOG_SINE_WIDTH;
 use layout::SECOND_PASS_BODY_AT;
 use layout::SECOND_PASS_STEP;
-use places::lowest_outside;
-use places::lowest_signed_outside;
-use refusals::Lowest;
 use tables::MOST_ANGLES;
 use tables::counts_of;
 ghost use mathlib.Core.Path.{_≡_};
-ghost use Prim.Native.Nat.{_+_, _*_, _≤_};
-ghost use lib.ListN.{length};
-ghost use Rattle.refusals.specs.Order.{lowestOutside, lowestSignedOutside};
-ghost use Rattle.figures.specs.Numerators.{mostAngles};
-ghost use Rattle.sheets.specs.Sheet.{mostBits};
-ghost use Rattle.reading.specs.Columns.{angleColumn, fixedColumn, logSineColumn, differenceColumn, columnValues, signedColumnValues};
+ghost use lib.ListN.{take};
+ghost use Rattle.reading.specs.Columns.{angleColumn, fixedColumn, logSineColumn, differenceColumn};
+ghost use Rattle.reading.specs.Columns.{ColumnFits, columnValues, signedColumnValues};
 
 // They stand at start, start + step, start + 2 * step and so on, each in the same width.
 pub(crate) struct Column {
@@ -83,55 +77,34 @@ pub(crate) fn difference_column() -> Column
     }
 }
 
-// As many values of a column as the slice has room for.
-pub(crate) fn unpack(sheet: &[u8], column: Column, values: &mut [u32])
-    requires { ⌜ column .start + column .step * length (now values) ≤ mostBits ⌝ }
-    ensures { λ _. ⌜ now (values .exit) ≡ columnValues (now (sheet .entry)) column (length (now (values .entry))) ⌝ }
+// The first values of a column, each taken once.
+pub(crate) fn column_values(sheet: &[u8], column: Column, count: usize) -> [u32; MOST_ANGLES]
+    requires { ⌜ ColumnFits column count ⌝ }
+    ensures { λ values. ⌜ take count values ≡ columnValues (now (sheet .entry)) column count ⌝ }
 {
+    let mut values = [0u32; MOST_ANGLES];
     let mut at = column.start;
     let mut taken = 0;
-    while taken < values.len() {
+    while taken < count {
         values[taken] = field(sheet, at, column.width);
         at += column.step;
         taken += 1;
     }
+    values
 }
 
 // The same of values in two's complement.
-pub(crate) fn unpack_signed(sheet: &[u8], column: Column, values: &mut [i32])
-    requires { ⌜ column .start + column .step * length (now values) ≤ mostBits ⌝ }
-    ensures { λ _. ⌜ now (values .exit) ≡ signedColumnValues (now (sheet .entry)) column (length (now (values .entry))) ⌝ }
+pub(crate) fn signed_column_values(sheet: &[u8], column: Column, count: usize) -> [i32; MOST_ANGLES]
+    requires { ⌜ ColumnFits column count ⌝ }
+    ensures { λ values. ⌜ take count values ≡ signedColumnValues (now (sheet .entry)) column count ⌝ }
 {
+    let mut values = [0i32; MOST_ANGLES];
     let mut at = column.start;
     let mut taken = 0;
-    while taken < values.len() {
+    while taken < count {
         values[taken] = signed(field(sheet, at, column.width), column.width);
         at += column.step;
         taken += 1;
     }
-}
-
-// The lowest place of a column whose value lies outside least..most.
-pub(crate) fn lowest_in(sheet: &[u8], column: Column, count: usize, least: u32, most: u32) -> Lowest
-    requires { ⌜ (count ≤ mostAngles) × (column .start + column .step * count ≤ mostBits) ⌝ }
-    ensures { λ lowest. ⌜ lowest ≡ lowestOutside (columnValues (now (sheet .entry)) column count) least most ⌝ }
-{
-    let mut values = [0u32; MOST_ANGLES];
-    unpack(sheet, column, &mut values[..count]);
-    lowest_outside(&values[..count], least, most)
-}
-
-pub(crate) fn lowest_signed_in(
-    sheet: &[u8],
-    column: Column,
-    count: usize,
-    least: i32,
-    most: i32,
-) -> Lowest
-    requires { ⌜ (count ≤ mostAngles) × (column .start + column .step * count ≤ mostBits) ⌝ }
-    ensures { λ lowest. ⌜ lowest ≡ lowestSignedOutside (signedColumnValues (now (sheet .entry)) column count) least most ⌝ }
-{
-    let mut values = [0i32; MOST_ANGLES];
-    unpack_signed(sheet, column, &mut values[..count]);
-    lowest_signed_outside(&values[..count], least, most)
+    values
 }

@@ -1,8 +1,14 @@
--- Laws of the definitions, which every operation's proof cites: `Answers` on the order of tests, `Places` on the lowest place, `Verdicts`
--- on one test, `Ranges` on a value within its range, and `Table` on numbers and places. `Search` has the steps of a search in a loop.
+-- Laws of the definitions, which every operation's proof cites. `Rows` has the law of every order; `InSteps` how the code answers one; `Decided` that a
+-- question's case holds exactly if it is asked; `Nowhere` what a row that holds nowhere says of the values; `PlaceBounds` that no place is answered past the
+-- most; `OneResult` that two results of one promise are equal. `Answers` and `Places` are on tests in their order and on the lowest place; `Asking` has the
+-- steps of a search in a loop, `NumberLists` those of a comparison.
 pub mod Answers
+pub mod Asking
+pub mod Decided
+pub mod InSteps
+pub mod Nowhere
+pub mod NumberLists
+pub mod OneResult
+pub mod PlaceBounds
 pub mod Places
-pub mod Ranges
-pub mod Search
-pub mod Table
-pub mod Verdicts
+pub mod Rows

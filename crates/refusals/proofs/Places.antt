@@ -1,14 +1,14 @@
 -- A search for the lowest place says p exactly if the test fails at p and at no lower place, and says that there is none exactly if it fails
 -- at no place. By induction over the count of places; what a search says of the places determines its answer.
 use Prim.Native.Nat.{ℕ, zero, suc, _≤_, _<_}
-use mathlib.Core.Bool.{Bool, true, false, _||_, true≢false}
+use mathlib.Core.Bool.{Bool, true, false, true≢false}
 use mathlib.Core.Logic.{_↔_, ⊎-elim}
 use mathlib.Core.Path.{_≡_, refl, sym, ap, subst, _∙_}
 use native.Mathlib.Nat.{eq-or-lt-of-le}
 use native.Mathlib.Omega.{arith}
 use Rattle.refusals.specs.declared.Lowest.{Lowest}
 use Rattle.refusals.specs.declared.Lowest.the-variants.{Nowhere, At}
-use Rattle.refusals.specs.Order.{lowestPlace, orHere, earlierOf}
+use Rattle.refusals.specs.Order.{lowestPlace, orHere}
 
 -- of the places 1, 2, .., count, the test fails at p and at no lower one
 pub record LowestFailing (fails : ℕ → Bool) (count p : ℕ) : Type 0 where
@@ -74,41 +74,3 @@ module _ (fails : ℕ → Bool) where
 
   pub lowest-is-nowhere : (count : ℕ) → (lowestPlace fails count ≡ Nowhere) ↔ FailsNowhere fails count
   lowest-is-nowhere count = says-so count Nowhere
-
--- tests that agree at the places 1, 2, .., count have the same lowest place
-pub lowest-agrees : (f g : ℕ → Bool) (count : ℕ) → ((p : ℕ) → 1 ≤ p → p ≤ count → f p ≡ g p) → lowestPlace f count ≡ lowestPlace g count
-unfolding lowestPlace
-lowest-agrees f g zero same = refl
-lowest-agrees f g (suc count) same =
-    rw (lowest-agrees f g count (λ p one l. same p one (omega arith)), same (suc count) (omega arith) (omega arith))
-
--- one test or another: the lower of their places
-module _ (count : ℕ) where
-  abbrev Within : Lowest → Type 0
-  Within Nowhere = Unit {0}
-  Within (At p) = p ≤ count
-
-  within : (fails : ℕ → Bool) (answer : Lowest) → Says fails count answer → Within answer
-  within fails Nowhere s = tt
-  within fails (At p) s = s .within
-
-  either-here : (a b : Lowest) (f g : Bool) → Within a → Within b
-      → orHere (earlierOf a b) (f || g) (suc count) ≡ earlierOf (orHere a f (suc count)) (orHere b g (suc count))
-  either-here (At p) (At q) f g wa wb = refl
-  either-here (At p) Nowhere f true wa wb = ap At (omega arith)
-  either-here (At p) Nowhere f false wa wb = refl
-  either-here Nowhere (At q) true g wa wb = ap At (omega arith)
-  either-here Nowhere (At q) false g wa wb = refl
-  either-here Nowhere Nowhere true true wa wb = ap At (omega arith)
-  either-here Nowhere Nowhere true false wa wb = refl
-  either-here Nowhere Nowhere false g wa wb = refl
-
-pub lowest-of-either : (f g : ℕ → Bool) (count : ℕ)
-    → lowestPlace (λ p. f p || g p) count ≡ earlierOf (lowestPlace f count) (lowestPlace g count)
-unfolding lowestPlace
-lowest-of-either f g zero = refl
-lowest-of-either f g (suc count) =
-    rw (lowest-of-either f g count)
-    (either-here count (lowestPlace f count) (lowestPlace g count) (f (suc count)) (g (suc count))
-    (within count f (lowestPlace f count) (says f count))
-    (within count g (lowestPlace g count) (says g count)))

@@ -1,3 +1,7 @@
 pub mod Numbers
 pub mod Order
+pub mod Promise
+pub mod Questions
 pub mod Ranges
+pub mod Searches
+pub mod Table

@@ -1,6 +1,10 @@
 -- The table of document 01, "Numbers given when a sheet is turned back": the number of each refusal, and its place.
-use Prim.Native.Nat.{ℕ}
+use Prim.Native.Nat.{ℕ, zero, suc}
+use mathlib.Core.List.{List, [], _∷_}
+use lib.ListN.{getD}
 use Rattle.refusals.specs.declared.Refusal.{Refusal}
+use Rattle.refusals.specs.declared.Verdict.{Verdict}
+use Rattle.refusals.specs.declared.Verdict.the-variants.{Passed, Failed}
 
 -- the column "No."
 abbrev pub numberOf : Refusal → ℕ
@@ -33,3 +37,48 @@ placeOf Refusal.SumOfSquaresIsZero = 0
 placeOf Refusal.NoSuchKind = 0
 placeOf Refusal.WrongSheetLength = 0
 placeOf Refusal.FillingBitSet = 0
+
+-- ---- the table by number
+
+-- the value with a number, counted from 1; `other` where there is none
+abbrev pub numbered : {A : Type 0} → List A → ℕ → A → A
+numbered values zero other = other
+numbered values (suc i) other = getD values i other
+
+-- the rows of the table in their order, at a place
+abbrev pub tableAt : (place : ℕ) → List Refusal
+tableAt place =
+    Refusal.NoSuchFigure
+    ∷ Refusal.WrongLength
+    ∷ Refusal.LimitOrToleranceOutOfRange
+    ∷ Refusal.AngleOutOfRange place
+    ∷ Refusal.FixedAngleOutOfRange place
+    ∷ Refusal.MisclosureBeyondLimit place
+    ∷ Refusal.ResultOutOfRange place
+    ∷ Refusal.SineEntryOutOfRange place
+    ∷ Refusal.SineMisclosureBeyondTolerance
+    ∷ Refusal.SumOfSquaresIsZero
+    ∷ Refusal.NoSuchKind
+    ∷ Refusal.WrongSheetLength
+    ∷ Refusal.FillingBitSet
+    ∷ []
+
+-- the refusal with a number of the table, at a place
+abbrev pub refusalOf : (number place : ℕ) → Refusal
+refusalOf number place = numbered (tableAt place) number Refusal.NoSuchFigure
+
+-- ---- what is answered, as number and place: 0 and 0 when it is done
+
+pub record Told : Type 0 where
+  pub number : ℕ
+  pub place : ℕ
+
+abbrev pub told : (number place : ℕ) → Told
+told k p = record { number = k; place = p }
+
+abbrev pub refusalTold : Refusal → Told
+refusalTold refusal = told (numberOf refusal) (placeOf refusal)
+
+abbrev pub verdictTold : Verdict → Told
+verdictTold Passed = told 0 0
+verdictTold (Failed refusal) = refusalTold refusal

@@ -1,18 +1,72 @@
--- How an operation answers (document 01, "Numbers given when a sheet is turned back": "The lowest place is named", and the
--- order of each operation). Its tests stand in one list, in the paper's order; each passes, or fails with its refusal at
--- its lowest place. The first that fails is answered. Places are counted from 1, as the paper counts angles and conditions.
-use Prim.Native.Nat.{ℕ, zero, suc, min}
-use mathlib.Core.Bool.{Bool, true, false, _||_}
-use mathlib.Core.List.{List, [], _∷_}
-use lib.Dec.{ltb}
-use lib.IntN.{ℤ, pos}
-use lib.ListN.{length, getD}
-use lib.Signed.{ltZ}
+-- How an operation answers: document 01, "Numbers given when a sheet is turned back". Its order is one list of rows, each with its number and its stated
+-- case. The first row that holds anywhere is answered, at its lowest place. Places are counted from 1, as the paper counts angles and conditions; a row
+-- without a place has place 0.
+use Prim.Native.Nat.{ℕ, zero, suc, _≤_, _<_}
+use mathlib.Core.Bool.{Bool, true, false, _&&_}
+use mathlib.Core.List.{List, [], _∷_, map}
+use mathlib.Core.Logic.{_⊎_}
+use mathlib.Core.Path.{_≡_}
+use lib.Dec.{eqb}
 use Rattle.refusals.specs.declared.Refusal.{Refusal}
 use Rattle.refusals.specs.declared.Verdict.{Verdict}
 use Rattle.refusals.specs.declared.Verdict.the-variants.{Passed, Failed}
 use Rattle.refusals.specs.declared.Lowest.{Lowest}
 use Rattle.refusals.specs.declared.Lowest.the-variants.{Nowhere, At}
+use Rattle.refusals.specs.Numbers.{numberOf, placeOf, refusalOf}
+use Rattle.refusals.specs.Questions.{Question, Holds, asked}
+
+-- ---- rows
+
+pub data Row : Type 0 where
+  -- its number and its stated case
+  row : (number : ℕ) → Question → Row
+  -- its number, how many places there are, and its stated case at each
+  rowAt : (number places : ℕ) → (ℕ → Question) → Row
+
+abbrev pub number : Row → ℕ
+number (row k question) = k
+number (rowAt k places question) = k
+
+-- the stated case of a row holds at a place
+abbrev pub HoldsAt : Row → (place : ℕ) → Type 0
+HoldsAt (row k question) p = (p ≡ 0) × Holds question
+HoldsAt (rowAt k places question) p = (1 ≤ p) × (p ≤ places) × Holds (question p)
+
+-- it holds at this place, and at no lower one
+pub record LowestAt (r : Row) (place : ℕ) : Type 0 where
+  pub here : HoldsAt r place
+  pub at-no-lower : (q : ℕ) → q < place → HoldsAt r q → ⊥
+
+-- it holds at no place
+abbrev pub HoldsNowhere : Row → Type 0
+HoldsNowhere r = (p : ℕ) → HoldsAt r p → ⊥
+
+-- ---- what an order answers, as number and place
+
+-- number k at place p: the first row that holds anywhere has number k, and p is its lowest place; 0 at 0 where no row holds
+abbrev pub Answers : List Row → (k p : ℕ) → Type 0
+Answers [] k p = (k ≡ 0) × (p ≡ 0)
+Answers (r ∷ later) k p = ((k ≡ number r) × LowestAt r p) ⊎ (HoldsNowhere r × Answers later k p)
+
+abbrev pub NoneHolds : List Row → Type 0
+NoneHolds [] = Unit {0}
+NoneHolds (r ∷ later) = HoldsNowhere r × NoneHolds later
+
+-- a number stands in an order
+abbrev pub Stands : (k : ℕ) → List Row → Type 0
+Stands k [] = ⊥
+Stands k (r ∷ later) = (k ≡ number r) ⊎ Stands k later
+
+-- every row of an order is one of the table's, with a place where the table has one
+abbrev pub inTable : Row → Bool
+inTable (row k question) = eqb (numberOf (refusalOf k 0)) k
+inTable (rowAt k places question) = eqb (numberOf (refusalOf k 1)) k && eqb (placeOf (refusalOf k 1)) 1
+
+abbrev pub allInTable : List Row → Bool
+allInTable [] = true
+allInTable (r ∷ later) = inTable r && allInTable later
+
+-- ---- how the answer is computed
 
 -- the answer of a list of tests: the first that fails, or passed if none does
 unfoldable pub answerOf : List Verdict → Verdict
@@ -41,27 +95,10 @@ unfoldable pub lowestPlace : (fails : ℕ → Bool) → (count : ℕ) → Lowest
 lowestPlace fails zero = Nowhere
 lowestPlace fails (suc count) = orHere (lowestPlace fails count) (fails (suc count)) (suc count)
 
--- the lower of two places, where there is one
-abbrev pub earlierOf : Lowest → Lowest → Lowest
-earlierOf Nowhere b = b
-earlierOf (At p) Nowhere = At p
-earlierOf (At p) (At q) = At (min p q)
+abbrev pub verdictOf : Row → Verdict
+verdictOf (row k question) = failsIf (asked question) (refusalOf k 0)
+verdictOf (rowAt k places question) = failsAt (refusalOf k) (lowestPlace (λ p. asked (question p)) places)
 
--- the value with a number, counted from 1; `other` where there is none
-abbrev pub numbered : {A : Type 0} → List A → ℕ → A → A
-numbered values zero other = other
-numbered values (suc i) other = getD values i other
-
--- a value lies outside least..most; both ends are inside
-abbrev pub outside : (least most value : ℕ) → Bool
-outside least most value = ltb value least || ltb most value
-
-abbrev pub outsideSigned : (least most value : ℤ) → Bool
-outsideSigned least most value = ltZ value least || ltZ most value
-
--- the lowest place of a value that lies outside least..most
-abbrev pub lowestOutside : (values : List ℕ) (least most : ℕ) → Lowest
-lowestOutside values least most = lowestPlace (λ place. outside least most (numbered values place 0)) (length values)
-
-abbrev pub lowestSignedOutside : (values : List ℤ) (least most : ℤ) → Lowest
-lowestSignedOutside values least most = lowestPlace (λ place. outsideSigned least most (numbered values place (pos 0))) (length values)
+-- what an operation answers by its order
+abbrev pub judged : List Row → Verdict
+judged rows = answerOf (map verdictOf rows)

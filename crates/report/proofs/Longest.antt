@@ -1,7 +1,8 @@
 -- No bytes have a longer text than `longestText`: an accepted pass has numbers of few digits, by the passes' theorems, and no refusal a place past
 -- the largest figure's angles. Assumes nothing.
-use mathlib.Core.Path.{_≡_, refl, sym, subst}
+use mathlib.Core.Path.{_≡_, sym, ap, subst, _∙_}
 use mathlib.Core.List.{List}
+use mathlib.Core.Logic.{⊎-elim}
 use Prim.Native.Nat.{ℕ, _*_, _^_, _≤_, _<_}
 use native.Mathlib.Nat.{le-refl, le-trans, le-of-lt, lt-of-lt-of-le, lt-of-le-of-lt, mul-le-mul-right}
 use native.Mathlib.Omega.{arith}
@@ -11,33 +12,28 @@ use lib.IntN.{ℤ, pos, negℤ, natAbs, _*ℤ_}
 use Rattle.whole.specs.Sums.{vector, dot}
 use Rattle.whole.proofs.Sums.{sum-magnitude}
 use Rattle.refusals.specs.declared.Refusal.{Refusal}
-use Rattle.refusals.specs.declared.Verdict.{Verdict}
-use Rattle.refusals.specs.declared.Verdict.the-variants.{Passed, Failed}
-use Rattle.refusals.specs.Numbers.{placeOf}
-use Rattle.refusals.specs.Order.{answerOf}
+use Rattle.refusals.specs.declared.Verdict.the-variants.{Passed}
+use Rattle.refusals.specs.Numbers.{placeOf, Told, refusalTold, verdictTold}
+use Rattle.refusals.specs.Order.{judged}
 use Rattle.refusals.specs.Ranges.{mostDifference}
+use Rattle.refusals.proofs.PlaceBounds.{place-within}
 use Rattle.figures.specs.declared.Figure.{Figure}
 use Rattle.figures.specs.Figure.{denominator, angleCount, conditionCount}
 use Rattle.figures.specs.Numerators.{mostAngles}
 use Rattle.figures.proofs.Figures.{angle-bound, condition-bound}
-use Rattle.layout.specs.declared.Kind.{Kind}
-use Rattle.layout.specs.declared.Kind.the-variants.{FirstPass, SecondPass}
-use Rattle.heads.specs.declared.Look.the-variants.{Head}
-use Rattle.layout.specs.Layout.{lengthsOf}
-use Rattle.heads.specs.Head.{kindIn, figureIn, headTests, lookAfter, lookOf}
-use Rattle.sheets.specs.declared.Reading.the-variants.{Read}
-use Rattle.sheets.specs.Sheet.{valuesRead}
-use Rattle.sheets.specs.Judging.{readerTests, readingAfter, readingOf}
 use Rattle.worked.specs.declared.WorkedSheet.{WorkedSheet}
 use Rattle.columns.specs.Column.{column}
 use Rattle.method.specs.Pass.{given}
-use Rattle.method.specs.FirstPass.{firstLengths, firstTests}
-use Rattle.method.specs.SecondPass.{sineMisclosure, sumOfSquares, differenceSquares, secondReduced, secondNumerator, secondRounded, secondAdjusted, secondRest, secondLengths, secondTests}
+use Rattle.method.specs.FirstPass.{firstRows}
+use Rattle.method.specs.SecondPass.{sineMisclosure, sumOfSquares, differenceSquares, secondReduced, secondNumerator, secondRounded, secondAdjusted, secondRest}
 use Rattle.work.specs.SecondWork.{mostDenominator, SineEntries, secondWorkOf}
-use Rattle.work.specs.FirstWork.{StoreFits, firstWorkOf}
-use Rattle.worked.specs.Worked.{refusedSheet, shownIf, firstShown, firstSheet, secondShown, secondSheet, workedRead, workedLook, workedOf}
+use Rattle.work.specs.FirstWork.{firstWorkOf}
+use Rattle.work.specs.Premises.{StoreFits}
+use Rattle.worked.specs.Worked.{firstSheetLengths, secondSheetLengths, refusedSheet, firstShown, secondShown, workedOf, sheetRows, outcomeTold}
+use Rattle.worked.proofs.Refusals.{sheet-rows-known, worked-told}
+use Rattle.worked.proofs.ShownAs.{FirstShown, SecondShown, RefusedShown, shown-as}
 use Rattle.columns.proofs.ColumnLaws.{column-at}
-use Rattle.work.proofs.SmallEntries.{small-angles, sine-entries}
+use Rattle.work.proofs.SmallEntries.{small-angles, sine-entries, as-many}
 use Rattle.work.proofs.FirstAccepted.{steps-pass, limit-within, given-angles, stores-fit}
 use Rattle.work.proofs.ProductLaws.{product-magnitude}
 use Rattle.method.proofs.SecondAccepted.{Accepted, accepted, result-most, rounded-most, rest-most}
@@ -46,7 +42,7 @@ use Rattle.work.proofs.ToleranceLaws.{squares-natural, squares-magnitude, withi
 use Rattle.lines.specs.Lines.{longestText}
 use Rattle.report.specs.Report.{textOf, reportText}
 use Rattle.lines.proofs.Lengths.{Digits, first-length, second-length, refused-length}
-use Rattle.report.proofs.PlaceBounds.{PlaceWithin, angles-few, fixed-few, log-sines-few, differences-few, head-within, reader-within, first-within, second-within}
+use Rattle.report.proofs.PlaceBounds.{sheet-within}
 
 abbrev Fits : WorkedSheet → Type 0
 Fits s = length (textOf s) ≤ longestText
@@ -54,10 +50,6 @@ Fits s = length (textOf s) ≤ longestText
 refused-fits : (refusal : Refusal) → placeOf refusal ≤ mostAngles → Fits (refusedSheet refusal)
 unfolding textOf
 refused-fits refusal h = refused-length refusal (omega arith)
-
-shown-fits : (v : Verdict) (shown : WorkedSheet) → PlaceWithin v → (v ≡ Passed → Fits shown) → Fits (shownIf v shown)
-shown-fits Passed shown placed passes = passes refl
-shown-fits (Failed refusal) shown placed passes = refused-fits refusal placed
 
 column-digits : (k : ℕ) (g : ℕ → ℤ) (count : ℕ) → count ≤ mostAngles → ((i : ℕ) → i < count → natAbs (g i) < 10 ^ k) → Digits k count (vector (column g))
 column-digits k g count few h i b = subst (λ (z : ℤ). natAbs z < 10 ^ k) (sym (column-at g i (lt-of-lt-of-le b few))) (h i b)
@@ -69,10 +61,10 @@ module _ (f : Figure) (limit : ℕ) (angles fixed : List ℕ) where
   ten-digits : (x : List ℤ) (count : ℕ) → StoreFits x count → Digits 10 count (vector x)
   ten-digits x count fits i b = omega (arith, fits .1 i b)
 
-  first-fits : answerOf (firstTests f limit angles fixed (firstLengths f)) ≡ Passed → Fits (firstShown f (column (given angles)) (firstWorkOf f angles fixed))
+  first-fits : judged (firstRows f limit angles fixed (firstSheetLengths f angles fixed)) ≡ Passed → Fits (firstShown f (column (given angles)) (firstWorkOf f angles fixed))
   unfolding textOf
   first-fits e =
-      let lent = firstLengths f in
+      let lent = firstSheetLengths f angles fixed in
       let steps = steps-pass f limit angles fixed lent e in
       let stores = stores-fit f limit angles fixed (limit-within f limit angles fixed lent (steps .before-work)) (steps .of-work) in
       let work = firstWorkOf f angles fixed in
@@ -85,18 +77,14 @@ module _ (f : Figure) (limit : ℕ) (angles fixed : List ℕ) where
       (ten-digits (work .misclosures) (conditionCount f) (stores .misclosures-fit))
       (ten-digits (work .rests) (conditionCount f) (stores .rests-fit))
 
-  first-sheet-fits : length angles ≤ mostAngles → length fixed ≤ mostAngles → Fits (firstSheet f limit angles fixed)
-  unfolding firstSheet
-  first-sheet-fits few-angles few-fixed =
-      shown-fits (answerOf (firstTests f limit angles fixed (firstLengths f))) (firstShown f (column (given angles)) (firstWorkOf f angles fixed))
-      (first-within f limit angles fixed (firstLengths f) few-angles few-fixed .answer) first-fits
-
 -- ---- kind 2
 
 module _ (f : Figure) (tolerance : ℕ) (angles logSines : List ℕ) (differences : List ℤ) where
-  module _ (ok : Accepted f tolerance angles logSines differences (secondLengths f)) where
+  module _ (ok : Accepted f tolerance angles logSines differences (secondSheetLengths f angles logSines differences)) where
     in-range : SineEntries logSines differences
-    in-range = sine-entries f tolerance angles logSines differences (secondLengths f) (ok .entries)
+    in-range =
+        sine-entries f tolerance angles logSines differences (secondSheetLengths f angles logSines differences) (ok .entries)
+        (as-many f tolerance angles logSines differences _ (ok .entries))
 
     misclosure-small : natAbs (sineMisclosure f logSines) < 2 ^ 18
     misclosure-small =
@@ -129,7 +117,7 @@ module _ (f : Figure) (tolerance : ℕ) (angles logSines : List ℕ) (difference
     second-fits : Fits (secondShown f (column (given angles)) (secondWorkOf f angles logSines differences))
     unfolding textOf
     second-fits =
-        let lent = secondLengths f in
+        let lent = secondSheetLengths f angles logSines differences in
         let few-conditions = le-trans (condition-bound f) (lit≤ tt) in
         let work = secondWorkOf f angles logSines differences in
         second-length f (sineMisclosure f logSines) (sumOfSquares f differences)
@@ -142,33 +130,24 @@ module _ (f : Figure) (tolerance : ℕ) (angles logSines : List ℕ) (difference
         (column-digits 7 (secondAdjusted f angles logSines differences) (angleCount f) (angle-bound f) (λ i b. omega (arith, result-most f tolerance angles logSines differences lent ok i b)))
         (column-digits 1 (secondRest f logSines differences) (conditionCount f) few-conditions (λ j b. omega (arith, rest-most f tolerance angles logSines differences lent ok j b)))
 
-  second-sheet-fits : length angles ≤ mostAngles → length logSines ≤ mostAngles → length differences ≤ mostAngles → Fits (secondSheet f tolerance angles logSines differences)
-  unfolding secondSheet
-  second-sheet-fits few-angles few-log-sines few-differences =
-      shown-fits (answerOf (secondTests f tolerance angles logSines differences (secondLengths f))) (secondShown f (column (given angles)) (secondWorkOf f angles logSines differences))
-      (second-within f tolerance angles logSines differences (secondLengths f) few-angles few-log-sines few-differences .answer)
-      (λ e. second-fits (accepted f tolerance angles logSines differences (secondLengths f) e))
-
 -- ---- any bytes
 
-kind-fits : (kind : Kind) (f : Figure) (limitOrTolerance : ℕ) (sheet : List ℕ) → Fits (workedRead (Read kind f limitOrTolerance) sheet)
-kind-fits FirstPass f limit sheet =
-    first-sheet-fits f limit (valuesRead FirstPass f sheet .angles) (valuesRead FirstPass f sheet .fixed) (angles-few FirstPass f sheet) (fixed-few FirstPass f sheet)
-kind-fits SecondPass f tolerance sheet =
-    second-sheet-fits f tolerance (valuesRead SecondPass f sheet .angles) (valuesRead SecondPass f sheet .logSines) (valuesRead SecondPass f sheet .differences)
-    (angles-few SecondPass f sheet) (log-sines-few SecondPass f sheet) (differences-few SecondPass f sheet)
-
-reading-fits : (v : Verdict) (kind : Kind) (f : Figure) (limitOrTolerance : ℕ) (sheet : List ℕ) → PlaceWithin v → Fits (workedRead (readingAfter v (Read kind f limitOrTolerance)) sheet)
-reading-fits Passed kind f limitOrTolerance sheet placed = kind-fits kind f limitOrTolerance sheet
-reading-fits (Failed refusal) kind f limitOrTolerance sheet placed = refused-fits refusal placed
-
-look-fits : (v : Verdict) (kind : Kind) (f : Figure) (sheet : List ℕ) → PlaceWithin v → Fits (workedLook (lookAfter v (Head kind f)) sheet)
-unfolding readingOf
-look-fits Passed kind f sheet placed =
-    reading-fits (answerOf (readerTests sheet (lengthsOf kind f))) (kindIn sheet) (figureIn sheet) (valuesRead (kindIn sheet) (figureIn sheet) sheet .limitOrTolerance) sheet
-    (reader-within sheet (lengthsOf kind f) .answer)
-look-fits (Failed refusal) kind f sheet placed = refused-fits refusal placed
+refused-small : (sheet : List ℕ) (refusal : Refusal) → workedOf sheet ≡ refusedSheet refusal → placeOf refusal ≤ mostAngles
+refused-small sheet refusal e =
+    let is : refusalTold refusal ≡ verdictTold (judged (sheetRows sheet)) = sym (ap (λ (s : WorkedSheet). outcomeTold (s .outcome)) e) ∙ worked-told sheet in
+    subst (λ (t : Told). t .place ≤ mostAngles) (sym is) (place-within mostAngles (sheetRows sheet) (sheet-rows-known sheet) (sheet-within sheet))
 
 pub text-fits : (sheet : List ℕ) → length (reportText sheet) ≤ longestText
-unfolding workedOf lookOf
-text-fits sheet = look-fits (answerOf (headTests sheet)) (kindIn sheet) (figureIn sheet) sheet (head-within sheet .answer)
+text-fits sheet =
+    ⊎-elim
+    (λ (shown : FirstShown (workedOf sheet)).
+    subst Fits (sym (shown .is)) (first-fits (shown .figure) (shown .limit) (shown .angles) (shown .fixed) (shown .passed)))
+    (⊎-elim
+    (λ (shown : SecondShown sheet (workedOf sheet)).
+    subst Fits (sym (shown .is))
+    (second-fits (shown .figure) (shown .tolerance) (shown .angles) (shown .logSines) (shown .differences)
+    (accepted (shown .figure) (shown .tolerance) (shown .angles) (shown .logSines) (shown .differences)
+    (secondSheetLengths (shown .figure) (shown .angles) (shown .logSines) (shown .differences)) (shown .passed))))
+    (λ (shown : RefusedShown (workedOf sheet)).
+    subst Fits (sym (shown .is)) (refused-fits (shown .refusal) (refused-small sheet (shown .refusal) (shown .is)))))
+    (shown-as sheet)

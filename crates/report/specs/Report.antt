@@ -5,6 +5,7 @@ use Prim.Native.Nat.{ℕ}
 use lib.Dec.{leb}
 use lib.ListN.{length, drop}
 use Rattle.whole.specs.Sums.{vector}
+use Rattle.refusals.specs.Promise.{Promised}
 use Rattle.worked.specs.declared.Outcome.{Outcome}
 use Rattle.worked.specs.declared.Outcome.the-variants.{First, Second}
 use Rattle.worked.specs.declared.WorkedSheet.{WorkedSheet}
@@ -40,3 +41,8 @@ reportedOf false t = NoRoom
 abbrev pub afterReport : Bool → (t lent : List ℕ) → List ℕ
 afterReport true t lent = t ++ drop (length t) lent
 afterReport false t lent = lent
+
+-- what `report` promises
+abbrev pub ReportedPromise : (sheet entry : List ℕ) → (answer : Reported) → (exit : List ℕ) → Type 0
+ReportedPromise sheet entry answer exit =
+    Promised (reportedOf (hasRoom (reportText sheet) entry) (reportText sheet)) (afterReport (hasRoom (reportText sheet) entry) (reportText sheet) entry) answer exit

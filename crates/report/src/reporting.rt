@@ -1,7 +1,7 @@
 // A sheet's text, from its bytes: document 01, "Sheets worked through".
 ghost use mathlib.Core.Path.{_≡_};
 ghost use Rattle.text.specs.Holds.{Holds};
-ghost use Rattle.report.specs.Report.{textOf, reportText, hasRoom, reportedOf, afterReport};
+ghost use Rattle.report.specs.Report.{textOf, ReportedPromise};
 use lines::first_lines;
 use lines::refused_lines;
 use lines::second_lines;
@@ -59,8 +59,7 @@ fn worked_lines(buffer: &mut [u8], worked: WorkedSheet) -> usize
 
 // Laid by itself first, so that a slice without room is left as it was.
 pub fn report(sheet: &[u8], lent: &mut [u8]) -> Reported
-    ensures { λ r. ⌜ r ≡ reportedOf (hasRoom (reportText (now (sheet .entry))) (now (lent .entry))) (reportText (now (sheet .entry))) ⌝ }
-    ensures { λ _. ⌜ now (lent .exit) ≡ afterReport (hasRoom (reportText (now (sheet .entry))) (now (lent .entry))) (reportText (now (sheet .entry))) (now (lent .entry)) ⌝ }
+    ensures { λ reported. ⌜ ReportedPromise (now (sheet .entry)) (now (lent .entry)) reported (now (lent .exit)) ⌝ }
 {
     let mut buffer = [0u8; LONGEST_TEXT];
     let end = worked_lines(&mut buffer, worked_sheet(sheet));

@@ -1,319 +1,213 @@
--- What the reader answers, from the outcome of each test, and what an accepted sheet is. Assumes nothing.
-use Prim.Native.Nat.{ℕ, suc, _≤_}
-use mathlib.Core.Bool.{Bool, true, false, not, _&&_, and-eq-true-iff}
+-- What the reader and the writer answer once kind and figure are known, and what an accepted sheet is. Assumes nothing.
+use Prim.Native.Nat.{ℕ, _≤_}
 use mathlib.Core.List.{List, [], _∷_, _++_}
 use mathlib.Core.Path.{_≡_, refl, sym, ap, ap₂, subst, _∙_}
 use native.Mathlib.Omega.{arith}
-use borrow.Author.Tests.{eqb-true, eq-eqb, ne-eqb, not-false}
-use lib.Dec.{eqb, lit<}
-use lib.IntN.{pos, negℤ}
-use lib.ListN.{length}
+use lib.ListN.{length, getD, take}
+use Rattle.whole.proofs.Lists.{length-listed}
 use Rattle.refusals.specs.declared.Refusal.{Refusal}
 use Rattle.refusals.specs.declared.Verdict.{Verdict}
 use Rattle.refusals.specs.declared.Verdict.the-variants.{Passed, Failed}
-use Rattle.refusals.specs.declared.Lowest.{Lowest}
-use Rattle.refusals.specs.Order.{answerOf, failsIf, earlierOf, lowestOutside, lowestSignedOutside}
-use Rattle.refusals.specs.Ranges.{leastAngle, mostAngle, leastLogSine, mostLogSine, mostDifference}
-use Rattle.refusals.proofs.Answers.{answer-passes, answer-of-append, answer-of-cons, answer-of-one, cons-passes}
-use Rattle.refusals.proofs.Verdicts.{if-passes}
+use Rattle.refusals.specs.Order.{Row, HoldsNowhere, NoneHolds, judged}
+use Rattle.refusals.specs.Table.{lengthsRow, fillingRow}
+use Rattle.refusals.proofs.InSteps.{judged-after-pass}
+use Rattle.refusals.proofs.Nowhere.{same-lengths, size-right}
+use Rattle.refusals.proofs.Rows.{none-holds, done-exactly}
 use Rattle.figures.specs.declared.Figure.{Figure}
-use Rattle.figures.specs.declared.Named.{Named}
-use Rattle.figures.specs.declared.Named.the-variants.{As, Nothing}
-use Rattle.figures.specs.Figure.{figureOf}
+use Rattle.figures.specs.declared.Named.the-variants.{As}
+use Rattle.figures.specs.Figure.{angleCount, figureOf}
 use Rattle.layout.specs.declared.Kind.{Kind}
-use Rattle.heads.specs.declared.NamedKind.{NamedKind}
-use Rattle.heads.specs.declared.NamedKind.the-variants.{Is, NoKind}
-use Rattle.layout.specs.declared.Lengths.{Lengths}
+use Rattle.layout.specs.Layout.{fixedIn, sineEntriesIn, sheetSize}
+use Rattle.heads.specs.declared.NamedKind.the-variants.{Is}
 use Rattle.heads.specs.declared.Look.{Look}
 use Rattle.heads.specs.declared.Look.the-variants.{Head}
-use Rattle.layout.specs.Layout.{lengthsFrom, lengthsOf, sheetSize}
-use Rattle.heads.specs.Head.{kindOf, isNoKind, isNoFigure, kindOrOther, figureOrOther, nameTests, kindNumberIn, codeIn, nIn, kindIn, figureIn, headTests, lookAfter, lookOf, headOf}
-use Rattle.heads.proofs.Naming.{Names, named, long-enough, kind-field, code-field, n-field}
+use Rattle.heads.specs.Head.{kindOf, nameRows, kindNumberIn, codeIn, nIn, headRows, lookOf, headOf, ofHead}
+use Rattle.heads.proofs.Naming.{named, headVerdict, names-judged, look-judged, look-names, long-enough}
 use Rattle.sheets.specs.declared.Reading.{Reading}
 use Rattle.sheets.specs.declared.Reading.the-variants.{Read}
-use Rattle.sheets.specs.Sheet.{Values, valuesRead, fillingOf, packedSheet}
-use Rattle.sheets.specs.Judging.{rangeTests, valueTests, sameLengths, bodyTests, readerTests, readingAfter, readingOf, readingFrom, afterReading, lengthsGiven, givenTests, writerTests, writingOf, afterWriting, sheetGiven}
-use Rattle.sheets.proofs.Judged.{values-judged}
+use Rattle.sheets.specs.Sheet.{Values, valuesRead, packedSheet}
+use Rattle.sheets.specs.Judging.{ownLengths, lengthsGiven, valueRows, fillingBits, bodyRows, readerRows, readingAfter, readingFound, readingOf, afterReading, givenRows, writerRows, writingOf, afterWriting, writtenOf}
 
--- ---- lengths
+-- ---- the reader, by what a look at the sheet has found
 
-pub equal-lengths : (a b : Lengths) → sameLengths a b ≡ true → a ≡ b
-equal-lengths a b e =
-    let angles = eqb (a .angles) (b .angles) in
-    let fixed = eqb (a .fixed) (b .fixed) in
-    let logSines = eqb (a .«log_sines») (b .«log_sines») in
-    let all = and-eq-true-iff (angles && fixed && logSines) (eqb (a .differences) (b .differences)) .0 e in
-    let three = and-eq-true-iff (angles && fixed) logSines .0 (all .0) in
-    let two = and-eq-true-iff angles fixed .0 (three .0) in
-    ap₂ (λ (x y : ℕ). lengthsFrom x y (a .«log_sines») (a .differences)) (eqb-true (a .angles) (b .angles) (two .0)) (eqb-true (a .fixed) (b .fixed) (two .1))
-    ∙ ap₂ (λ (x y : ℕ). lengthsFrom (b .angles) (b .fixed) x y) (eqb-true (a .«log_sines») (b .«log_sines») (three .1)) (eqb-true (a .differences) (b .differences) (all .1))
-
-pub lengths-equal : (a b : Lengths) → a ≡ b → sameLengths a b ≡ true
-lengths-equal a b e =
-    rw (e, eq-eqb (b .angles) (b .angles) refl, eq-eqb (b .fixed) (b .fixed) refl, eq-eqb (b .«log_sines») (b .«log_sines») refl, eq-eqb (b .differences) (b .differences) refl) refl
-
--- where all others are equal the differences decide
-pub differences-decide : (a b : Lengths) → a .angles ≡ b .angles → a .fixed ≡ b .fixed → a .«log_sines» ≡ b .«log_sines» → eqb (a .differences) (b .differences) ≡ sameLengths a b
-differences-decide a b x y z = rw (eq-eqb (a .angles) (b .angles) x, eq-eqb (a .fixed) (b .fixed) y, eq-eqb (a .«log_sines») (b .«log_sines») z)
-
--- ---- the body
-
-module _ (kind : Kind) (f : Figure) (s : List ℕ) (lent : Lengths) where
-  pub size-fails : (length s ≡ sheetSize kind f → ⊥) → readingFrom kind f s lent ≡ Reading.Refused Refusal.WrongSheetLength
-  unfolding readingFrom bodyTests answerOf
-  size-fails h = rw (ne-eqb (length s) (sheetSize kind f) h)
-
-  module _ (size : length s ≡ sheetSize kind f) where
-    pub lengths-fail : sameLengths lent (lengthsOf kind f) ≡ false → readingFrom kind f s lent ≡ Reading.Refused Refusal.WrongLength
-    unfolding readingFrom bodyTests answerOf
-    lengths-fail e = rw (eq-eqb (length s) (sheetSize kind f) size, e)
-
-    module _ (right : sameLengths lent (lengthsOf kind f) ≡ true) where
-      -- the values decide
-      pub values-decide : fillingOf kind f s ≡ 0
-          → readingFrom kind f s lent ≡ readingAfter (answerOf (valueTests kind (valuesRead kind f s))) (Read kind f (valuesRead kind f s .limitOrTolerance))
-      unfolding readingFrom bodyTests answerOf
-      values-decide h = rw (eq-eqb (length s) (sheetSize kind f) size, right, eq-eqb (fillingOf kind f s) 0 h)
-
-      -- the filling and the values decide
-      pub contents-decide : {filling values verdict : Verdict} → filling ≡ failsIf (not (eqb (fillingOf kind f s) 0)) Refusal.FillingBitSet
-          → values ≡ answerOf (valueTests kind (valuesRead kind f s)) → verdict ≡ answerOf (filling ∷ values ∷ [])
-          → readingFrom kind f s lent ≡ readingAfter verdict (Read kind f (valuesRead kind f s .limitOrTolerance))
-      unfolding readingFrom bodyTests answerOf
-      contents-decide x y z =
-          let test : Verdict = failsIf (not (eqb (fillingOf kind f s) 0)) Refusal.FillingBitSet in
-          let later : List Verdict = valueTests kind (valuesRead kind f s) in
-          rw (eq-eqb (length s) (sheetSize kind f) size, right)
-          (ap (λ (v : Verdict). readingAfter v (Read kind f (valuesRead kind f s .limitOrTolerance)))
-          (answer-of-cons test later ∙ sym (z ∙ ap₂ (λ (a b : Verdict). answerOf (a ∷ b ∷ [])) x y)))
-
--- ---- head and body
-
-pub after-passes : (a b : List Verdict) → answerOf a ≡ Passed → answerOf (a ++ b) ≡ answerOf b
-unfolding answerOf
-after-passes a b e = answer-of-append a b ∙ ap (λ (v : Verdict). answerOf (v ∷ answerOf b ∷ [])) e ∙ answer-of-one (answerOf b)
-
-pub after-fails : (a b : List Verdict) (r : Refusal) → answerOf a ≡ Failed r → answerOf (a ++ b) ≡ Failed r
-unfolding answerOf
-after-fails a b r e = answer-of-append a b ∙ ap (λ (v : Verdict). answerOf (v ∷ answerOf b ∷ [])) e
-
--- what a look has answered tells the verdict
-record Found (v : Verdict) (kind : Kind) (f : Figure) (found-kind : Kind) (found-figure : Figure) : Type 0 where
-  passes : v ≡ Passed
-  kinds : kind ≡ found-kind
-  figures : f ≡ found-figure
-
-found : (v : Verdict) (kind : Kind) (f : Figure) (k : Kind) (g : Figure) → lookAfter v (Head kind f) ≡ Head k g → Found v kind f k g
-found Passed kind f k g e = record { passes = refl; kinds = cc; figures = cc }
-found (Failed r) kind f k g e = record { passes = cc; kinds = cc; figures = cc }
-
-refused : (v : Verdict) (kind : Kind) (f : Figure) (r : Refusal) → lookAfter v (Head kind f) ≡ Look.Refused r → v ≡ Failed r
-refused Passed kind f r e = cc
-refused (Failed q) kind f r e = cc
-
-module _ (s : List ℕ) (lent : Lengths) where
+module _ (s lent : List ℕ) where
   pub head-refused : (r : Refusal) → lookOf s ≡ Look.Refused r → readingOf s lent ≡ Reading.Refused r
-  unfolding readingOf readerTests lookOf
-  head-refused r e =
-      ap (λ (v : Verdict). readingAfter v (Read (kindIn s) (figureIn s) (valuesRead (kindIn s) (figureIn s) s .limitOrTolerance)))
-      (after-fails (headTests s) (bodyTests (kindIn s) (figureIn s) s lent) r (refused (answerOf (headTests s)) (kindIn s) (figureIn s) r e))
+  unfolding readingOf
+  head-refused r e = ap (λ (found : Look). readingFound found (judged (readerRows s lent)) s) e
 
-  pub head-found : (kind : Kind) (f : Figure) → lookOf s ≡ Head kind f → readingOf s lent ≡ readingFrom kind f s lent
-  unfolding readingOf readerTests lookOf readingFrom
+  pub head-found : (kind : Kind) (f : Figure) → lookOf s ≡ Head kind f → readingOf s lent ≡ readingAfter (judged (bodyRows kind f s lent)) kind f s
+  unfolding readingOf readerRows
   head-found kind f e =
-      let h = found (answerOf (headTests s)) (kindIn s) (figureIn s) kind f e in
-      ap (λ (v : Verdict). readingAfter v (Read (kindIn s) (figureIn s) (valuesRead (kindIn s) (figureIn s) s .limitOrTolerance)))
-      (after-passes (headTests s) (bodyTests (kindIn s) (figureIn s) s lent) (h .passes))
-      ∙ ap₂ (λ (k : Kind) (g : Figure). readingFrom k g s lent) (h .kinds) (h .figures)
+      ap (λ (found : Look). readingFound found (judged (headRows s ++ ofHead found [] (λ k g. bodyRows k g s lent))) s) e
+      ∙ ap (λ (v : Verdict). readingAfter v kind f s) (judged-after-pass (headRows s) (bodyRows kind f s lent) (sym (look-judged s) ∙ ap headVerdict e))
+
+-- what is lent stays as it is where the reader refuses
+pub kept : {A : Type 0} {reading : Reading} (r : Refusal) → reading ≡ Reading.Refused r → (values : Kind → Figure → A) (before : A)
+    → before ≡ afterReading reading values before
+kept r e values before = sym (ap (λ (reading : Reading). afterReading reading values before) e)
 
 -- ---- an accepted sheet
 
-pub record Accepted (s : List ℕ) (lent : Lengths) (kind : Kind) (f : Figure) (limitOrTolerance : ℕ) : Type 0 where
+pub record Accepted (s lent : List ℕ) (kind : Kind) (f : Figure) (limitOrTolerance : ℕ) : Type 0 where
   pub kind-named : kindOf (kindNumberIn s) ≡ Is kind
   pub figure-named : figureOf (codeIn s) (nIn s) ≡ As f
   pub size : length s ≡ sheetSize kind f
-  pub lengths : lent ≡ lengthsOf kind f
-  pub filling : fillingOf kind f s ≡ 0
-  pub values : answerOf (valueTests kind (valuesRead kind f s)) ≡ Passed
+  pub lengths : lent ≡ ownLengths kind f
+  pub filling : HoldsNowhere (fillingRow (fillingBits kind f s))
+  pub values : NoneHolds (valueRows kind (valuesRead kind f s))
   pub as-packed : valuesRead kind f s .limitOrTolerance ≡ limitOrTolerance
 
-is-kind : (k : NamedKind) → isNoKind k ≡ false → k ≡ Is (kindOrOther k)
-is-kind (Is kind) e = refl
-is-kind NoKind e = cc
-
-is-figure : (f : Named) → isNoFigure f ≡ false → f ≡ As (figureOrOther f)
-is-figure (As f) e = refl
-is-figure Nothing e = cc
-
-passed : (v : Verdict) (answer : Reading) (kind : Kind) (f : Figure) (l : ℕ) → readingAfter v answer ≡ Read kind f l → (v ≡ Passed) × (answer ≡ Read kind f l)
-passed Passed answer kind f l e = (refl, e)
-passed (Failed r) answer kind f l e = (cc, cc)
-
-abbrev AcceptedAs : List ℕ → Lengths → Reading → Type 0
+abbrev AcceptedAs : (s lent : List ℕ) → Reading → Type 0
 AcceptedAs s lent (Read kind f l) = Accepted s lent kind f l
 AcceptedAs s lent (Reading.Refused r) = Unit {0}
 
-module _ (s : List ℕ) (lent : Lengths) where
-  own : answerOf (readerTests s lent) ≡ Passed → Accepted s lent (kindIn s) (figureIn s) (valuesRead (kindIn s) (figureIn s) s .limitOrTolerance)
-  unfolding readerTests headTests bodyTests answerOf
-  own e =
-      let kind = kindIn s in
-      let f = figureIn s in
-      let each = answer-passes (readerTests s lent) .0 e in
-      let values : answerOf (valueTests kind (valuesRead kind f s)) ≡ Passed =
-      answer-passes (valueTests kind (valuesRead kind f s)) .1 (λ j l. each (suc (suc (suc (suc (suc (suc j)))))) (omega arith)) in
+module _ (s lent : List ℕ) where
+  own : (kind : Kind) (f : Figure) → lookOf s ≡ Head kind f → judged (bodyRows kind f s lent) ≡ Passed
+      → Accepted s lent kind f (valuesRead kind f s .limitOrTolerance)
+  unfolding bodyRows
+  own kind f found e =
+      let names = look-names s kind f found in
+      let none = none-holds (bodyRows kind f s lent) e in
       record {
-        kind-named = is-kind (kindOf (kindNumberIn s)) (if-passes (isNoKind (kindOf (kindNumberIn s))) Refusal.NoSuchKind .0 (each 1 (lit< tt)));
-        figure-named = is-figure (figureOf (codeIn s) (nIn s)) (if-passes (isNoFigure (figureOf (codeIn s) (nIn s))) Refusal.NoSuchFigure .0 (each 2 (lit< tt)));
-        size = eqb-true (length s) (sheetSize kind f) (not-false _ (if-passes (not (eqb (length s) (sheetSize kind f))) Refusal.WrongSheetLength .0 (each 3 (lit< tt))));
-        lengths = equal-lengths lent (lengthsOf kind f) (not-false _ (if-passes (not (sameLengths lent (lengthsOf kind f))) Refusal.WrongLength .0 (each 4 (lit< tt))));
-        filling = eqb-true (fillingOf kind f s) 0 (not-false _ (if-passes (not (eqb (fillingOf kind f s) 0)) Refusal.FillingBitSet .0 (each 5 (lit< tt))));
-        values = values;
+        kind-named = names .kind-named;
+        figure-named = names .figure-named;
+        size = size-right (length s) (sheetSize kind f) (none .0);
+        lengths = same-lengths lent (ownLengths kind f) (none .1 .0);
+        filling = none .1 .1 .0;
+        values = none .1 .1 .1;
         as-packed = refl;
       }
 
   pub accepted : (kind : Kind) (f : Figure) (limitOrTolerance : ℕ) → readingOf s lent ≡ Read kind f limitOrTolerance → Accepted s lent kind f limitOrTolerance
-  unfolding readingOf
-  accepted kind f l e =
-      let answer : Reading = Read (kindIn s) (figureIn s) (valuesRead (kindIn s) (figureIn s) s .limitOrTolerance) in
-      let h = passed (answerOf (readerTests s lent)) answer kind f l e in
-      subst (AcceptedAs s lent) (h .1) (own (h .0))
+  accepted kind f l e = go (lookOf s) refl
+    where
+      passed : (k : Kind) (g : Figure) (v : Verdict) → readingAfter v k g s ≡ Read kind f l → (v ≡ Passed) × (readingAfter Passed k g s ≡ Read kind f l)
+      passed k g Passed e = (refl, e)
+      passed k g (Failed r) e = (cc, cc)
 
--- what is lent stays as it is where the reader refuses
-pub kept : {A : Type 0} {reading : Reading} (r : Refusal) → reading ≡ Reading.Refused r → (values : Kind → Figure → List A) (before : List A)
-    → before ≡ afterReading reading values before
-kept r e values before = sym (ap (λ (reading : Reading). afterReading reading values before) e)
+      go : (found : Look) → lookOf s ≡ found → Accepted s lent kind f l
+      go (Head k g) found =
+          let read = passed k g (judged (bodyRows k g s lent)) (sym (head-found s lent k g found) ∙ e) in
+          subst (AcceptedAs s lent) (read .1) (own k g found (read .0))
+      go (Look.Refused r) found = subst (AcceptedAs s lent) (sym (head-refused s lent r found) ∙ e) tt
 
--- ---- the writer
+-- and back: such a sheet is read
+pub accepted-back : (s lent : List ℕ) (kind : Kind) (f : Figure) (limitOrTolerance : ℕ) → 2 ≤ length s
+    → Accepted s lent kind f limitOrTolerance → readingOf s lent ≡ Read kind f limitOrTolerance
+unfolding bodyRows
+accepted-back s lent kind f l long h =
+    let found : lookOf s ≡ Head kind f = long-enough s long ∙ named (kindNumberIn s) (codeIn s) (nIn s) (h .kind-named) (h .figure-named) in
+    let passes : judged (bodyRows kind f s lent) ≡ Passed =
+    done-exactly (bodyRows kind f s lent) tt .1 (λ p held. held .1 (h .size), (λ p held. held .1 (h .lengths), (h .filling, h .values))) in
+    head-found s lent kind f found ∙ ap (λ (v : Verdict). readingAfter v kind f s) passes ∙ ap (Read kind f) (h .as-packed)
 
-module _ (refusal : Refusal) {a : Bool} (b : Bool) where
-  pub first-wrong : a ≡ false → Failed refusal ≡ failsIf (not (a && b)) refusal
-  first-wrong e = rw e
-
-  pub second-wrong : a ≡ true → b ≡ false → Failed refusal ≡ failsIf (not (a && b)) refusal
-  second-wrong e d = rw (e, d)
-
-  pub neither-wrong : a ≡ true → b ≡ true → Passed ≡ failsIf (not (a && b)) refusal
-  neither-wrong e d = rw (e, d)
-
-by-test : {X : Type 0} (t : Bool) → (t ≡ true → X) → (t ≡ false → X) → X
-by-test true yes-it no-it = yes-it refl
-by-test false yes-it no-it = no-it refl
-
-module _ (kind : Kind) (f : Figure) (v : Values) (size : ℕ) where
-  abbrev right : Bool
-  right = sameLengths (lengthsGiven v) (lengthsOf kind f) && eqb size (sheetSize kind f)
-
-  -- where the lengths are right the values decide
-  pub given-decided : right ≡ true → answerOf (givenTests kind f v size) ≡ answerOf (valueTests kind v)
-  unfolding givenTests answerOf
-  given-decided e = ap (λ (t : Bool). answerOf (failsIf (not t) Refusal.WrongLength ∷ valueTests kind v)) e
-
-  given-wrong : right ≡ false → answerOf (givenTests kind f v size) ≡ Failed Refusal.WrongLength
-  unfolding givenTests answerOf
-  given-wrong e = ap (λ (t : Bool). answerOf (failsIf (not t) Refusal.WrongLength ∷ valueTests kind v)) e
-
-  as-many-given : right ≡ true → length (v .logSines) ≡ length (v .differences)
-  as-many-given e =
-      let same : lengthsGiven v ≡ lengthsOf kind f =
-      equal-lengths (lengthsGiven v) (lengthsOf kind f) (and-eq-true-iff (sameLengths (lengthsGiven v) (lengthsOf kind f)) (eqb size (sheetSize kind f)) .0 e .0) in
-      ap (λ (l : Lengths). l .«log_sines») same ∙ sym (ap (λ (l : Lengths). l .differences) same)
-
-  -- the lengths and the values decide
-  pub given-judged : {angle fixedAngle logSine difference : Lowest} {lengths values verdict : Verdict}
-      → lengths ≡ failsIf (not right) Refusal.WrongLength
-      → angle ≡ lowestOutside (v .angles) leastAngle mostAngle
-      → fixedAngle ≡ lowestOutside (v .fixed) leastAngle mostAngle
-      → logSine ≡ lowestOutside (v .logSines) leastLogSine mostLogSine
-      → difference ≡ lowestSignedOutside (v .differences) (negℤ (pos mostDifference)) (pos mostDifference)
-      → values ≡ answerOf (rangeTests kind (v .limitOrTolerance) angle fixedAngle (earlierOf logSine difference))
-      → verdict ≡ answerOf (lengths ∷ values ∷ [])
-      → verdict ≡ answerOf (givenTests kind f v size)
-  unfolding answerOf
-  given-judged {values} is-lengths a x l d is-values is =
-      by-test right
-      (λ e.
-      is ∙ ap₂ (λ (t w : Verdict). answerOf (t ∷ w ∷ [])) (is-lengths ∙ ap (λ (t : Bool). failsIf (not t) Refusal.WrongLength) e)
-      (values-judged kind v (as-many-given e) refl a x l d is-values)
-      ∙ answer-of-one (answerOf (valueTests kind v)) ∙ sym (given-decided e))
-      (λ e.
-      is ∙ ap (λ (t : Verdict). answerOf (t ∷ values ∷ [])) (is-lengths ∙ ap (λ (t : Bool). failsIf (not t) Refusal.WrongLength) e) ∙ sym (given-wrong e))
-
--- the values that the writer accepts
-pub record Given (kind : Kind) (f : Figure) (v : Values) (size : ℕ) : Type 0 where
-  pub lengths : lengthsGiven v ≡ lengthsOf kind f
-  pub sized : size ≡ sheetSize kind f
-  pub values : answerOf (valueTests kind v) ≡ Passed
-
-pub given-accepted : (kind : Kind) (f : Figure) (v : Values) (size : ℕ) {verdict : Verdict} → verdict ≡ answerOf (givenTests kind f v size) → verdict ≡ Passed
-    → Given kind f v size
-unfolding givenTests
-given-accepted kind f v size is e =
-    let same = sameLengths (lengthsGiven v) (lengthsOf kind f) in
-    let sized = eqb size (sheetSize kind f) in
-    let both = cons-passes (failsIf (not (same && sized)) Refusal.WrongLength) (valueTests kind v) .0 (sym is ∙ e) in
-    let right = and-eq-true-iff same sized .0 (not-false (same && sized) (if-passes (not (same && sized)) Refusal.WrongLength .0 (both .0))) in
-    record {
-      lengths = equal-lengths (lengthsGiven v) (lengthsOf kind f) (right .0);
-      sized = eqb-true size (sheetSize kind f) (right .1);
-      values = both .1;
-    }
+-- ---- the writer, by what the numbers name
 
 module _ (kind code n : ℕ) (v : Values) (size : ℕ) where
+  abbrev rowsOf : Look → List Row
+  rowsOf found = nameRows kind code n ++ ofHead found [] (λ k f. givenRows k f v size)
+
   pub writer-refused : (r : Refusal) → headOf kind code n ≡ Look.Refused r → writingOf kind code n v size ≡ Failed r
-  unfolding writingOf writerTests headOf
-  writer-refused r e =
-      let k = kindOrOther (kindOf kind) in
-      let f = figureOrOther (figureOf code n) in
-      after-fails (nameTests kind code n) (givenTests k f v size) r (refused (answerOf (nameTests kind code n)) k f r e)
+  unfolding writingOf writerRows
+  writer-refused r e = ap (λ (found : Look). judged (rowsOf found)) e ∙ names-judged kind code n ∙ ap headVerdict e
 
-  module _ (k : Kind) (f : Figure) (h : Names kind code n k f) where
-    pub writer-found : {verdict : Verdict} → verdict ≡ answerOf (givenTests k f v size) → verdict ≡ writingOf kind code n v size
-    unfolding writingOf writerTests answerOf
-    writer-found is =
-        is ∙ sym (ap₂ (λ (a : NamedKind) (b : Named).
-        answerOf (failsIf (isNoKind a) Refusal.NoSuchKind ∷ failsIf (isNoFigure b) Refusal.NoSuchFigure ∷ givenTests (kindOrOther a) (figureOrOther b) v size))
-        (h .kind-named) (h .figure-named))
+  pub writer-found : (k : Kind) (f : Figure) → headOf kind code n ≡ Head k f → writingOf kind code n v size ≡ judged (givenRows k f v size)
+  unfolding writingOf writerRows
+  writer-found k f e =
+      ap (λ (found : Look). judged (rowsOf found)) e
+      ∙ judged-after-pass (nameRows kind code n) (givenRows k f v size) (names-judged kind code n ∙ ap headVerdict e)
 
-    pub sheet-written : {verdict : Verdict} (before : List ℕ) {after : List ℕ} → verdict ≡ Passed → after ≡ packedSheet k f v
-        → after ≡ afterWriting verdict (sheetGiven kind code n v) before
-    unfolding sheetGiven
-    sheet-written before e is =
-        is ∙ sym (ap (λ (verdict : Verdict). afterWriting verdict (sheetGiven kind code n v) before) e
-        ∙ ap₂ (λ (a : NamedKind) (b : Named). packedSheet (kindOrOther a) (figureOrOther b) v) (h .kind-named) (h .figure-named))
+-- what the byte slice holds in the end
+module _ (kind code n : ℕ) (v : Values) (before : List ℕ) where
+  pub sheet-kept : (r : Refusal) → writingOf kind code n v (length before) ≡ Failed r → writtenOf kind code n v before ≡ before
+  unfolding writtenOf
+  sheet-kept r e = go (headOf kind code n)
+    where
+      go : (found : Look) → ofHead found before (λ k f. afterWriting (writingOf kind code n v (length before)) (packedSheet k f v) before) ≡ before
+      go (Head k f) = ap (λ (verdict : Verdict). afterWriting verdict (packedSheet k f v) before) e
+      go (Look.Refused q) = refl
 
--- and what is lent stays as it is where the writer refuses
-pub sheet-kept : {verdict : Verdict} (r : Refusal) → verdict ≡ Failed r → (sheet before : List ℕ) → before ≡ afterWriting verdict sheet before
-sheet-kept r e sheet before = sym (ap (λ (verdict : Verdict). afterWriting verdict sheet before) e)
+  pub written-found : (k : Kind) (f : Figure) → headOf kind code n ≡ Head k f
+      → writtenOf kind code n v before ≡ afterWriting (writingOf kind code n v (length before)) (packedSheet k f v) before
+  unfolding writtenOf
+  written-found k f e =
+      ap (λ (found : Look). ofHead found before (λ k f. afterWriting (writingOf kind code n v (length before)) (packedSheet k f v) before)) e
 
--- ---- and back: what is accepted is read
+  pub sheet-written : (k : Kind) (f : Figure) → headOf kind code n ≡ Head k f → writingOf kind code n v (length before) ≡ Passed
+      → writtenOf kind code n v before ≡ packedSheet k f v
+  sheet-written k f found e = written-found k f found ∙ ap (λ (verdict : Verdict). afterWriting verdict (packedSheet k f v) before) e
 
-pub accepted-back : (s : List ℕ) (lent : Lengths) (kind : Kind) (f : Figure) (limitOrTolerance : ℕ) → 2 ≤ length s
-    → Accepted s lent kind f limitOrTolerance → readingOf s lent ≡ Read kind f limitOrTolerance
-accepted-back s lent kind f l long h =
-    let looked : lookOf s ≡ Head kind f =
-    sym (long-enough s (kindNumberIn s) (codeIn s) (nIn s) long (kind-field s) (code-field s) (n-field s))
-    ∙ named (kindNumberIn s) (codeIn s) (nIn s) (h .kind-named) (h .figure-named) in
-    head-found s lent kind f looked
-    ∙ values-decide kind f s lent (h .size) (lengths-equal lent (lengthsOf kind f) (h .lengths)) (h .filling)
-    ∙ ap (λ (v : Verdict). readingAfter v (Read kind f (valuesRead kind f s .limitOrTolerance))) (h .values)
-    ∙ ap (Read kind f) (h .as-packed)
+-- ---- values that the writer accepts
 
--- ---- what the writer has accepted
+-- there are as many of each sort as the kind and the figure have
+pub record AsMany (kind : Kind) (f : Figure) (v : Values) : Type 0 where
+  pub angles : length (v .angles) ≡ angleCount f
+  pub fixed : length (v .fixed) ≡ fixedIn kind f
+  pub logSines : length (v .logSines) ≡ sineEntriesIn kind f
+  pub differences : length (v .differences) ≡ sineEntriesIn kind f
 
-pub writer-accepted : (kind code n : ℕ) (v : Values) (size : ℕ) → writingOf kind code n v size ≡ Passed
-    → Names kind code n (kindOrOther (kindOf kind)) (figureOrOther (figureOf code n)) × Given (kindOrOther (kindOf kind)) (figureOrOther (figureOf code n)) v size
-unfolding writingOf writerTests
-writer-accepted kind code n v size e =
-    let k = kindOrOther (kindOf kind) in
-    let f = figureOrOther (figureOf code n) in
-    let known = failsIf (isNoKind (kindOf kind)) Refusal.NoSuchKind in
-    let figured = failsIf (isNoFigure (figureOf code n)) Refusal.NoSuchFigure in
-    let first = cons-passes known (figured ∷ givenTests k f v size) .0 e in
-    let second = cons-passes figured (givenTests k f v size) .0 (first .1) in (
-      record {
-        kind-named = is-kind (kindOf kind) (if-passes (isNoKind (kindOf kind)) Refusal.NoSuchKind .0 (first .0));
-        figure-named = is-figure (figureOf code n) (if-passes (isNoFigure (figureOf code n)) Refusal.NoSuchFigure .0 (second .0));
-      },
-      given-accepted k f v size refl (second .1),
-    )
+pub as-many : (kind : Kind) (f : Figure) (v : Values) → lengthsGiven v ≡ ownLengths kind f → AsMany kind f v
+as-many kind f v same =
+    let each : (i : ℕ) → getD (lengthsGiven v) i 0 ≡ getD (ownLengths kind f) i 0 = λ i. ap (λ (l : List ℕ). getD l i 0) same in
+    record { angles = each 0; fixed = each 1; logSines = each 2; differences = each 3 }
+
+pub own-lengths : (kind : Kind) (f : Figure) (v : Values) → AsMany kind f v → lengthsGiven v ≡ ownLengths kind f
+own-lengths kind f v many = rw (many .angles, many .fixed, many .logSines, many .differences)
+
+pub record Given (kind : Kind) (f : Figure) (v : Values) (size : ℕ) : Type 0 where
+  pub lengths : AsMany kind f v
+  pub sized : size ≡ sheetSize kind f
+  pub values : NoneHolds (valueRows kind v)
+
+module _ (kind : Kind) (f : Figure) (v : Values) (size : ℕ) where
+  -- what number 2 leaves
+  pub right-lengths : HoldsNowhere (lengthsRow (lengthsGiven v ++ (size ∷ [])) (ownLengths kind f ++ (sheetSize kind f ∷ [])))
+      → (lengthsGiven v ≡ ownLengths kind f) × (size ≡ sheetSize kind f)
+  right-lengths none =
+      let same : lengthsGiven v ++ (size ∷ []) ≡ ownLengths kind f ++ (sheetSize kind f ∷ []) = same-lengths _ _ none in
+      (ap (take 4) same, ap (λ (l : List ℕ). getD l 4 0) same)
+
+  pub given-accepted : judged (givenRows kind f v size) ≡ Passed → Given kind f v size
+  unfolding givenRows
+  given-accepted e =
+      let none = none-holds (givenRows kind f v size) e in
+      let right = right-lengths (none .0) in
+      record { lengths = as-many kind f v (right .0); sized = right .1; values = none .1 }
+
+  pub given-back : Given kind f v size → judged (givenRows kind f v size) ≡ Passed
+  unfolding givenRows
+  given-back h =
+      let same : lengthsGiven v ++ (size ∷ []) ≡ ownLengths kind f ++ (sheetSize kind f ∷ []) =
+      ap₂ (λ (l : List ℕ) (z : ℕ). l ++ (z ∷ [])) (own-lengths kind f v (h .lengths)) (h .sized) in
+      done-exactly (givenRows kind f v size) tt .1 (λ p held. held .1 same, h .values)
+
+pub record WriterAccepts (kind code n : ℕ) (v : Values) (size : ℕ) : Type 0 where
+  pub kind-given : Kind
+  pub figure-given : Figure
+  pub names : headOf kind code n ≡ Head kind-given figure-given
+  pub given : Given kind-given figure-given v size
+
+pub writer-accepted : (kind code n : ℕ) (v : Values) (size : ℕ) → writingOf kind code n v size ≡ Passed → WriterAccepts kind code n v size
+writer-accepted kind code n v size e = go (headOf kind code n) refl
+  where
+    never : (r : Refusal) → Failed r ≡ Passed → ⊥
+    never r e = let z : _≡_ {A = ℕ} 0 1 = cc in omega arith
+
+    go : (found : Look) → headOf kind code n ≡ found → WriterAccepts kind code n v size
+    go (Head k f) found = record {
+      kind-given = k;
+      figure-given = f;
+      names = found;
+      given = given-accepted k f v size (sym (writer-found kind code n v size k f found) ∙ e);
+    }
+    go (Look.Refused r) found = absurd (never r (sym (writer-refused kind code n v size r found) ∙ e))
+
+-- the values that are read off a sheet are as many as it has
+pub as-many-read : (kind : Kind) (f : Figure) (s : List ℕ) → AsMany kind f (valuesRead kind f s)
+unfolding valuesRead
+as-many-read kind f s = record {
+  angles = length-listed _ _;
+  fixed = length-listed _ _;
+  logSines = length-listed _ _;
+  differences = length-listed _ _;
+}

@@ -5,11 +5,11 @@ use mathlib.Core.Path.{_≡_, refl, ap}
 use Rattle.bits.specs.Bits.{widths, totalWidth}
 use Rattle.figures.specs.declared.Figure.{Figure}
 use Rattle.layout.specs.declared.Kind.{Kind}
-use Rattle.layout.specs.Layout.{Place, widthOf, layout, bitCount}
+use Rattle.layout.specs.Layout.{Item, widthOf, layout, bitCount}
 use Rattle.sheets.specs.Sheet.{Values, fieldOf}
 
 module _ (kind : Kind) (f : Figure) (v : Values) where
-  pub fields-widths : (ps : List Place) → widths (map (fieldOf kind f v) ps) ≡ map widthOf ps
+  pub fields-widths : (ps : List Item) → widths (map (fieldOf kind f v) ps) ≡ map widthOf ps
   unfolding widths
   fields-widths [] = refl
   fields-widths (p ∷ ps) = ap (λ (l : List ℕ). widthOf p ∷ l) (fields-widths ps)

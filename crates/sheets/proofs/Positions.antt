@@ -1,5 +1,5 @@
--- Where each place of a layout stands, by tests that antt computes over all kinds and figures: no place stands twice, and each value that is counted
--- has its place. Assumes nothing.
+-- Where each item of a layout stands, by tests that antt computes over all kinds and figures: no item stands twice, and each value that is counted
+-- stands there. Assumes nothing.
 use Prim.Native.Nat.{ℕ, suc, _+_, _≤_, _<_, zero-le, suc-le-suc}
 use mathlib.Core.Bool.{Bool, true, false, cond, _&&_}
 use mathlib.Core.List.{List, [], _∷_, map}
@@ -15,17 +15,17 @@ use Rattle.figures.specs.Figure.{allFigures, angleCount}
 use Rattle.figures.proofs.Figures.{each-figure}
 use Rattle.layout.specs.declared.Kind.{Kind}
 use Rattle.layout.specs.declared.Kind.the-variants.{FirstPass, SecondPass}
-use Rattle.layout.specs.Layout.{Place, theKind, theCode, theN, limit, tolerance, angle, fixedAngle, logSine, difference, widthOf, head, layout, limitOrTolerancePlace, fixedIn, sineEntriesIn, sort, numberOfPlace, same, positionOf, held}
+use Rattle.layout.specs.Layout.{Item, theKind, theCode, theN, limit, tolerance, angle, fixedAngle, logSine, difference, widthOf, head, layout, limitOrToleranceItem, fixedIn, sineEntriesIn, sort, numberOfItem, same, positionOf, held}
 
--- ---- places and their indexes
+-- ---- items and their indexes
 
--- a place is told by its sort and its number
-placeFrom : ℕ → ℕ → Place
-placeFrom s i =
+-- an item is told by its sort and its number
+itemFrom : ℕ → ℕ → Item
+itemFrom s i =
     getD (theKind ∷ theCode ∷ theN ∷ limit ∷ tolerance ∷ angle i ∷ fixedAngle i ∷ logSine i ∷ difference i ∷ []) s theKind
 
-told : (p : Place) → placeFrom (sort p) (numberOfPlace p) ≡ p
-unfolding placeFrom sort numberOfPlace
+told : (p : Item) → itemFrom (sort p) (numberOfItem p) ≡ p
+unfolding itemFrom sort numberOfItem
 told theKind = refl
 told theCode = refl
 told theN = refl
@@ -36,21 +36,21 @@ told (fixedAngle i) = refl
 told (logSine i) = refl
 told (difference i) = refl
 
-pub same-place : (p q : Place) → T (same p q) → p ≡ q
+pub same-item : (p q : Item) → T (same p q) → p ≡ q
 unfolding same
-same-place p q t =
+same-item p q t =
     sym (told p)
-    ∙ ap₂ placeFrom (eqb→eq (sort p) (sort q) (and-left (eqb (sort p) (sort q)) (eqb (numberOfPlace p) (numberOfPlace q)) t))
-    (eqb→eq (numberOfPlace p) (numberOfPlace q) (and-right (eqb (sort p) (sort q)) (eqb (numberOfPlace p) (numberOfPlace q)) t))
+    ∙ ap₂ itemFrom (eqb→eq (sort p) (sort q) (and-left (eqb (sort p) (sort q)) (eqb (numberOfItem p) (numberOfItem q)) t))
+    (eqb→eq (numberOfItem p) (numberOfItem q) (and-right (eqb (sort p) (sort q)) (eqb (numberOfItem p) (numberOfItem q)) t))
     ∙ told q
 
--- the index at which a place is first met
-unfoldable pub indexOf : Place → List Place → ℕ
+-- the index at which an item is first met
+unfoldable pub indexOf : Item → List Item → ℕ
 unfolding same
 indexOf p [] = 0
 indexOf p (q ∷ later) = cond (same p q) 0 (suc (indexOf p later))
 
-pub position-by-index : (p : Place) (l : List Place) → positionOf p l ≡ totalWidth (take (indexOf p l) (map widthOf l))
+pub position-by-index : (p : Item) (l : List Item) → positionOf p l ≡ totalWidth (take (indexOf p l) (map widthOf l))
 unfolding positionOf indexOf totalWidth
 position-by-index p [] = refl
 position-by-index p (q ∷ l) = go (same p q) (position-by-index p l)
@@ -60,11 +60,11 @@ position-by-index p (q ∷ l) = go (same p q) (position-by-index p l)
     go true rest = refl
     go false rest = ap (λ (n : ℕ). widthOf q + n) rest
 
--- the place that is met at its index
-pub place-at-index : (p : Place) (l : List Place) (other : Place) → indexOf p l < length l → getD l (indexOf p l) other ≡ p
+-- the item that is met at its index
+pub item-at-index : (p : Item) (l : List Item) (other : Item) → indexOf p l < length l → getD l (indexOf p l) other ≡ p
 unfolding indexOf
-place-at-index p [] other h = absurd (not-suc-le-zero h)
-place-at-index p (q ∷ l) other h = go (same p q) (same-place p q) (place-at-index p l other) h
+item-at-index p [] other h = absurd (not-suc-le-zero h)
+item-at-index p (q ∷ l) other h = go (same p q) (same-item p q) (item-at-index p l other) h
   where
     go : (t : Bool) → (T t → p ≡ q) → (indexOf p l < length l → getD l (indexOf p l) other ≡ p)
         → cond t 0 (suc (indexOf p l)) < suc (length l) → getD (q ∷ l) (cond t 0 (suc (indexOf p l))) other ≡ p
@@ -77,35 +77,35 @@ pub each : (test : Kind → Figure → Bool) → T (every (test FirstPass) allFi
 each test t FirstPass f = each-figure (test FirstPass) (and-left (every (test FirstPass) allFigures) (every (test SecondPass) allFigures) t) f
 each test t SecondPass f = each-figure (test SecondPass) (and-right (every (test FirstPass) allFigures) (every (test SecondPass) allFigures) t) f
 
--- no place stands twice
+-- no item stands twice
 pub stands-once : (kind : Kind) (f : Figure) (k : ℕ) → k < length (layout kind f) → indexOf (getD (layout kind f) k theKind) (layout kind f) ≡ k
-unfolding layout indexOf same sort numberOfPlace
+unfolding layout indexOf same sort numberOfItem
 stands-once kind f k h =
     eqb→eq (indexOf (getD (layout kind f) k theKind) (layout kind f)) k
     (every-below (length (layout kind f)) (λ j. eqb (indexOf (getD (layout kind f) j theKind) (layout kind f)) j)
     (each (λ kind f. everyBelow (length (layout kind f)) (λ j. eqb (indexOf (getD (layout kind f) j theKind) (layout kind f)) j)) tt kind f) k h)
 
--- every place of a layout is one that its kind counts for the figure
+-- every item of a layout is one that its kind counts for the figure
 abbrev isAmong : ℕ → ℕ → Bool
 isAmong count i = leb 1 i && leb i count
 
-abbrev pub counted : Kind → Figure → Place → Bool
+abbrev pub counted : Kind → Figure → Item → Bool
 counted kind f theKind = true
 counted kind f theCode = true
 counted kind f theN = true
-counted kind f limit = same limit (limitOrTolerancePlace kind)
-counted kind f tolerance = same tolerance (limitOrTolerancePlace kind)
+counted kind f limit = same limit (limitOrToleranceItem kind)
+counted kind f tolerance = same tolerance (limitOrToleranceItem kind)
 counted kind f (angle i) = isAmong (angleCount f) i
 counted kind f (fixedAngle i) = isAmong (fixedIn kind f) i
 counted kind f (logSine i) = isAmong (sineEntriesIn kind f) i
 counted kind f (difference i) = isAmong (sineEntriesIn kind f) i
 
 pub each-counted : (kind : Kind) (f : Figure) (k : ℕ) → k < length (layout kind f) → T (counted kind f (getD (layout kind f) k theKind))
-unfolding layout same sort numberOfPlace
+unfolding layout same sort numberOfItem
 each-counted kind f k h =
     every-at (counted kind f) (layout kind f) (each (λ kind f. every (counted kind f) (layout kind f)) tt kind f) k theKind h
 
-pub narrow : (p : Place) → widthOf p ≤ 32
+pub narrow : (p : Item) → widthOf p ≤ 32
 narrow theKind = lit≤ tt
 narrow theCode = lit≤ tt
 narrow theN = lit≤ tt
@@ -116,65 +116,65 @@ narrow (fixedAngle i) = lit≤ tt
 narrow (logSine i) = lit≤ tt
 narrow (difference i) = lit≤ tt
 
--- the places of the head, and that of L or e, stand in every layout
+-- the items of the head, and L or e, stand in every layout
 pub kind-stands : (kind : Kind) (f : Figure) → indexOf theKind (layout kind f) < length (layout kind f)
-unfolding layout indexOf same sort numberOfPlace
+unfolding layout indexOf same sort numberOfItem
 kind-stands kind f = suc-le-suc zero-le
 
 pub code-stands : (kind : Kind) (f : Figure) → indexOf theCode (layout kind f) < length (layout kind f)
-unfolding layout indexOf same sort numberOfPlace
+unfolding layout indexOf same sort numberOfItem
 code-stands kind f = suc-le-suc (suc-le-suc zero-le)
 
 pub n-stands : (kind : Kind) (f : Figure) → indexOf theN (layout kind f) < length (layout kind f)
-unfolding layout indexOf same sort numberOfPlace
+unfolding layout indexOf same sort numberOfItem
 n-stands kind f = suc-le-suc (suc-le-suc (suc-le-suc zero-le))
 
-pub limit-stands : (kind : Kind) (f : Figure) → indexOf (limitOrTolerancePlace kind) (layout kind f) < length (layout kind f)
-unfolding layout indexOf same sort numberOfPlace
+pub limit-stands : (kind : Kind) (f : Figure) → indexOf (limitOrToleranceItem kind) (layout kind f) < length (layout kind f)
+unfolding layout indexOf same sort numberOfItem
 limit-stands FirstPass f = suc-le-suc (suc-le-suc (suc-le-suc (suc-le-suc zero-le)))
 limit-stands SecondPass f = suc-le-suc (suc-le-suc (suc-le-suc (suc-le-suc zero-le)))
 
 -- and so does each value that is counted
-module _ (place : ℕ → Place) (count : Kind → Figure → ℕ) where
+module _ (item : ℕ → Item) (count : Kind → Figure → ℕ) where
   stands : Kind → Figure → ℕ → Bool
-  stands kind f i = ltb (indexOf (place (suc i)) (layout kind f)) (length (layout kind f))
+  stands kind f i = ltb (indexOf (item (suc i)) (layout kind f)) (length (layout kind f))
 
   allStand : Kind → Figure → Bool
   allStand kind f = everyBelow (count kind f) (stands kind f)
 
   each-stands : T (every (allStand FirstPass) allFigures && every (allStand SecondPass) allFigures)
-      → (kind : Kind) (f : Figure) (i : ℕ) → i < count kind f → indexOf (place (suc i)) (layout kind f) < length (layout kind f)
+      → (kind : Kind) (f : Figure) (i : ℕ) → i < count kind f → indexOf (item (suc i)) (layout kind f) < length (layout kind f)
   unfolding allStand stands
   each-stands t kind f i h =
-      ltb→lt (indexOf (place (suc i)) (layout kind f)) (length (layout kind f)) (every-below (count kind f) (stands kind f) (each allStand t kind f) i h)
+      ltb→lt (indexOf (item (suc i)) (layout kind f)) (length (layout kind f)) (every-below (count kind f) (stands kind f) (each allStand t kind f) i h)
 
 pub angle-stands : (kind : Kind) (f : Figure) (i : ℕ) → i < angleCount f → indexOf (angle (suc i)) (layout kind f) < length (layout kind f)
-unfolding layout indexOf same sort numberOfPlace allStand stands
+unfolding layout indexOf same sort numberOfItem allStand stands
 angle-stands = each-stands angle (λ kind f. angleCount f) tt
 
 pub fixed-stands : (kind : Kind) (f : Figure) (i : ℕ) → i < fixedIn kind f → indexOf (fixedAngle (suc i)) (layout kind f) < length (layout kind f)
-unfolding layout indexOf same sort numberOfPlace allStand stands
+unfolding layout indexOf same sort numberOfItem allStand stands
 fixed-stands = each-stands fixedAngle fixedIn tt
 
 pub log-sine-stands : (kind : Kind) (f : Figure) (i : ℕ) → i < sineEntriesIn kind f → indexOf (logSine (suc i)) (layout kind f) < length (layout kind f)
-unfolding layout indexOf same sort numberOfPlace allStand stands
+unfolding layout indexOf same sort numberOfItem allStand stands
 log-sine-stands = each-stands logSine sineEntriesIn tt
 
 pub difference-stands : (kind : Kind) (f : Figure) (i : ℕ) → i < sineEntriesIn kind f → indexOf (difference (suc i)) (layout kind f) < length (layout kind f)
-unfolding layout indexOf same sort numberOfPlace allStand stands
+unfolding layout indexOf same sort numberOfItem allStand stands
 difference-stands = each-stands difference sineEntriesIn tt
 
 -- ---- the head stands first in every layout
 
 module _ (kind : Kind) (f : Figure) (s : List ℕ) where
   pub kind-in-head : held (layout kind f) s theKind ≡ held head s theKind
-  unfolding held layout positionOf same sort numberOfPlace
+  unfolding held layout positionOf same sort numberOfItem
   kind-in-head = refl
 
   pub code-in-head : held (layout kind f) s theCode ≡ held head s theCode
-  unfolding held layout positionOf same sort numberOfPlace
+  unfolding held layout positionOf same sort numberOfItem
   code-in-head = refl
 
   pub n-in-head : held (layout kind f) s theN ≡ held head s theN
-  unfolding held layout positionOf same sort numberOfPlace
+  unfolding held layout positionOf same sort numberOfItem
   n-in-head = refl

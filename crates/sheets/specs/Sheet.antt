@@ -3,13 +3,13 @@ use Prim.Native.Nat.{ℕ, suc}
 use mathlib.Core.List.{List, map}
 use lib.IntN.{ℤ, pos}
 use Rattle.whole.specs.Lists.{listed}
-use Rattle.refusals.specs.Order.{numbered}
+use Rattle.refusals.specs.Numbers.{numbered}
 use Rattle.figures.specs.declared.Figure.{Figure}
 use Rattle.figures.specs.Figure.{description, angleCount}
-use Rattle.bits.specs.Bits.{Field, fieldAt, fillingWidth, bytesOf, packedBits}
+use Rattle.bits.specs.Bits.{Field, bytesOf, packedBits}
 use Rattle.complement.specs.Complement.{signedOf, twosComplement}
 use Rattle.layout.specs.declared.Kind.{Kind}
-use Rattle.layout.specs.Layout.{Place, theKind, theCode, theN, limit, tolerance, angle, fixedAngle, logSine, difference, numberOfKind, widthOf, limitOrTolerancePlace, layout, fixedIn, sineEntriesIn, bitCount, held}
+use Rattle.layout.specs.Layout.{Item, theKind, theCode, theN, limit, tolerance, angle, fixedAngle, logSine, difference, numberOfKind, widthOf, limitOrToleranceItem, layout, fixedIn, sineEntriesIn, held}
 
 -- ---- the values of a sheet, and its bytes
 
@@ -23,8 +23,8 @@ pub record Values : Type 0 where
 abbrev pub valuesFrom : (limitOrTolerance : ℕ) (angles fixed logSines : List ℕ) (differences : List ℤ) → Values
 valuesFrom e a f l d = record { limitOrTolerance = e; angles = a; fixed = f; logSines = l; differences = d }
 
--- the number that a place holds
-abbrev pub numberAt : Kind → Figure → Values → Place → ℕ
+-- the number that stands for an item
+abbrev pub numberAt : Kind → Figure → Values → Item → ℕ
 numberAt kind f v theKind = numberOfKind kind
 numberAt kind f v theCode = description f .code
 numberAt kind f v theN = description f .n
@@ -35,8 +35,8 @@ numberAt kind f v (fixedAngle i) = numbered (v .fixed) i 0
 numberAt kind f v (logSine i) = numbered (v .logSines) i 0
 numberAt kind f v (difference i) = twosComplement (widthOf (difference i)) (numbered (v .differences) i (pos 0))
 
-abbrev pub fieldOf : Kind → Figure → Values → Place → Field
-fieldOf kind f v place = record { width = widthOf place; holds = numberAt kind f v place }
+abbrev pub fieldOf : Kind → Figure → Values → Item → Field
+fieldOf kind f v item = record { width = widthOf item; holds = numberAt kind f v item }
 
 -- the bytes of a sheet: its fields one after the other, and zero bits that fill the last byte
 unfoldable pub packedSheet : Kind → Figure → Values → List ℕ
@@ -51,15 +51,11 @@ oneOfEach count g = listed count (λ i. g (suc i))
 -- the values that are read off a sheet
 unfoldable pub valuesRead : Kind → Figure → List ℕ → Values
 valuesRead kind f sheet = valuesFrom
-    (held (layout kind f) sheet (limitOrTolerancePlace kind))
+    (held (layout kind f) sheet (limitOrToleranceItem kind))
     (oneOfEach (angleCount f) (λ i. held (layout kind f) sheet (angle i)))
     (oneOfEach (fixedIn kind f) (λ i. held (layout kind f) sheet (fixedAngle i)))
     (oneOfEach (sineEntriesIn kind f) (λ i. held (layout kind f) sheet (logSine i)))
     (oneOfEach (sineEntriesIn kind f) (λ i. signedOf (widthOf (difference i)) (held (layout kind f) sheet (difference i))))
-
--- what the bits after the last field hold: 0 exactly if none is 1
-unfoldable pub fillingOf : Kind → Figure → List ℕ → ℕ
-fillingOf kind f sheet = fieldAt sheet (bitCount kind f) (fillingWidth (bitCount kind f))
 
 -- a bound on the positions of reader and writer: no sheet is so long
 abbrev pub mostBits : ℕ

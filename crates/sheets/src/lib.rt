@@ -1,20 +1,24 @@
 // Packed sheets: document 01, "Packed sheets". The values of a sheet and its bytes are defined in specs/Sheet.antt; what is turned back, and in which
 // order, stands in specs/Judging.antt. The code here is what the reader (`reading`) and the writer (`writing`) share.
-mod ranges;
-
 use figures::Figure;
 pub use heads::Look;
-pub use heads::NamedKind;
-pub use heads::kind_of;
 pub use heads::look_at;
 pub use layout::Kind;
-pub use layout::Lengths;
 pub use layout::lengths_of;
 pub use layout::sheet_size;
-pub use ranges::range_verdict;
+use refusals::MOST_LIMIT;
+use refusals::MOST_TOLERANCE;
 use refusals::Refusal;
+use refusals::Verdict;
+use refusals::angles_verdict;
+use refusals::first_to_fail;
+use refusals::fixed_verdict;
+use refusals::limit_or_tolerance_verdict;
+use refusals::sine_entries_verdict;
 ghost use mathlib.Core.Path.{_≡_};
-ghost use Rattle.sheets.specs.Judging.{sameLengths};
+ghost use Rattle.refusals.specs.Order.{judged};
+ghost use Rattle.sheets.specs.Sheet.{valuesFrom};
+ghost use Rattle.sheets.specs.Judging.{mostLimitOrTolerance, valueRows};
 
 // What the reader answers: L or e as packed, so that 0 stays 0.
 pub enum Reading {
@@ -26,18 +30,32 @@ pub enum Reading {
     Refused(Refusal),
 }
 
-// Whether what is lent has the lengths that it must have.
-pub fn same_lengths(lent: Lengths, right: Lengths) -> bool
-    ensures { λ same. ⌜ same ≡ sameLengths lent right ⌝ }
+fn most_limit_or_tolerance(kind: Kind) -> u32
+    ensures { λ most. ⌜ most ≡ mostLimitOrTolerance kind ⌝ }
 {
-    if lent.angles != right.angles {
-        return false;
+    match kind {
+        Kind::FirstPass => MOST_LIMIT,
+        Kind::SecondPass => MOST_TOLERANCE,
     }
-    if lent.fixed != right.fixed {
-        return false;
-    }
-    if lent.log_sines != right.log_sines {
-        return false;
-    }
-    lent.differences == right.differences
+}
+
+// The tests of a sheet's values, 3, 4, 5 and 8, whether they were read or are to be written.
+pub fn values_verdict(
+    kind: Kind,
+    limit_or_tolerance: u32,
+    angles: &[u32],
+    fixed: &[u32],
+    log_sines: &[u32],
+    differences: &[i32],
+) -> Verdict
+    ensures { λ verdict. ⌜ verdict ≡ judged (valueRows kind (valuesFrom «limit_or_tolerance»
+        (now (angles .entry)) (now (fixed .entry)) (now («log_sines» .entry)) (now (differences .entry)))) ⌝ }
+{
+    let limit = limit_or_tolerance_verdict(limit_or_tolerance, most_limit_or_tolerance(kind));
+    let observed = first_to_fail(limit, angles_verdict(angles));
+    let others = first_to_fail(
+        fixed_verdict(fixed),
+        sine_entries_verdict(log_sines, differences),
+    );
+    first_to_fail(observed, others)
 }

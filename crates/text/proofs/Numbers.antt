@@ -1,7 +1,7 @@
 -- Laws of a number's text: it reads back as the number, so that no two numbers have one text; what its bytes are; how long it is at most.
 -- Each goes by the number without its last digit. Assumes nothing.
 use mathlib.Core.Path.{_≡_, refl, sym, ap, ap₂, _∙_, subst⁻¹}
-use mathlib.Core.Bool.{Bool, true, false, _&&_, _||_}
+use mathlib.Core.Bool.{Bool, true, false, _||_}
 use mathlib.Core.List.{List, [], _∷_, _++_, map}
 use Prim.Native.Nat.{ℕ, zero, suc, _+_, _*_, _-_, _/_, _%_, _^_, _≤_, _<_}
 use native.Mathlib.Nat.{not-suc-le-zero, pow-suc, div-lt-iff-lt-mul, div-eq-of-lt, mod-eq-of-lt}
@@ -12,7 +12,7 @@ use lib.IntN.{ℤ, pos, negsuc, negℤ, natAbs}
 use lib.ListN.{length, getD, length-append, List·getD-append}
 use lib.Signed.{mag}
 use Rattle.whole.specs.Lists.{every}
-use Rattle.whole.proofs.Computed.{and-left, and-right}
+use Rattle.whole.proofs.Computed.{and-left}
 use Rattle.text.proofs.Tests.{and-both, or-left, or-cases, every-append, every-also}
 use Rattle.text.specs.Text.{space, lineFeed, minus, digit, isDigit, digits, natural, decimal, readDigits, readNumber, isPlain, isWord}
 

@@ -1,10 +1,10 @@
 -- The laws of a commutative ring for ℤ that the kit's `lib.IntN` leaves out: the product distributes over the sum, is associative, and
 -- carries a minus sign. Each goes by one induction, by steps of one up and down from zero. Assumes nothing.
-use mathlib.Core.Path.{_≡_, refl, sym, ap, _∙_}
+use mathlib.Core.Path.{_≡_, sym, ap, _∙_}
 use Prim.Native.Nat.{ℕ, zero, suc}
 use lib.IntN.{ℤ, pos, negsuc, one, sucℤ, predℤ, negℤ, _+ℤ_, _-ℤ_, _*ℤ_}
-use lib.IntN.{+ℤ-assoc, +ℤ-comm, +ℤ-idl, +ℤ-idr, +ℤ-invr, +ℤ-invl, sucℤ-+ℤ, predℤ-+ℤ, negℤ-+ℤ, negℤ-negℤ, negℤ-sucℤ, negℤ-predℤ}
-use lib.IntN.{*ℤ-comm, *ℤ-one, zero-*ℤ, *ℤ-zero, sucℤ-*ℤ, predℤ-*ℤ}
+use lib.IntN.{+ℤ-assoc, +ℤ-comm, +ℤ-idl, sucℤ-+ℤ, predℤ-+ℤ, negℤ-+ℤ, negℤ-negℤ, negℤ-sucℤ, negℤ-predℤ}
+use lib.IntN.{*ℤ-comm, *ℤ-one, zero-*ℤ, sucℤ-*ℤ, predℤ-*ℤ}
 
 module _ (P : ℤ → Type 0) (start : P (pos zero)) (up : (k : ℤ) → P k → P (sucℤ k)) (down : (k : ℤ) → P k → P (predℤ k)) where
   from-zero-up : (n : ℕ) → P (pos n)
@@ -53,9 +53,6 @@ negℤ-*ℤ a b =
     (λ x h. ap (λ (t : ℤ). t *ℤ b) (negℤ-predℤ x) ∙ sucℤ-*ℤ (negℤ x) b ∙ ap (λ (t : ℤ). t +ℤ b) h
     ∙ ap (λ (t : ℤ). negℤ (x *ℤ b) +ℤ t) (sym (negℤ-negℤ b)) ∙ sym (negℤ-+ℤ (x *ℤ b) (negℤ b)) ∙ ap negℤ (sym (predℤ-*ℤ x b)))
     a
-
-pub *ℤ-negℤ : (a b : ℤ) → a *ℤ negℤ b ≡ negℤ (a *ℤ b)
-*ℤ-negℤ a b = *ℤ-comm a (negℤ b) ∙ negℤ-*ℤ b a ∙ ap negℤ (*ℤ-comm b a)
 
 pub *ℤ-assoc : (a b c : ℤ) → (a *ℤ b) *ℤ c ≡ a *ℤ (b *ℤ c)
 *ℤ-assoc a b c =

@@ -50,12 +50,6 @@ module _ {A : Type 0} where
   getD-padded (suc n) d (x ∷ xs) zero b = refl
   getD-padded (suc n) d (x ∷ xs) (suc i) b = getD-padded n d xs i (le-of-suc-le-suc b)
 
-  -- a list of at least n values, its first n kept
-  pub take-padded : (n : ℕ) (d : A) (xs : List A) → n ≤ length xs → take n xs ≡ padded n d xs
-  take-padded zero d xs b = refl
-  take-padded (suc n) d [] b = absurd (not-suc-le-zero b)
-  take-padded (suc n) d (x ∷ xs) b = ap (λ (ys : List A). x ∷ ys) (take-padded n d xs (le-of-suc-le-suc b))
-
   -- the invariant of every loop that fills an array by a rule: the first i of n places are filled
   pub record Filled (n : ℕ) (f : ℕ → A) (i : ℕ) (l : List A) : Type 0 where
     pub within : i ≤ n

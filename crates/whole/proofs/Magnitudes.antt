@@ -26,10 +26,6 @@ pub natAbs-withSign : (z : ℤ) (m : ℕ) → natAbs (withSign z m) ≡ m
 natAbs-withSign (pos n) m = refl
 natAbs-withSign (negsuc n) m = natAbs-neg (pos m)
 
-pub withSign-natAbs : (z : ℤ) → withSign z (natAbs z) ≡ z
-withSign-natAbs (pos n) = refl
-withSign-natAbs (negsuc n) = refl
-
 -- ---- Sums, differences and products
 
 by-test : (t : Bool) (x y : ℤ) (n : ℕ) → (T t → natAbs x ≡ n) → (T (not t) → natAbs y ≡ n) → natAbs (cond t x y) ≡ n

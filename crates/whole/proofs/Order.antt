@@ -4,11 +4,11 @@ use mathlib.Core.Bool.{Bool, true, false, cond}
 use Prim.Native.Nat.{ℕ, zero, suc, _+_, _*_, _-_, _≤_, _<_}
 use native.Mathlib.Nat.{mul-pos, zero-lt-suc, not-suc-le-zero}
 use native.Mathlib.Omega.{arith}
-use lib.Dec.{T, leb, ltb, le→leb, leb→le}
-use lib.IntN.{ℤ, pos, negsuc, natAbs, negℤ, subℕ, _+ℤ_, _-ℤ_, _*ℤ_}
+use lib.Dec.{T, ltb, le→leb, leb→le}
+use lib.IntN.{ℤ, pos, negsuc, natAbs, subℕ, _+ℤ_, _-ℤ_, _*ℤ_}
 use lib.Signed.{leZ, _≤ℤ_, yes-nonNeg, pos-natAbs}
 use borrow.Author.Tests.{le-ltb}
-use Rattle.whole.proofs.Ring.{ring, _≐_, _⊕_, _⊖_, _⊗_, ⊝_}
+use Rattle.whole.proofs.Ring.{ring, _≐_, _⊕_, _⊖_}
 
 pub pos-injective : {m n : ℕ} → pos m ≡ pos n → m ≡ n
 pos-injective e = ap natAbs e
@@ -46,10 +46,6 @@ difference-natural (negsuc a) (negsuc b) t =
 pub ≤ℤ-difference : {a b : ℤ} → a ≤ℤ b → pos 0 ≤ℤ (b -ℤ a)
 ≤ℤ-difference {a} {b} h = difference-natural a b (h .le)
 
--- what is added to a where a ≤ b
-pub ≤ℤ-sum : {a b : ℤ} → a ≤ℤ b → b ≡ a +ℤ pos (natAbs (b -ℤ a))
-≤ℤ-sum {a} {b} h = ring 2 (λ a b. b ≐ a ⊕ (b ⊖ a)) tt a b ∙ ap (λ (t : ℤ). a +ℤ t) (natural (b -ℤ a) (≤ℤ-difference h))
-
 pub ≤ℤ-from-difference : (a b : ℤ) → pos 0 ≤ℤ (b -ℤ a) → a ≤ℤ b
 ≤ℤ-from-difference a b h =
     subst (λ (t : ℤ). a ≤ℤ t) (ap (λ (t : ℤ). a +ℤ t) (sym (natural (b -ℤ a) h)) ∙ ring 2 (λ a b. a ⊕ (b ⊖ a) ≐ b) tt a b)
@@ -69,17 +65,6 @@ pub ≤ℤ-trans : {a b c : ℤ} → a ≤ℤ b → b ≤ℤ c → a ≤ℤ c
 ≤ℤ-trans {a} {b} {c} h k =
     ≤ℤ-from-difference a c
     (subst (λ (t : ℤ). pos 0 ≤ℤ t) (ring 3 (λ a b c. b ⊖ a ⊕ (c ⊖ b) ≐ c ⊖ a) tt a b c) (nonnegative-sum (≤ℤ-difference h) (≤ℤ-difference k)))
-
-pub +ℤ-mono : {a b c d : ℤ} → a ≤ℤ b → c ≤ℤ d → (a +ℤ c) ≤ℤ (b +ℤ d)
-+ℤ-mono {a} {b} {c} {d} h k =
-    ≤ℤ-from-difference (a +ℤ c) (b +ℤ d)
-    (subst (λ (t : ℤ). pos 0 ≤ℤ t) (ring 4 (λ a b c d. b ⊖ a ⊕ (d ⊖ c) ≐ b ⊕ d ⊖ (a ⊕ c)) tt a b c d)
-    (nonnegative-sum (≤ℤ-difference h) (≤ℤ-difference k)))
-
-pub *ℤ-mono : {a b : ℤ} (c : ℤ) → pos 0 ≤ℤ c → a ≤ℤ b → (c *ℤ a) ≤ℤ (c *ℤ b)
-*ℤ-mono {a} {b} c h k =
-    ≤ℤ-from-difference (c *ℤ a) (c *ℤ b)
-    (subst (λ (t : ℤ). pos 0 ≤ℤ t) (ring 3 (λ a b c. c ⊗ (b ⊖ a) ≐ c ⊗ b ⊖ c ⊗ a) tt a b c) (nonnegative-product h (≤ℤ-difference k)))
 
 -- two numbers not below 0 that sum to 0 are 0
 pub left-zero : {a b : ℤ} → pos 0 ≤ℤ a → pos 0 ≤ℤ b → a +ℤ b ≡ pos 0 → a ≡ pos 0

@@ -1,15 +1,13 @@
 -- Laws of the rounded quotient, by which other crates know it.
 -- Only what stands under "The half", and the worked values, say which way a half goes: the rest is so of every rounding to the nearest.
 use mathlib.Core.Path.{_≡_, refl, sym, ap, _∙_}
-use mathlib.Core.List.{List, [], _∷_, _++_, map}
+use mathlib.Core.List.{List, [], _∷_, map}
 use Prim.Native.Nat.{ℕ, zero, suc, _+_, _-_, _*_, _/_, _%_, _^_, _≤_, _<_, zero-le}
 use native.Mathlib.Nat.{div-zero, zero-mul, div-mul-le-self, lt-div-mul-add, div-add-mod', mod-lt, div-eq-of-lt-le, lt-of-mul-lt-mul-right, le-mul-of-pos-right}
 use native.Mathlib.Omega.{arith}
 use lib.IntN.{ℤ, pos, negsuc, negℤ, natAbs, negℤ-negℤ, negℤ-+ℤ, +ℤ-invr, _-ℤ_, _*ℤ_}
-use mir.Syntax.{Width}
-use mir.Val.{SFits}
 use Rattle.whole.specs.Quotient.{nearest, withSign, roundedQuotient}
-use Rattle.whole.proofs.Magnitudes.{natAbs-neg, natAbs-withSign, natAbs-distance, withSign-fits}
+use Rattle.whole.proofs.Magnitudes.{natAbs-neg, natAbs-withSign, natAbs-distance}
 
 -- ---- Magnitudes
 
@@ -132,11 +130,6 @@ rounded-whole k d h = rounded-only (k *ℤ pos d) k d (rw (+ℤ-invr (k *ℤ pos
 pub rounded-within : (z : ℤ) (d : ℕ) → natAbs (roundedQuotient z d) ≤ natAbs z
 rounded-within z d = rw (rounded-magnitude z d) (nearest-within (natAbs z) d)
 
--- so a rounded quotient is in range wherever its numerator is
-pub rounded-fits : (w : Width) (z : ℤ) (d : ℕ) → SFits w z → SFits w (roundedQuotient z d)
-unfolding roundedQuotient
-rounded-fits w z d f = withSign-fits w z (nearest (natAbs z) d) (nearest-within (natAbs z) d) f
-
 -- and never past the exact value by more than a half
 pub rounded-reach : (z : ℤ) (d : ℕ) → 2 * (natAbs (roundedQuotient z d) * d) ≤ 2 * natAbs z + d
 rounded-reach z d = rw (rounded-magnitude z d) (nearest-at-most (natAbs z) d)
@@ -156,24 +149,16 @@ pub rounded-half : (z : ℤ) (d k : ℕ) → 0 < d → 2 * natAbs z ≡ (2 * k +
 unfolding roundedQuotient
 rounded-half z d k h half = ap (withSign z) (nearest-from-half (natAbs z) d k (omega arith) (omega arith))
 
--- ---- Worked values
+-- ---- The edges of the machine's numbers
 
 -- a numerator, a denominator, and what they give
-pub record Row : Type 0 where
-  pub numerator : ℤ
-  pub denominator : ℕ
-  pub rounded : ℤ
+record Edge : Type 0 where
+  numerator : ℤ
+  denominator : ℕ
+  rounded : ℤ
 
-abbrev row : ℤ → ℕ → ℤ → Row
-row n d r = record { numerator = n; denominator = d; rounded = r }
-
--- document 01, "Sheets worked through", case 5
-abbrev pub case-5 : List Row
-case-5 =
-    row (negℤ (pos 12)) 8 (negℤ (pos 2))
-    ∷ row (pos 4) 8 (pos 1)
-    ∷ row (negℤ (pos 42)) 18 (negℤ (pos 2))
-    ∷ []
+abbrev edge : ℤ → ℕ → ℤ → Edge
+edge n d r = record { numerator = n; denominator = d; rounded = r }
 
 -- the smallest and the largest number of 64 bits, over the least and the greatest denominators
 abbrev smallest : ℤ
@@ -182,18 +167,18 @@ smallest = negℤ (pos (2 ^ 63))
 abbrev largest : ℤ
 largest = pos (2 ^ 63 - 1)
 
-abbrev pub edges : List Row
+abbrev edges : List Edge
 edges =
-    row smallest 0 (pos 0)
-    ∷ row smallest 1 smallest
-    ∷ row smallest 2 (negℤ (pos (2 ^ 62)))
-    ∷ row smallest (2 ^ 64 - 1) (negℤ (pos 1))
-    ∷ row largest 0 (pos 0)
-    ∷ row largest 1 largest
-    ∷ row largest 2 (pos (2 ^ 62))
-    ∷ row largest (2 ^ 64 - 1) (pos 0)
+    edge smallest 0 (pos 0)
+    ∷ edge smallest 1 smallest
+    ∷ edge smallest 2 (negℤ (pos (2 ^ 62)))
+    ∷ edge smallest (2 ^ 64 - 1) (negℤ (pos 1))
+    ∷ edge largest 0 (pos 0)
+    ∷ edge largest 1 largest
+    ∷ edge largest 2 (pos (2 ^ 62))
+    ∷ edge largest (2 ^ 64 - 1) (pos 0)
     ∷ []
 
-pub worked : map (λ (r : Row). roundedQuotient (r .numerator) (r .denominator)) (case-5 ++ edges) ≡ map (λ (r : Row). r .rounded) (case-5 ++ edges)
+edges-hold : map (λ (e : Edge). roundedQuotient (e .numerator) (e .denominator)) edges ≡ map (λ (e : Edge). e .rounded) edges
 unfolding roundedQuotient nearest
-worked = refl
+edges-hold = refl

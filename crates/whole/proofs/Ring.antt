@@ -8,7 +8,7 @@ use Prim.Native.Nat.{ℕ, zero, suc}
 use lib.Dec.{T, leb, ltb, eqb, eqb→eq}
 use lib.ListN.{getD}
 use lib.IntN.{ℤ, pos, negsuc, negℤ, _+ℤ_, _-ℤ_, _*ℤ_}
-use lib.IntN.{+ℤ-assoc, +ℤ-comm, +ℤ-idl, +ℤ-idr, +ℤ-invl, zero-*ℤ, *ℤ-zero}
+use lib.IntN.{+ℤ-assoc, +ℤ-idl, +ℤ-idr, +ℤ-invl, zero-*ℤ, *ℤ-zero}
 use Rattle.whole.proofs.Computed.{and-left, and-right}
 use Rattle.whole.proofs.Integers.{*ℤ-unit, unit-*ℤ, +ℤ-left-comm, *ℤ-distribʳ, *ℤ-distribˡ, *ℤ-assoc, *ℤ-left-comm, negℤ-*ℤ}
 

@@ -9,7 +9,7 @@ use native.Mathlib.Omega.{arith}
 use lib.IntN.{ℤ, pos, natAbs, _+ℤ_, _*ℤ_, +ℤ-idr, +ℤ-idl, +ℤ-comm, *ℤ-zero, zero-*ℤ, *ℤ-comm}
 use lib.Signed.{_≤ℤ_, ≤ℤ-refl}
 use Rattle.whole.specs.Sums.{sum, dot, squares, applied, composed, identity, transposed}
-use Rattle.whole.proofs.Integers.{*ℤ-assoc, *ℤ-distribˡ, unit-*ℤ}
+use Rattle.whole.proofs.Integers.{*ℤ-distribˡ, unit-*ℤ}
 use Rattle.whole.proofs.Ring.{ring, _≐_, _⊕_, _⊗_}
 use Rattle.whole.proofs.Magnitudes.{natAbs-add}
 use Rattle.whole.proofs.Order.{nonnegative-sum, square-nonnegative, square-zero, left-zero}
@@ -130,6 +130,9 @@ dot-zero n u v h = sum-ext n (λ i. u i *ℤ v i) (λ i. pos 0) (λ i b. ap (λ 
 pub squares-nonnegative : (n : ℕ) (u : ℕ → ℤ) → pos 0 ≤ℤ squares n u
 unfolding dot
 squares-nonnegative n u = sum-nonnegative n (λ i. u i *ℤ u i) (λ i b. square-nonnegative (u i))
+
+pub squares-ext : (n : ℕ) (u v : ℕ → ℤ) → ((i : ℕ) → i < n → u i ≡ v i) → squares n u ≡ squares n v
+squares-ext n u v same = dot-ext n u u v v same same
 
 -- a sum of squares is 0 only where each number is 0
 pub squares-zero : (n : ℕ) (u : ℕ → ℤ) → squares n u ≡ pos 0 → (i : ℕ) → i < n → u i ≡ pos 0

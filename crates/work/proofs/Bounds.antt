@@ -4,7 +4,7 @@ use Prim.Native.Nat.{ℕ, zero, suc, _*_, _≤_, _<_, zero-le}
 use native.Mathlib.Nat.{le-trans, le-of-lt, mul-le-mul, mul-le-mul-right}
 use native.Mathlib.Decide.{decLt}
 use native.Mathlib.Omega.{arith}
-use lib.Dec.{T}
+use lib.Dec.{T, lit≤}
 use lib.ListN.{length}
 use lib.IntN.{ℤ, natAbs, _*ℤ_}
 use Rattle.whole.specs.Lists.{every}
@@ -13,10 +13,14 @@ use Rattle.whole.proofs.Magnitudes.{natAbs-add, natAbs-mul}
 use Rattle.whole.proofs.Sums.{sum-magnitude}
 use Rattle.figures.specs.declared.Figure.{Figure}
 use Rattle.figures.specs.Figure.{description, conditionCount, membersOf, allFigures}
-use Rattle.figures.specs.Numerators.{sumOver, conditionSum, numerator, mostConditions, mostMembers}
+use Rattle.figures.specs.Numerators.{sumOver, conditionSum, numerator, mostAngles, mostConditions, mostMembers}
 use Rattle.figures.proofs.Figures.{each-figure, condition-bound}
 use Rattle.tables.proofs.Small.{smallRow, smallRows, small-at, small-row}
 use Rattle.work.proofs.MemberLaws.{few-members}
+
+-- a column has room for the conditions
+pub few-conditions : (f : Figure) → conditionCount f ≤ mostAngles
+few-conditions f = le-trans (condition-bound f) (lit≤ tt)
 
 sumOver-magnitude : (members : List ℕ) (x : ℕ → ℤ) (most : ℕ) → ((i : ℕ) → natAbs (x i) ≤ most) → natAbs (sumOver members x) ≤ length members * most
 unfolding sumOver

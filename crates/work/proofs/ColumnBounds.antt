@@ -1,6 +1,6 @@
 -- Bounds on the magnitudes in columns, and the sum over a row of members within them. Assumes nothing.
 use mathlib.Core.Path.{_≡_, refl, sym, ap, _∙_, subst}
-use mathlib.Core.List.{List, [], _∷_, _++_}
+use mathlib.Core.List.{List, [], _∷_}
 use Prim.Native.Nat.{ℕ, zero, suc, _+_, _*_, _^_, _≤_, _<_}
 use native.Mathlib.Decide.{decLt}
 use native.Mathlib.Numerals.{add-one}
@@ -14,7 +14,7 @@ use mir.Facts.{toZ-ofZ}
 use Rattle.whole.specs.Sums.{vector}
 use Rattle.whole.proofs.Lists.{length-listed, getD-listed}
 use Rattle.whole.proofs.Magnitudes.{natAbs-add, magnitude-fits}
-use Rattle.refusals.specs.Order.{numbered}
+use Rattle.refusals.specs.Numbers.{numbered}
 use Rattle.figures.specs.Numerators.{sumOver, mostAngles, mostMembers}
 use Rattle.columns.specs.Column.{column}
 use Rattle.work.specs.Premises.{Below}
@@ -33,13 +33,7 @@ sum-fits a b h k = magnitude-fits w64 (a +ℤ b) (omega (arith, natAbs-add a b))
 
 -- ---- the sum over a row of members
 
-pub sumOver-append : (a b : List ℕ) (x : ℕ → ℤ) → sumOver (a ++ b) x ≡ sumOver a x +ℤ sumOver b x
-unfolding sumOver
-sumOver-append [] b x = sym (+ℤ-idl (sumOver b x))
-sumOver-append (zero ∷ a) b x = sumOver-append a b x
-sumOver-append (suc i ∷ a) b x = ap (λ (t : ℤ). x i +ℤ t) (sumOver-append a b x) ∙ sym (+ℤ-assoc (x i) (sumOver a x) (sumOver b x))
-
-pub sumOver-one : (m : ℕ) (x : List ℤ) → sumOver (m ∷ []) (vector x) ≡ numbered x m (pos 0)
+sumOver-one : (m : ℕ) (x : List ℤ) → sumOver (m ∷ []) (vector x) ≡ numbered x m (pos 0)
 unfolding sumOver
 sumOver-one zero x = refl
 sumOver-one (suc i) x = +ℤ-idr (vector x i)
@@ -54,10 +48,10 @@ one-further x (suc i ∷ row) (suc k) =
     +ℤ-assoc (vector x i) (sumOver (take k row) (vector x)) (numbered x (getD row k 0) (pos 0)) ∙ ap (λ (t : ℤ). vector x i +ℤ t) (one-further x row k)
 
 -- one member more, as a loop that counts adds it; past the row's end it is 0
-pub sumOver-more : (row : List ℕ) (k : ℕ) (x : List ℤ) → sumOver (take k row) (vector x) +ℤ numbered x (getD row k 0) (pos 0) ≡ sumOver (take (k + 1) row) (vector x)
+sumOver-more : (row : List ℕ) (k : ℕ) (x : List ℤ) → sumOver (take k row) (vector x) +ℤ numbered x (getD row k 0) (pos 0) ≡ sumOver (take (k + 1) row) (vector x)
 sumOver-more row k x = one-further x row k ∙ ap (λ (n : ℕ). sumOver (take n row) (vector x)) (sym (add-one k))
 
-pub numbered-below : (power : ℕ) (x : List ℤ) → Below power x → (m : ℕ) → natAbs (numbered x m (pos 0)) < 2 ^ power
+numbered-below : (power : ℕ) (x : List ℤ) → Below power x → (m : ℕ) → natAbs (numbered x m (pos 0)) < 2 ^ power
 numbered-below power x h zero = pow-pos power
 numbered-below power x h (suc i) = h i
 

@@ -1,33 +1,33 @@
 -- The columns of corrections: their magnitudes, and that they are those of the definitions. Assumes nothing.
-use mathlib.Core.Path.{_≡_, sym, ap, _∙_}
+use mathlib.Core.Path.{_≡_, ap, _∙_}
 use mathlib.Core.List.{List}
 use Prim.Native.Nat.{ℕ, _*_, _^_, _≤_, _<_}
-use native.Mathlib.Nat.{le-refl, le-of-lt, lt-of-le-of-lt}
+use native.Mathlib.Nat.{le-refl, le-of-lt, lt-of-le-of-lt, lt-of-lt-of-le}
 use native.Mathlib.Omega.{arith}
 use lib.IntN.{ℤ, pos, negℤ, natAbs, _+ℤ_, _*ℤ_}
+use lib.ListN.{take}
 use Rattle.whole.specs.Quotient.{roundedQuotient}
 use Rattle.whole.specs.Sums.{vector}
 use Rattle.whole.proofs.Quotient.{rounded-within}
 use Rattle.whole.proofs.Ring.{ring, _≐_, _⊗_}
-use Rattle.refusals.specs.declared.Refusal.{Refusal}
-use Rattle.refusals.specs.declared.Verdict.{Verdict}
-use Rattle.refusals.specs.Order.{failsAt, lowestPlace, numbered, outsideSigned}
-use Rattle.refusals.specs.Ranges.{leastAngle, mostAngle}
+use Rattle.refusals.specs.Order.{verdictOf}
+use Rattle.refusals.specs.Table.{resultsRow}
 use Rattle.figures.specs.declared.Figure.{Figure}
 use Rattle.figures.specs.Figure.{denominator, angleCount}
 use Rattle.figures.specs.Numerators.{mostAngles}
 use Rattle.figures.proofs.Figures.{angle-bound}
+use Rattle.work.specs.declared.second.SecondJudged.{SecondJudged}
 use Rattle.work.specs.declared.second.SecondWork.{SecondWork}
 use Rattle.columns.specs.Column.{column}
 use Rattle.work.specs.Premises.{Below, Angles}
-use Rattle.method.specs.Pass.{given, resultTest}
+use Rattle.method.specs.Pass.{given}
 use Rattle.method.specs.SecondPass.{secondReduced, sineMisclosure, sumOfSquares, secondNumerator, secondRounded, secondAdjusted, secondRest}
-use Rattle.work.specs.SecondWork.{mostDenominator, Corrections, sinesOf, secondWorkOf}
-use Rattle.work.proofs.ConditionLaws.{condition-agrees}
-use Rattle.columns.proofs.ColumnLaws.{column-at, column-ext, column-search}
+use Rattle.work.specs.SecondWork.{mostDenominator, Corrections, Adjusted, sinesOf, secondWorkOf, secondWorked}
+use Rattle.columns.proofs.ColumnLaws.{column-at, column-ext, take-column}
 use Rattle.work.proofs.ColumnBounds.{column-below}
 use Rattle.work.proofs.ProductLaws.{product-magnitude}
 use Rattle.work.proofs.SineLaws.{denominator-bound}
+use Rattle.work.proofs.StepLaws.{condition-ext}
 
 -- ---- magnitudes
 
@@ -58,19 +58,7 @@ pub quotients-below : (power denominator : ℕ) (numerators : List ℤ) → Belo
 quotients-below power denominator numerators small =
     column-below power (λ i. roundedQuotient (vector numerators i) denominator) (λ i h. lt-of-le-of-lt (rounded-within (vector numerators i) denominator) (small i))
 
--- ---- number 7, asked of a column
-
-pub result-column : (f : Figure) (g : ℕ → ℤ)
-    → failsAt Refusal.ResultOutOfRange (lowestPlace (λ place. outsideSigned (pos leastAngle) (pos mostAngle) (numbered (column g) place (pos 0))) (angleCount f)) ≡ resultTest f g
-result-column f g = sym (ap (failsAt Refusal.ResultOutOfRange) (column-search g (pos leastAngle) (pos mostAngle) (angleCount f) (angle-bound f)))
-
 -- ---- the columns are those of the definitions
-
-work-same : {v v′ : Verdict} {w w′ s s′ : ℤ} {a a′ n n′ r r′ d d′ e e′ : List ℤ}
-    → v ≡ v′ → w ≡ w′ → s ≡ s′ → a ≡ a′ → n ≡ n′ → r ≡ r′ → d ≡ d′ → e ≡ e′
-    → _≡_ {A = SecondWork} (record { verdict = v; misclosure = w; squares = s; reduced = a; numerators = n; rounded = r; adjusted = d; rests = e })
-    (record { verdict = v′; misclosure = w′; squares = s′; reduced = a′; numerators = n′; rounded = r′; adjusted = d′; rests = e′ })
-work-same v w s a n r d e = rw (v, w, s, a, n, r, d, e)
 
 module _ (f : Figure) (angles logSines : List ℕ) (differences : List ℤ) (work : SecondWork) (made : Corrections f angles (sinesOf f logSines differences) work) where
   numerators : work .numerators ≡ column (secondNumerator f logSines differences)
@@ -99,13 +87,28 @@ module _ (f : Figure) (angles logSines : List ℕ) (differences : List ℤ) (wor
   unfolding secondRest
   rests =
       made .rests
-      ∙ column-ext _ (secondRest f logSines differences) (λ j h. condition-agrees f (vector (work .rounded)) (secondRounded f logSines differences) rounded-at j)
+      ∙ column-ext _ (secondRest f logSines differences) (λ j h.
+      condition-ext f (vector (work .rounded)) (secondRounded f logSines differences) (λ i b. rounded-at i (lt-of-lt-of-le b (angle-bound f))) j)
 
-  verdict : work .verdict ≡ resultTest f (secondAdjusted f angles logSines differences)
-  verdict =
-      made .verdict
-      ∙ ap (λ (l : List ℤ). failsAt Refusal.ResultOutOfRange (lowestPlace (λ place. outsideSigned (pos leastAngle) (pos mostAngle) (numbered l place (pos 0))) (angleCount f))) results
-      ∙ result-column f (secondAdjusted f angles logSines differences)
+  work-made : work ≡ secondWorkOf f angles logSines differences
+  work-made = λ i. record {
+    misclosure = made .misclosure i;
+    squares = made .squares i;
+    reduced = made .reduced i;
+    numerators = numerators i;
+    rounded = rounded i;
+    adjusted = results i;
+    rests = rests i;
+  }
 
-  pub work-made : work ≡ secondWorkOf f angles logSines differences
-  work-made = work-same verdict (made .misclosure) (made .squares) (made .reduced) numerators rounded results rests
+pub judged-made : (f : Figure) (angles logSines : List ℕ) (differences : List ℤ) (judged : SecondJudged)
+    → Adjusted f angles (sinesOf f logSines differences) judged → judged ≡ secondWorked f angles logSines differences
+judged-made f angles logSines differences judged made =
+    let work = work-made f angles logSines differences (judged .work) (made .corrections) in
+    λ i. record {
+      verdict =
+          (made .verdict
+          ∙ ap (λ (w : SecondWork). verdictOf (resultsRow (take (angleCount f) (w .adjusted)))) work
+          ∙ ap (λ (l : List ℤ). verdictOf (resultsRow l)) (take-column (angleCount f) (secondAdjusted f angles logSines differences) (angle-bound f))) i;
+      work = work i;
+    }

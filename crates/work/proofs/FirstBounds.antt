@@ -37,7 +37,7 @@ module _ (f : Figure) (angles fixed : List ℕ) (a : Angles angles) (b : Angles 
   misclosure-small j =
       omega (arith, natAbs-sub (conditionSum f (given angles) j) (shouldBe (targetOf f (suc j)) fixed), sum-small j, target-small (targetOf f (suc j)))
 
-  pub numerator-small : (i : ℕ) → natAbs (firstNumerator f angles fixed i) ≤ 2 ^ 37
+  numerator-small : (i : ℕ) → natAbs (firstNumerator f angles fixed i) ≤ 2 ^ 37
   unfolding firstNumerator
   numerator-small i = omega (arith, numerator-magnitude f (misclosure f angles fixed) (2 ^ 27) misclosure-small i)
 

@@ -1,13 +1,13 @@
 pub mod Bounds
 pub mod ColumnBounds
-pub mod ConditionLaws
 pub mod CorrectionLaws
 pub mod FirstAccepted
 pub mod FirstBounds
 pub mod MemberLaws
 pub mod ProductLaws
-pub mod SecondJudged
+pub mod SecondAccepted
 pub mod SineLaws
 pub mod SmallEntries
 pub mod StepLaws
+pub mod StoreLaws
 pub mod ToleranceLaws

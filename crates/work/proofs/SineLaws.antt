@@ -12,7 +12,7 @@ use lib.IntN.{ℤ, pos, natAbs, _+ℤ_, _*ℤ_}
 use Rattle.whole.specs.Lists.{every, listed}
 use Rattle.whole.specs.Sums.{dot, vector}
 use Rattle.whole.proofs.Computed.{and-left, and-right}
-use Rattle.whole.proofs.Lists.{getD-listed, getD-padded}
+use Rattle.whole.proofs.Lists.{getD-padded}
 use Rattle.whole.proofs.Magnitudes.{natAbs-add}
 use Rattle.whole.proofs.Sums.{dot-ext}
 use Rattle.refusals.specs.Ranges.{mostLogSine, mostDifference}
@@ -25,11 +25,11 @@ use Rattle.work.specs.Premises.{Below}
 use Rattle.method.specs.Pass.{given}
 use Rattle.method.specs.SecondPass.{sineSign, signedDifference, secondReduced}
 use Rattle.work.specs.SecondWork.{mostDenominator}
-use Rattle.work.proofs.ConditionLaws.{numerator-agrees, reduced-agrees}
 use Rattle.work.proofs.Bounds.{condition-magnitude, numerator-magnitude}
 use Rattle.columns.proofs.ColumnLaws.{column-at, column-ext}
 use Rattle.work.proofs.ColumnBounds.{column-below}
 use Rattle.work.proofs.ProductLaws.{product-magnitude}
+use Rattle.work.proofs.StepLaws.{numerators-step, reduced-ext}
 
 -- what is below a power is below a greater one
 pub below-as : (p q : ℕ) {x y : List ℤ} → x ≡ y → p ≤ q → Below p y → Below q x
@@ -64,7 +64,7 @@ unfolding signedDifference
 difference-magnitude f differences h i = product-magnitude (sineSign f i) (vector differences i) 1 mostDifference (sign-magnitude f i) (h i)
 
 -- a reduced coefficient is at most 48 + 9·100·8 times the largest d
-pub reduced-magnitude : (f : Figure) (d : ℕ → ℤ) (most : ℕ) → ((i : ℕ) → natAbs (d i) ≤ most) → (i : ℕ) → natAbs (reducedCoefficient f d i) ≤ 7248 * most
+reduced-magnitude : (f : Figure) (d : ℕ → ℤ) (most : ℕ) → ((i : ℕ) → natAbs (d i) ≤ most) → (i : ℕ) → natAbs (reducedCoefficient f d i) ≤ 7248 * most
 unfolding reducedCoefficient
 reduced-magnitude f d most h i =
     omega (
@@ -93,7 +93,7 @@ pub reduced-column : (f : Figure) (differences : List ℤ)
     → column (reducedCoefficient f (vector (column (signedDifference f differences)))) ≡ column (secondReduced f differences)
 unfolding secondReduced
 reduced-column f differences =
-    column-ext _ (secondReduced f differences) (λ i h. reduced-agrees f (vector (column (signedDifference f differences))) (signedDifference f differences) (column-at (signedDifference f differences)) i h)
+    column-ext _ (secondReduced f differences) (λ i h. reduced-ext f (vector (column (signedDifference f differences))) (signedDifference f differences) (column-at (signedDifference f differences)) i h)
 
 pub dot-columns : (n : ℕ) (u v : ℕ → ℤ) → n ≤ mostAngles → dot n (vector (column u)) (vector (column v)) ≡ dot n u v
 dot-columns n u v few =
@@ -127,20 +127,15 @@ module _ (f : Figure) (d sums narrowed scaled numerators : List ℤ) (factor : �
     (summed : sums ≡ column (conditionSum f (vector d))) (made-narrow : narrowed ≡ listed mostConditions (vector sums))
     (whole : factor ≡ pos (denominator f)) (multiplied : scaled ≡ column (λ i. factor *ℤ vector d i))
     (applied : numerators ≡ paddedNumerators f (vector narrowed)) where
-  sum-at : (j : ℕ) → j < mostConditions → vector narrowed j ≡ conditionSum f (vector d) j
-  sum-at j h =
-      ap (λ (l : List ℤ). vector l j) made-narrow ∙ getD-listed mostConditions (vector sums) j (pos 0) h
-      ∙ ap (λ (l : List ℤ). vector l j) summed ∙ column-at (conditionSum f (vector d)) j (omega arith)
+  numerators-are : numerators ≡ column (numerator f (conditionSum f (vector d)))
+  numerators-are = applied ∙ numerators-step f sums narrowed (conditionSum f (vector d)) summed made-narrow
 
   scaled-at : (i : ℕ) → i < mostAngles → vector scaled i ≡ pos (denominator f) *ℤ vector d i
   scaled-at i h =
       ap (λ (l : List ℤ). vector l i) multiplied ∙ column-at (λ k. factor *ℤ vector d k) i h ∙ ap (λ (z : ℤ). z *ℤ vector d i) whole
 
   numerator-at : (i : ℕ) → i < mostAngles → vector numerators i ≡ numerator f (conditionSum f (vector d)) i
-  unfolding paddedNumerators
-  numerator-at i h =
-      ap (λ (l : List ℤ). vector l i) applied ∙ getD-listed mostAngles (numerator f (vector narrowed)) i (pos 0) h
-      ∙ numerator-agrees f (vector narrowed) (conditionSum f (vector d)) sum-at i
+  numerator-at i h = ap (λ (l : List ℤ). vector l i) numerators-are ∙ column-at (numerator f (conditionSum f (vector d))) i h
 
   pub reduced-at : (i : ℕ) → i < mostAngles → vector scaled i +ℤ vector numerators i ≡ reducedCoefficient f (vector d) i
   unfolding reducedCoefficient
@@ -157,9 +152,7 @@ module _ (f : Figure) (d sums narrowed scaled numerators : List ℤ) (factor : �
         (λ i h. rw whole (omega (arith, product-magnitude (pos (denominator f)) (vector d i) mostDenominator (2 ^ 14) (denominator-bound f) (entry i)))))
 
     pub numerators-below : Below 62 numerators
-    unfolding paddedNumerators column
     numerators-below =
-        subst (Below 62) (sym applied)
-        (column-below 62 (numerator f (vector narrowed))
-        (λ i h. subst (λ (z : ℤ). natAbs z < 2 ^ 62) (sym (numerator-agrees f (vector narrowed) (conditionSum f (vector d)) sum-at i))
-        (omega (arith, numerator-magnitude f (conditionSum f (vector d)) (mostMembers * 2 ^ 14) (condition-magnitude f (vector d) (2 ^ 14) entry) i))))
+        subst (Below 62) (sym numerators-are)
+        (column-below 62 (numerator f (conditionSum f (vector d)))
+        (λ i h. omega (arith, numerator-magnitude f (conditionSum f (vector d)) (mostMembers * 2 ^ 14) (condition-magnitude f (vector d) (2 ^ 14) entry) i)))

@@ -6,7 +6,7 @@ use native.Mathlib.Nat.{lt-of-lt-of-le}
 use native.Mathlib.Decide.{decLt}
 use native.Mathlib.Omega.{arith}
 use lib.Dec.{T, leb, leb→le}
-use lib.IntN.{ℤ, pos, _+ℤ_}
+use lib.IntN.{ℤ, pos, _+ℤ_, _*ℤ_}
 use Rattle.whole.specs.Lists.{listed, every}
 use Rattle.whole.specs.Quotient.{roundedQuotient}
 use Rattle.whole.specs.Sums.{table, vector}
@@ -14,14 +14,14 @@ use Rattle.whole.proofs.Computed.{and-left, and-right}
 use Rattle.whole.proofs.Lists.{getD-listed, listed-ext}
 use Rattle.whole.proofs.Sums.{applied-ext}
 use Rattle.figures.specs.declared.Figure.{Figure}
-use Rattle.figures.specs.Figure.{description, angleCount, conditionCount, membersOf}
-use Rattle.figures.specs.Numerators.{sumOver, conditionSum, numerator, paddedNumerators, mostAngles, mostConditions}
+use Rattle.figures.specs.Figure.{description, denominator, angleCount, conditionCount, membersOf}
+use Rattle.figures.specs.Numerators.{sumOver, conditionSum, numerator, reducedCoefficient, paddedNumerators, mostAngles, mostConditions}
 use Rattle.figures.proofs.Figures.{isAmong, members-are-angles, angle-bound, condition-bound}
 use Rattle.columns.specs.Column.{column}
 use Rattle.columns.proofs.ColumnLaws.{column-at, column-ext}
 use Rattle.work.proofs.MemberLaws.{past-conditions}
 
--- ---- a sum over a condition, and a numerator, look only at the figure's own angles and conditions
+-- ---- a sum over a condition, a numerator and a reduced coefficient look only at the figure's own angles and conditions
 
 sumOver-ext : (N : ℕ) (members : List ℕ) (x y : ℕ → ℤ) → T (every (isAmong N) members) → ((i : ℕ) → i < N → x i ≡ y i) → sumOver members x ≡ sumOver members y
 unfolding sumOver
@@ -41,9 +41,16 @@ condition-ext f x y h j = go (decLt j (conditionCount f))
         let none = past-conditions f j (omega arith) in
         ap (λ (members : List ℕ). sumOver members x) none ∙ sym (ap (λ (members : List ℕ). sumOver members y) none)
 
-pub numerator-ext : (f : Figure) (v w : ℕ → ℤ) → ((j : ℕ) → j < conditionCount f → v j ≡ w j) → (i : ℕ) → numerator f v i ≡ numerator f w i
+numerator-ext : (f : Figure) (v w : ℕ → ℤ) → ((j : ℕ) → j < conditionCount f → v j ≡ w j) → (i : ℕ) → numerator f v i ≡ numerator f w i
 unfolding numerator
 numerator-ext f v w h i = applied-ext (conditionCount f) (table (description f .rows)) v w h i
+
+pub reduced-ext : (f : Figure) (d e : ℕ → ℤ) → ((i : ℕ) → i < mostAngles → d i ≡ e i) → (i : ℕ) → i < mostAngles
+    → reducedCoefficient f d i ≡ reducedCoefficient f e i
+unfolding reducedCoefficient
+reduced-ext f d e same i h =
+    ap₂ (λ (a b : ℤ). pos (denominator f) *ℤ a +ℤ b) (same i h)
+    (numerator-ext f (conditionSum f d) (conditionSum f e) (λ j b. condition-ext f d e (λ k c. same k (lt-of-lt-of-le c (angle-bound f))) j) i)
 
 -- ---- the steps
 

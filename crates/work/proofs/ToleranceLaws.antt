@@ -1,13 +1,12 @@
 -- Number 9 in natural numbers, as the code decides it, and how far W can be where it passes. Assumes nothing.
-use mathlib.Core.Path.{_≡_, sym, ap, ap₂, _∙_}
+use mathlib.Core.Path.{_≡_, ap, ap₂, _∙_, subst}
 use mathlib.Core.Bool.{Bool}
 use mathlib.Core.List.{List}
 use Prim.Native.Nat.{ℕ, _*_, _^_, _≤_, _<_}
 use native.Mathlib.Decide.{decLt}
 use native.Mathlib.Nat.{le-trans, mul-le-mul, mul-le-mul-right}
 use native.Mathlib.Omega.{arith}
-use borrow.Author.Tests.{ltb-false}
-use lib.Dec.{ltb, lit≤}
+use lib.Dec.{ltb, leb→le, lit≤}
 use lib.ListN.{getD}
 use lib.IntN.{ℤ, pos, natAbs, _*ℤ_}
 use lib.Signed.{ltZ, _≤ℤ_}
@@ -15,24 +14,23 @@ use Rattle.whole.specs.Sums.{dot, vector}
 use Rattle.whole.proofs.Magnitudes.{natAbs-mul}
 use Rattle.whole.proofs.Order.{natural, square-nonnegative}
 use Rattle.whole.proofs.Sums.{sum-magnitude, squares-nonnegative}
-use Rattle.refusals.specs.declared.Refusal.{Refusal}
-use Rattle.refusals.specs.declared.Verdict.the-variants.{Passed}
+use Rattle.refusals.specs.Questions.{lessSigned, asked}
 use Rattle.refusals.specs.Ranges.{mostLogSine, mostDifference, mostTolerance}
-use Rattle.refusals.proofs.Verdicts.{if-passes}
 use Rattle.figures.specs.declared.Figure.{Figure}
 use Rattle.figures.specs.Figure.{angleCount}
 use Rattle.figures.specs.Numerators.{mostAngles}
 use Rattle.figures.proofs.Figures.{angle-bound}
 use Rattle.method.specs.Pass.{given}
-use Rattle.method.specs.SecondPass.{toleranceOf, sineSign, signedDifference, sineMisclosure, differenceSquares, exceeds, toleranceTest}
-use Rattle.method.proofs.EntryLaws.{in-force-within}
+use Rattle.method.specs.SecondPass.{toleranceOf, sineSign, signedDifference, sineMisclosure, differenceSquares}
+use Rattle.method.proofs.WithinRange.{in-force-within}
 use Rattle.work.proofs.ProductLaws.{product-magnitude}
 use Rattle.work.proofs.SineLaws.{sign-magnitude, difference-magnitude}
 
 square : (w : ℤ) → w *ℤ w ≡ pos (natAbs w * natAbs w)
 square w = natural (w *ℤ w) (square-nonnegative w) ∙ ap pos (natAbs-mul w w)
 
-pub exceeds-is : (w : ℤ) (e : ℕ) (q : ℤ) → pos 0 ≤ℤ q → exceeds w e q ≡ ltb (e * e * natAbs q) (100 * (natAbs w * natAbs w))
+pub exceeds-is : (w : ℤ) (e : ℕ) (q : ℤ) → pos 0 ≤ℤ q
+    → asked (lessSigned (pos (e * e) *ℤ q) (pos 100 *ℤ (w *ℤ w))) ≡ ltb (e * e * natAbs q) (100 * (natAbs w * natAbs w))
 exceeds-is w e q h = ap₂ {C = Bool} (λ (x y : ℤ). ltZ (pos (e * e) *ℤ x) (pos 100 *ℤ y)) (natural q h) (square w)
 
 -- ---- magnitudes
@@ -61,8 +59,8 @@ module _ (f : Figure) (differences : List ℤ) where
 
 -- where number 9 passes, W is below 2¹⁸
 pub within-tolerance : (w : ℤ) (tolerance : ℕ) (q : ℤ) → tolerance ≤ mostTolerance → pos 0 ≤ℤ q → natAbs q ≤ mostAngles * (mostDifference * mostDifference)
-    → toleranceTest w tolerance q ≡ Passed → natAbs w < 2 ^ 18
-within-tolerance w tolerance q few natural-q most passes = go (decLt (natAbs w) (2 ^ 18))
+    → (pos 100 *ℤ (w *ℤ w)) ≤ℤ (pos (toleranceOf tolerance * toleranceOf tolerance) *ℤ q) → natAbs w < 2 ^ 18
+within-tolerance w tolerance q few natural-q most kept = go (decLt (natAbs w) (2 ^ 18))
   where
     e : ℕ
     e = toleranceOf tolerance
@@ -72,8 +70,8 @@ within-tolerance w tolerance q few natural-q most passes = go (decLt (natAbs w) 
 
     within : 100 * (natAbs w * natAbs w) ≤ e * e * natAbs q
     within =
-        ltb-false (e * e * natAbs q) (100 * (natAbs w * natAbs w))
-        (sym (exceeds-is w e q natural-q) ∙ if-passes (exceeds w e q) Refusal.SineMisclosureBeyondTolerance .0 passes)
+        let over-q = subst (λ (z : ℤ). (pos 100 *ℤ (w *ℤ w)) ≤ℤ (pos (e * e) *ℤ z)) (natural q natural-q) kept in
+        leb→le _ _ (subst (λ (z : ℤ). (pos 100 *ℤ z) ≤ℤ (pos (e * e) *ℤ pos (natAbs q))) (square w) over-q .le)
 
     limit : e * e * natAbs q ≤ mostTolerance * mostTolerance * (mostAngles * (mostDifference * mostDifference))
     limit = mul-le-mul (mul-le-mul e-most e-most) most

@@ -1,21 +1,21 @@
 -- The work of the first pass by value, as columns.
-use Prim.Native.Nat.{ℕ, _^_, _≤_, _<_}
-use mathlib.Core.List.{List, [], _∷_}
-use lib.IntN.{ℤ, pos, natAbs}
+use Prim.Native.Nat.{ℕ, _<_}
+use mathlib.Core.List.{List}
+use lib.IntN.{pos}
 use lib.Signed.{_≤ℤ_}
+use Rattle.whole.specs.Lists.{listed}
 use Rattle.whole.specs.Sums.{vector}
-use Rattle.figures.specs.Numerators.{mostAngles}
 use Rattle.refusals.specs.declared.Refusal.{Refusal}
 use Rattle.refusals.specs.declared.Verdict.{Verdict}
 use Rattle.refusals.specs.declared.Verdict.the-variants.{Passed, Failed}
-use Rattle.refusals.specs.Order.{answerOf}
+use Rattle.refusals.specs.Order.{judged}
 use Rattle.figures.specs.declared.Figure.{Figure}
+use Rattle.figures.specs.Figure.{angleCount}
+use Rattle.columns.specs.Column.{column}
+use Rattle.method.specs.FirstPass.{misclosure, firstNumerator, firstRounded, corrected, firstRest, misclosuresOf, givenRows, workRows}
 use Rattle.work.specs.declared.first.FirstJudged.{FirstJudged}
 use Rattle.work.specs.declared.first.FirstWork.{FirstWork}
-use Rattle.columns.specs.Column.{column}
-use Rattle.method.specs.Pass.{resultTest}
-use Rattle.method.specs.FirstSteps.{givenTests}
-use Rattle.method.specs.FirstPass.{misclosureTest, misclosure, firstNumerator, firstRounded, corrected, firstRest}
+use Rattle.work.specs.Premises.{StoreFits}
 
 abbrev pub firstWorkOf : Figure → (angles fixed : List ℕ) → FirstWork
 firstWorkOf f angles fixed = record {
@@ -26,16 +26,16 @@ firstWorkOf f angles fixed = record {
   rests = column (firstRest f angles fixed);
 }
 
--- the work with the verdict of its tests
-abbrev pub firstWorked : Figure → (limit : ℕ) (angles fixed : List ℕ) → FirstJudged
+-- the work with what its rows say
+abbrev pub firstWorked : Figure → (limit : ℕ) → (angles fixed : List ℕ) → FirstJudged
 firstWorked f limit angles fixed = record {
-  verdict = answerOf (misclosureTest f limit angles fixed ∷ resultTest f (corrected f angles fixed) ∷ []);
+  verdict = judged (workRows limit (misclosuresOf f angles fixed) (listed (angleCount f) (corrected f angles fixed)));
   work = firstWorkOf f angles fixed;
 }
 
--- no work, where a test failed before it
-abbrev pub refusedBeforeWork : Refusal → FirstJudged
-refusedBeforeWork refusal = record {
+-- no work, where a row before it holds
+abbrev pub firstRefused : Refusal → FirstJudged
+firstRefused refusal = record {
   verdict = Failed refusal;
   work = record {
     misclosures = column (λ i. pos 0);
@@ -46,20 +46,16 @@ refusedBeforeWork refusal = record {
   };
 }
 
-abbrev pub judgedAfter : Verdict → FirstJudged → FirstJudged
-judgedAfter Passed judged = judged
-judgedAfter (Failed refusal) judged = refusedBeforeWork refusal
+abbrev pub firstAfter : Verdict → FirstJudged → FirstJudged
+firstAfter Passed later = later
+firstAfter (Failed refusal) later = firstRefused refusal
 
--- a figure's sheet judged: the tests before the work, in their order, and then the work with its own
-unfoldable pub firstJudgedOf : Figure → (limit : ℕ) (angles fixed lent : List ℕ) → FirstJudged
-firstJudgedOf f limit angles fixed lent = judgedAfter (answerOf (givenTests f limit angles fixed lent)) (firstWorked f limit angles fixed)
+-- a figure's sheet judged: the rows before the work, and then the work with its own
+unfoldable pub firstJudgedOf : Figure → (limit : ℕ) → (angles fixed lent : List ℕ) → FirstJudged
+firstJudgedOf f limit angles fixed lent = firstAfter (judged (givenRows f limit angles fixed lent)) (firstWorked f limit angles fixed)
 
--- the first numbers of a column, as many as are stored, fit a 32-bit number
-abbrev pub StoreFits : (x : List ℤ) (count : ℕ) → Type 0
-StoreFits x count = (count ≤ mostAngles) × ((i : ℕ) → i < count → natAbs (vector x i) < 2 ^ 31)
-
--- what the stores of a first pass ask of its work
-pub record StoresFit (work : FirstWork) (misclosures numerators rounded corrected rests : ℕ) : Type 0 where
+-- what the stores of a first pass ask of its work, by the lengths of the slices
+pub record FirstStoresFit (work : FirstWork) (misclosures numerators rounded corrected rests : ℕ) : Type 0 where
   pub misclosures-fit : StoreFits (work .misclosures) misclosures
   pub numerators-fit : StoreFits (work .numerators) numerators
   pub rounded-fit : StoreFits (work .rounded) rounded

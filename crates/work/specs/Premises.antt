@@ -1,4 +1,4 @@
--- What the steps of the work ask of what they take, so that no sum and no product passes 64 bits.
+-- What the steps of the work and the stores ask of what they take, so that no sum and no product passes 64 bits and no store 32.
 use Prim.Native.Nat.{ℕ, _^_, _≤_, _<_}
 use mathlib.Core.List.{List, []}
 use lib.ListN.{length, getD}
@@ -19,3 +19,7 @@ pub record MembersOfFigure (members : List (List ℕ)) : Type 0 where
   pub rows : length members ≤ mostConditions
   pub members-in-row : (j : ℕ) → length (getD members j []) ≤ mostMembers
   pub numbers : (j k : ℕ) → getD (getD members j []) k 0 ≤ mostAngles
+
+-- the first numbers of a column, as many as are stored, fit a 32-bit number
+abbrev pub StoreFits : (x : List ℤ) → (count : ℕ) → Type 0
+StoreFits x count = (count ≤ mostAngles) × ((i : ℕ) → i < count → natAbs (vector x i) < 2 ^ 31)

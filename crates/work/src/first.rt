@@ -1,7 +1,9 @@
 // The first pass: document 01, "The two passes".
 ghost use mathlib.Core.Path.{_≡_};
+ghost use mathlib.Core.List.{_∷_};
+ghost use lib.ListN.{length};
 ghost use Rattle.work.specs.Premises.{Angles};
-ghost use Rattle.work.specs.FirstWork.{firstWorkOf, firstWorked, firstJudgedOf, refusedBeforeWork};
+ghost use Rattle.work.specs.FirstWork.{firstWorkOf, firstWorked, firstRefused, firstJudgedOf};
 use crate::sums::condition_sums;
 use crate::sums::narrowed;
 use crate::sums::sum_of;
@@ -10,7 +12,7 @@ use columns::minus_targets;
 use columns::quotients;
 use figures::Figure;
 use method::Column;
-use method::FirstLengths;
+use method::ResultLengths;
 use refusals::Refusal;
 use refusals::Verdict;
 use tables::MOST_ANGLES;
@@ -24,7 +26,7 @@ pub struct FirstWork {
     pub rests: Column,
 }
 
-// The work with the verdict on its sheet. Where a test before number 6 fails, the work is 0.
+// The work with what the rows say of its sheet. Where a row before number 6 holds, the work is 0.
 pub struct FirstJudged {
     pub verdict: Verdict,
     pub work: FirstWork,
@@ -34,7 +36,7 @@ pub struct FirstJudged {
 fn first_work(f: Figure, angles: &[u32], fixed: &[u32]) -> FirstWork
     requires { ⌜ Angles (now angles) ⌝ }
     requires { ⌜ Angles (now fixed) ⌝ }
-    ensures { λ r. ⌜ r ≡ firstWorkOf f (now (angles .entry)) (now (fixed .entry)) ⌝ }
+    ensures { λ work. ⌜ work ≡ firstWorkOf f (now (angles .entry)) (now (fixed .entry)) ⌝ }
 {
     let observed = column_of(angles);
     let misclosures = sum_of(condition_sums(f, observed), minus_targets(f, fixed));
@@ -52,18 +54,20 @@ fn first_work(f: Figure, angles: &[u32], fixed: &[u32]) -> FirstWork
     }
 }
 
-// Every test after number 1, and the work where those before it pass.
+// Every row after number 1, and the work where those before it hold nowhere.
 pub fn first_judged(
     f: Figure,
     limit: u32,
     angles: &[u32],
     fixed: &[u32],
-    lent: FirstLengths,
+    results: ResultLengths,
 ) -> FirstJudged
-    ensures { λ r. ⌜ r ≡ firstJudgedOf f limit (now (angles .entry)) (now (fixed .entry)) lent ⌝ }
+    ensures { λ judged.
+        ⌜ judged ≡ firstJudgedOf f limit (now (angles .entry)) (now (fixed .entry))
+        (length (now (angles .entry)) ∷ length (now (fixed .entry)) ∷ results) ⌝ }
 {
-    match method::first_given_verdict(f, limit, angles, fixed, lent) {
-        Verdict::Failed(refusal) => refused_before_work(refusal),
+    match method::first_given_verdict(f, limit, angles, fixed, results) {
+        Verdict::Failed(refusal) => first_refused(refusal),
         Verdict::Passed => first_worked(f, limit, angles, fixed),
     }
 }
@@ -71,7 +75,7 @@ pub fn first_judged(
 fn first_worked(f: Figure, limit: u32, angles: &[u32], fixed: &[u32]) -> FirstJudged
     requires { ⌜ Angles (now angles) ⌝ }
     requires { ⌜ Angles (now fixed) ⌝ }
-    ensures { λ r. ⌜ r ≡ firstWorked f limit (now (angles .entry)) (now (fixed .entry)) ⌝ }
+    ensures { λ judged. ⌜ judged ≡ firstWorked f limit (now (angles .entry)) (now (fixed .entry)) ⌝ }
 {
     let work = first_work(f, angles, fixed);
     let by_condition = work.misclosures;
@@ -80,8 +84,8 @@ fn first_worked(f: Figure, limit: u32, angles: &[u32], fixed: &[u32]) -> FirstJu
     FirstJudged { verdict, work }
 }
 
-fn refused_before_work(refusal: Refusal) -> FirstJudged
-    ensures { λ r. ⌜ r ≡ refusedBeforeWork refusal ⌝ }
+fn first_refused(refusal: Refusal) -> FirstJudged
+    ensures { λ judged. ⌜ judged ≡ firstRefused refusal ⌝ }
 {
     let verdict = Verdict::Failed(refusal);
     let none = [0i64; MOST_ANGLES];

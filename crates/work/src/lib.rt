@@ -1,4 +1,5 @@
-// The work of both passes by value: document 01, "The two passes". Every test in its order, and a column for each thing that a pass gives.
+// The work of both passes by value: document 01, "The two passes". Every row after number 1 in its order, and a column for
+// each thing that a pass gives.
 mod first;
 mod second;
 mod sines;
@@ -7,6 +8,6 @@ mod sums;
 pub use first::FirstJudged;
 pub use first::FirstWork;
 pub use first::first_judged;
+pub use second::SecondJudged;
 pub use second::SecondWork;
-pub use second::figure_work;
-pub use second::sheet_work;
+pub use second::second_judged;

@@ -8,7 +8,9 @@ ghost use Rattle.refusals.specs.Ranges.{mostTolerance};
 ghost use Rattle.figures.specs.Numerators.{reducedCoefficient};
 ghost use Rattle.columns.specs.Column.{column};
 ghost use Rattle.work.specs.Premises.{Below};
-ghost use Rattle.method.specs.SecondPass.{toleranceTest};
+ghost use Rattle.refusals.specs.Order.{verdictOf};
+ghost use Rattle.refusals.specs.Table.{sineMisclosureRow};
+ghost use Rattle.method.specs.SecondPass.{toleranceOf};
 ghost use Rattle.work.specs.SecondWork.{SineEntries, sinesOf};
 use crate::sums::condition_sums;
 use crate::sums::dot_product;
@@ -35,9 +37,9 @@ pub struct Sines {
     pub difference_squares: i64,
 }
 
-pub fn sines_of(f: Figure, log_sines: &[u32], differences: &[i32]) -> Sines
+pub(crate) fn sines_of(f: Figure, log_sines: &[u32], differences: &[i32]) -> Sines
     requires { ⌜ SineEntries (now «log_sines») (now differences) ⌝ }
-    ensures { λ r. ⌜ r ≡ sinesOf f (now («log_sines» .entry)) (now (differences .entry)) ⌝ }
+    ensures { λ sines. ⌜ sines ≡ sinesOf f (now («log_sines» .entry)) (now (differences .entry)) ⌝ }
 {
     let table = tables::signs_of(f);
     let signs = signed_column(&table);
@@ -67,12 +69,12 @@ fn reduced_coefficients(f: Figure, d: Column) -> Column
 }
 
 // Number 9.
-pub fn tolerance_verdict(misclosure: i64, tolerance: u32, difference_squares: i64) -> Verdict
+pub(crate) fn tolerance_verdict(misclosure: i64, tolerance: u32, difference_squares: i64) -> Verdict
     requires { ⌜ natAbs misclosure < 2 ^ 32 ⌝ }
     requires { ⌜ tolerance ≤ mostTolerance ⌝ }
     requires { ⌜ pos 0 ≤ℤ «difference_squares» ⌝ }
     requires { ⌜ natAbs «difference_squares» < 2 ^ 32 ⌝ }
-    ensures { λ r. ⌜ r ≡ toleranceTest misclosure tolerance «difference_squares» ⌝ }
+    ensures { λ verdict. ⌜ verdict ≡ verdictOf (sineMisclosureRow (toleranceOf tolerance) misclosure «difference_squares») ⌝ }
 {
     let e = in_force(tolerance, DEFAULT_TOLERANCE) as u64;
     let w = whole::magnitude(misclosure);

@@ -6,7 +6,7 @@ ghost use lib.IntN.{pos, natAbs, _+ℤ_, _*ℤ_};
 ghost use lib.ListN.{getD, length};
 ghost use Rattle.whole.specs.Lists.{listed};
 ghost use Rattle.whole.specs.Sums.{dot, vector};
-ghost use Rattle.refusals.specs.Order.{numbered};
+ghost use Rattle.refusals.specs.Numbers.{numbered};
 ghost use Rattle.figures.specs.Numerators.{conditionSum, sumOver, mostAngles, mostConditions, mostMembers};
 ghost use Rattle.columns.specs.Column.{column};
 ghost use Rattle.work.specs.Premises.{Below, MembersOfFigure};
@@ -18,7 +18,7 @@ use tables::MOST_MEMBERS;
 use tables::Members;
 use tables::Misclosures;
 
-pub fn sum_of(a: Column, b: Column) -> Column
+pub(crate) fn sum_of(a: Column, b: Column) -> Column
     requires { ⌜ Below 62 a ⌝ }
     requires { ⌜ Below 62 b ⌝ }
     ensures { λ r. ⌜ r ≡ column (λ i. vector a i +ℤ vector b i) ⌝ }
@@ -33,7 +33,7 @@ pub fn sum_of(a: Column, b: Column) -> Column
 }
 
 // The sum over the angles of each condition.
-pub fn condition_sums(f: Figure, x: Column) -> Column
+pub(crate) fn condition_sums(f: Figure, x: Column) -> Column
     requires { ⌜ Below 58 x ⌝ }
     ensures { λ r. ⌜ r ≡ column (conditionSum f (vector x)) ⌝ }
 {
@@ -101,7 +101,7 @@ fn member(number: u8, x: &[i64]) -> i64
 }
 
 // The misclosures as the figure's table takes them.
-pub fn narrowed(x: Column) -> Misclosures
+pub(crate) fn narrowed(x: Column) -> Misclosures
     requires { ⌜ Below 31 x ⌝ }
     ensures { λ r. ⌜ r ≡ listed mostConditions (vector x) ⌝ }
 {
@@ -114,7 +114,7 @@ pub fn narrowed(x: Column) -> Misclosures
     out
 }
 
-pub fn products(a: Column, b: Column) -> Column
+pub(crate) fn products(a: Column, b: Column) -> Column
     requires { ⌜ Below 31 a ⌝ }
     requires { ⌜ Below 31 b ⌝ }
     ensures { λ r. ⌜ r ≡ column (λ i. vector a i *ℤ vector b i) ⌝ }
@@ -128,7 +128,7 @@ pub fn products(a: Column, b: Column) -> Column
     out
 }
 
-pub fn scaled(factor: i64, x: Column) -> Column
+pub(crate) fn scaled(factor: i64, x: Column) -> Column
     requires { ⌜ natAbs factor < 2 ^ 31 ⌝ }
     requires { ⌜ Below 31 x ⌝ }
     ensures { λ r. ⌜ r ≡ column (λ i. factor *ℤ vector x i) ⌝ }
@@ -137,7 +137,7 @@ pub fn scaled(factor: i64, x: Column) -> Column
 }
 
 // The sum of the first products.
-pub fn dot_product(a: Column, b: Column, count: usize) -> i64
+pub(crate) fn dot_product(a: Column, b: Column, count: usize) -> i64
     requires { ⌜ Below 29 a ⌝ }
     requires { ⌜ Below 29 b ⌝ }
     requires { ⌜ count ≤ mostAngles ⌝ }

@@ -1,5 +1,5 @@
 -- How many values of each sort a sheet has at most. Assumes nothing.
-use Prim.Native.Nat.{ℕ, _≤_, zero-le}
+use Prim.Native.Nat.{_≤_, zero-le}
 use lib.Dec.{T, leb, leb→le}
 use Rattle.whole.specs.Lists.{every}
 use Rattle.figures.specs.declared.Figure.{Figure}

@@ -1,13 +1,14 @@
 -- A sheet worked through.
 use Prim.Native.Nat.{ℕ}
 use mathlib.Core.Path.{_≡_}
-use mathlib.Core.List.{List}
+use mathlib.Core.List.{List, [], _∷_, _++_}
 use lib.IntN.{ℤ, pos}
 use lib.ListN.{length, take, replicate}
 use Rattle.refusals.specs.declared.Refusal.{Refusal}
 use Rattle.refusals.specs.declared.Verdict.{Verdict}
 use Rattle.refusals.specs.declared.Verdict.the-variants.{Passed, Failed}
-use Rattle.refusals.specs.Order.{answerOf}
+use Rattle.refusals.specs.Numbers.{Told, told, refusalTold}
+use Rattle.refusals.specs.Order.{Row, judged}
 use Rattle.figures.specs.Numerators.{mostAngles}
 use Rattle.figures.specs.declared.Figure.{Figure}
 use Rattle.figures.specs.Figure.{angleCount}
@@ -15,12 +16,12 @@ use Rattle.layout.specs.declared.Kind.{Kind}
 use Rattle.layout.specs.declared.Kind.the-variants.{FirstPass, SecondPass}
 use Rattle.heads.specs.declared.Look.{Look}
 use Rattle.heads.specs.declared.Look.the-variants.{Head}
-use Rattle.heads.specs.Head.{lookOf}
-use Rattle.layout.specs.Layout.{lengthsOf, fixedIn, sineEntriesIn}
+use Rattle.heads.specs.Head.{headRows, lookOf, ofHead}
+use Rattle.layout.specs.Layout.{fixedIn, sineEntriesIn}
 use Rattle.sheets.specs.declared.Reading.{Reading}
 use Rattle.sheets.specs.declared.Reading.the-variants.{Read}
-use Rattle.sheets.specs.Judging.{readingOf, afterReading}
-use Rattle.sheets.specs.Sheet.{valuesRead}
+use Rattle.sheets.specs.Judging.{ownLengths, bodyRows, readingOf, afterReading}
+use Rattle.sheets.specs.Sheet.{Values, valuesRead}
 use Rattle.work.specs.declared.first.FirstWork.{FirstWork}
 use Rattle.work.specs.declared.second.SecondWork.{SecondWork}
 use Rattle.worked.specs.declared.Outcome.{Outcome}
@@ -28,9 +29,9 @@ use Rattle.worked.specs.declared.Outcome.the-variants.{First, Second}
 use Rattle.worked.specs.declared.SheetValues.{SheetValues}
 use Rattle.worked.specs.declared.WorkedSheet.{WorkedSheet}
 use Rattle.columns.specs.Column.{column}
-use Rattle.method.specs.FirstPass.{firstLengths, firstTests}
+use Rattle.method.specs.FirstPass.{firstResultLengths, firstRows}
 use Rattle.method.specs.Pass.{given}
-use Rattle.method.specs.SecondPass.{secondLengths, secondTests}
+use Rattle.method.specs.SecondPass.{secondResultLengths, secondRows}
 use Rattle.work.specs.SecondWork.{secondWorkOf}
 use Rattle.work.specs.FirstWork.{firstWorkOf}
 
@@ -48,7 +49,7 @@ pub record FullArrays (r : SheetValues) : Type 0 where
 -- the reader's answer, and its values at the start of each array
 pub record ReadInto (sheet : List ℕ) (kind : Kind) (f : Figure) (r : SheetValues) : Type 0 where
   pub full : FullArrays r
-  pub reading-is : r .reading ≡ readingOf sheet (lengthsOf kind f)
+  pub reading-is : r .reading ≡ readingOf sheet (ownLengths kind f)
   pub angles-are : take (angleCount f) (r .angles) ≡ afterReading (r .reading) (λ k g. valuesRead k g sheet .angles) (take (angleCount f) (r .angles))
   pub fixed-are : take (fixedIn kind f) (r .fixed) ≡ afterReading (r .reading) (λ k g. valuesRead k g sheet .fixed) (take (fixedIn kind f) (r .fixed))
   pub log-sines-are : take (sineEntriesIn kind f) (r .«log_sines») ≡ afterReading (r .reading) (λ k g. valuesRead k g sheet .logSines) (take (sineEntriesIn kind f) (r .«log_sines»))
@@ -84,16 +85,18 @@ firstShown f given work = record {
   rests = work .rests;
 }
 
--- kind 1: the first pass of the figure, with slices of the right lengths lent
 abbrev pub shownIf : Verdict → WorkedSheet → WorkedSheet
 shownIf Passed shown = shown
 shownIf (Failed r) shown = refusedSheet r
 
+-- kind 1: the first pass of the figure, with slices of the right lengths lent for the results
+abbrev pub firstSheetLengths : Figure → (angles fixed : List ℕ) → List ℕ
+firstSheetLengths f angles fixed = length angles ∷ length fixed ∷ firstResultLengths f
+
 unfoldable pub firstSheet : Figure → (limit : ℕ) → (angles fixed : List ℕ) → WorkedSheet
 firstSheet f limit angles fixed =
-    shownIf (answerOf (firstTests f limit angles fixed (firstLengths f))) (firstShown f (column (given angles)) (firstWorkOf f angles fixed))
+    shownIf (judged (firstRows f limit angles fixed (firstSheetLengths f angles fixed))) (firstShown f (column (given angles)) (firstWorkOf f angles fixed))
 
--- kind 2: the second pass of the figure, with slices of the right lengths lent
 abbrev pub secondShown : Figure → (given : List ℤ) → SecondWork → WorkedSheet
 secondShown f given work = record {
   outcome = Second f (work .misclosure) (work .squares);
@@ -106,9 +109,13 @@ secondShown f given work = record {
   rests = work .rests;
 }
 
+-- kind 2: the second pass of the figure, with slices of the right lengths lent for the results
+abbrev pub secondSheetLengths : Figure → (angles logSines : List ℕ) → (differences : List ℤ) → List ℕ
+secondSheetLengths f angles logSines differences = length angles ∷ length logSines ∷ length differences ∷ secondResultLengths f
+
 unfoldable pub secondSheet : Figure → (tolerance : ℕ) → (angles logSines : List ℕ) → (differences : List ℤ) → WorkedSheet
 secondSheet f tolerance angles logSines differences =
-    shownIf (answerOf (secondTests f tolerance angles logSines differences (secondLengths f)))
+    shownIf (judged (secondRows f tolerance angles logSines differences (secondSheetLengths f angles logSines differences)))
     (secondShown f (column (given angles)) (secondWorkOf f angles logSines differences))
 
 -- ---- from what the reader answered
@@ -129,12 +136,35 @@ workedFrom kind f v =
 abbrev pub workedRead : Reading → List ℕ → WorkedSheet
 workedRead (Reading.Refused r) sheet = refusedSheet r
 workedRead (Read kind f limitOrTolerance) sheet =
-    workedKind kind f limitOrTolerance (valuesRead kind f sheet .angles) (valuesRead kind f sheet .fixed) (valuesRead kind f sheet .logSines) (valuesRead kind f sheet .differences)
+    workedKind kind f limitOrTolerance (valuesRead kind f sheet .angles) (valuesRead kind f sheet .fixed)
+    (valuesRead kind f sheet .logSines) (valuesRead kind f sheet .differences)
 
 abbrev pub workedLook : Look → List ℕ → WorkedSheet
 workedLook (Look.Refused r) sheet = refusedSheet r
-workedLook (Head kind f) sheet = workedRead (readingOf sheet (lengthsOf kind f)) sheet
+workedLook (Head kind f) sheet = workedRead (readingOf sheet (ownLengths kind f)) sheet
 
 -- a sheet worked through, from any bytes
 unfoldable pub workedOf : List ℕ → WorkedSheet
 workedOf sheet = workedLook (lookOf sheet) sheet
+
+-- ---- the order of a sheet worked through: the reader's rows, in slices of the right lengths, and then those of the pass that its kind is for
+
+abbrev pub passRows : Kind → Figure → Values → List Row
+passRows FirstPass f v = firstRows f (v .limitOrTolerance) (v .angles) (v .fixed) (firstSheetLengths f (v .angles) (v .fixed))
+passRows SecondPass f v =
+    secondRows f (v .limitOrTolerance) (v .angles) (v .logSines) (v .differences) (secondSheetLengths f (v .angles) (v .logSines) (v .differences))
+
+unfoldable pub sheetRows : List ℕ → List Row
+sheetRows sheet =
+    headRows sheet
+    ++ ofHead (lookOf sheet) [] (λ kind f. bodyRows kind f sheet (ownLengths kind f) ++ passRows kind f (valuesRead kind f sheet))
+
+-- the number and place of an outcome
+abbrev pub outcomeTold : Outcome → Told
+outcomeTold (First f) = told 0 0
+outcomeTold (Second f w s) = told 0 0
+outcomeTold (Outcome.Refused refusal) = refusalTold refusal
+
+-- the sine differences that a sheet holds
+abbrev pub differencesIn : List ℕ → List ℤ
+differencesIn sheet = ofHead (lookOf sheet) [] (λ kind f. valuesRead kind f sheet .differences)

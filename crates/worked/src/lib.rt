@@ -4,8 +4,8 @@ ghost use Rattle.worked.specs.Worked.{ReadInto, FullArrays, refusedSheet
 use columns::column_of;
 use figures::Figure;
 use method::Column;
-use method::first_lengths;
-use method::second_lengths;
+use method::first_result_lengths;
+use method::second_result_lengths;
 use refusals::Refusal;
 use refusals::Verdict;
 use sheets::Kind;
@@ -14,8 +14,8 @@ use sheets::Reading;
 use tables::MOST_ANGLES;
 use work::FirstWork;
 use work::SecondWork;
-use work::figure_work;
 use work::first_judged;
+use work::second_judged;
 
 // What became of a sheet.
 pub enum Outcome {
@@ -95,7 +95,7 @@ fn refused(refusal: Refusal) -> WorkedSheet
 fn first_sheet(f: Figure, limit: u32, angles: &[u32], fixed: &[u32]) -> WorkedSheet
     ensures { λ r. ⌜ r ≡ firstSheet f limit (now (angles .entry)) (now (fixed .entry)) ⌝ }
 {
-    let judged = first_judged(f, limit, angles, fixed, first_lengths(f));
+    let judged = first_judged(f, limit, angles, fixed, first_result_lengths(f));
     let verdict = judged.verdict;
     match verdict {
         Verdict::Failed(refusal) => refused(refusal),
@@ -134,18 +134,18 @@ fn second_sheet(
 ) -> WorkedSheet
     ensures { λ r. ⌜ r ≡ secondSheet f tolerance (now (angles .entry)) (now («log_sines» .entry)) (now (differences .entry)) ⌝ }
 {
-    let work = figure_work(
+    let judged = second_judged(
         f,
         tolerance,
         angles,
         log_sines,
         differences,
-        second_lengths(f),
+        second_result_lengths(f),
     );
-    let verdict = work.verdict;
+    let verdict = judged.verdict;
     match verdict {
         Verdict::Failed(refusal) => refused(refusal),
-        Verdict::Passed => second_shown(f, column_of(angles), work),
+        Verdict::Passed => second_shown(f, column_of(angles), judged.work),
     }
 }
 

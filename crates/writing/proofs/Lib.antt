@@ -1,3 +1,5 @@
--- The laws that the proofs of the writer use: `Packing` on fields that are written one after the other, `PartLaws` on the parts of a layout.
+-- The laws that the proofs of the writer use: `Packing` on fields that are written one after the other, `PartLaws` on the parts of a layout, `GivenLaws` what
+-- the writer promises from what its parts answer.
+mod GivenLaws
 mod Packing
 mod PartLaws

@@ -8,7 +8,7 @@ use native.Mathlib.Numerals.{add-one}
 use native.Mathlib.Omega.{arith}
 use lib.ListN.{length, take}
 use lib.Seq.{take-all}
-use Rattle.refusals.specs.Order.{numbered}
+use Rattle.refusals.specs.Numbers.{numbered}
 use Rattle.bits.specs.Bits.{Field, bitsOf, bytesOf, byteCount, fillingWidth, withField, inside, widths, totalWidth, packedBits}
 use Rattle.bits.proofs.Bytes.{AreBytes, length-bitsOf}
 use Rattle.bits.proofs.Fields.{is-inside, length-withField, withField-bytes}

@@ -5,7 +5,7 @@ use mathlib.Core.Path.{_≡_, refl, sym, ap, ap₂, _∙_}
 use native.Mathlib.Nat.{zero-add}
 use native.Mathlib.Omega.{arith}
 use lib.ListN.{length}
-use Rattle.refusals.specs.Order.{numbered}
+use Rattle.refusals.specs.Numbers.{numbered}
 use Rattle.bits.specs.Bits.{Field, widths, totalWidth, byteCount, fillingWidth, withField}
 use Rattle.bits.proofs.Bytes.{AreBytes}
 use Rattle.figures.specs.declared.Figure.{Figure}
@@ -14,12 +14,11 @@ use Rattle.figures.specs.Rows.{eachOf}
 use Rattle.figures.proofs.Figures.{angle-bound}
 use Rattle.layout.specs.declared.Kind.{Kind}
 use Rattle.layout.specs.declared.Kind.the-variants.{FirstPass, SecondPass}
-use Rattle.layout.specs.declared.Lengths.{Lengths}
-use Rattle.layout.specs.Layout.{Place, angle, fixedAngle, logSine, difference, widthOf, limitOrTolerancePlace, layout, numberOfKind, lengthsOf, bitCount, sheetSize}
+use Rattle.layout.specs.Layout.{Item, angle, fixedAngle, logSine, difference, widthOf, limitOrToleranceItem, layout, numberOfKind, bitCount, sheetSize}
 use Rattle.layout.proofs.Sizes.{fixed-bound}
 use Rattle.sheets.specs.Sheet.{Values, valuesFrom, fieldOf, packedSheet}
-use Rattle.sheets.specs.Judging.{lengthsGiven}
 use Rattle.writing.specs.Parts.{putAll, fieldFrom, headFields, columnFields, bodyFields, bodyStart, BodyFits}
+use Rattle.sheets.proofs.Accepted.{AsMany}
 use Rattle.sheets.proofs.Positions.{narrow}
 use Rattle.sheets.proofs.Layouts.{fields-bits}
 use Rattle.writing.proofs.Packing.{put-append, Narrow, filling, packed}
@@ -29,55 +28,54 @@ map-each g zero r = refl
 map-each g (suc n) r = map-append g (eachOf n r) (r (suc n)) ∙ ap (λ (l : List _). l ++ map g (r (suc n))) (map-each g n r)
 
 module _ (f : Figure) (v : Values) where
-  first-fields : lengthsGiven v ≡ lengthsOf FirstPass f
+  first-fields : AsMany FirstPass f v
       → map (fieldOf FirstPass f v) (layout FirstPass f)
       ≡ headFields 1 (description f .code) (description f .n) ++ (fieldFrom 10 (v .limitOrTolerance) ∷ bodyFields FirstPass v)
   unfolding layout
   first-fields e =
       let angles : eachOf (angleCount f) (λ i. fieldFrom 23 (numbered (v .angles) i 0) ∷ []) ≡ columnFields (v .angles) =
-      ap (λ (l : Lengths). eachOf (l .angles) (λ i. fieldFrom 23 (numbered (v .angles) i 0) ∷ [])) (sym e) in
+      ap (λ (k : ℕ). eachOf k (λ i. fieldFrom 23 (numbered (v .angles) i 0) ∷ [])) (sym (e .angles)) in
       let fixed : eachOf (fixedCount f) (λ i. fieldFrom 23 (numbered (v .fixed) i 0) ∷ []) ≡ columnFields (v .fixed) =
-      ap (λ (l : Lengths). eachOf (l .fixed) (λ i. fieldFrom 23 (numbered (v .fixed) i 0) ∷ [])) (sym e) in
+      ap (λ (k : ℕ). eachOf k (λ i. fieldFrom 23 (numbered (v .fixed) i 0) ∷ [])) (sym (e .fixed)) in
       ap (λ (l : List Field). headFields 1 (description f .code) (description f .n) ++ (fieldFrom 10 (v .limitOrTolerance) ∷ l))
       (map-append (fieldOf FirstPass f v) (eachOf (angleCount f) (λ i. angle i ∷ [])) (eachOf (fixedCount f) (λ j. fixedAngle j ∷ []))
       ∙ ap₂ (λ (a b : List Field). a ++ b)
       (map-each (fieldOf FirstPass f v) (angleCount f) (λ i. angle i ∷ []) ∙ angles)
       (map-each (fieldOf FirstPass f v) (fixedCount f) (λ j. fixedAngle j ∷ []) ∙ fixed))
 
-  second-fields : lengthsGiven v ≡ lengthsOf SecondPass f
+  second-fields : AsMany SecondPass f v
       → map (fieldOf SecondPass f v) (layout SecondPass f)
       ≡ headFields 2 (description f .code) (description f .n) ++ (fieldFrom 6 (v .limitOrTolerance) ∷ bodyFields SecondPass v)
   unfolding layout
   second-fields e =
       ap (λ (l : List Field). headFields 2 (description f .code) (description f .n) ++ (fieldFrom 6 (v .limitOrTolerance) ∷ l))
       (map-each (fieldOf SecondPass f v) (angleCount f) (λ i. angle i ∷ logSine i ∷ difference i ∷ [])
-      ∙ ap (λ (l : Lengths). eachOf (l .angles) (λ i. map (fieldOf SecondPass f v) (angle i ∷ logSine i ∷ difference i ∷ []))) (sym e))
+      ∙ ap (λ (k : ℕ). eachOf k (λ i. map (fieldOf SecondPass f v) (angle i ∷ logSine i ∷ difference i ∷ []))) (sym (e .angles)))
 
-pub layout-fields : (kind : Kind) (f : Figure) (v : Values) → lengthsGiven v ≡ lengthsOf kind f
+pub layout-fields : (kind : Kind) (f : Figure) (v : Values) → AsMany kind f v
     → map (fieldOf kind f v) (layout kind f)
     ≡ headFields (numberOfKind kind) (description f .code) (description f .n)
-    ++ (fieldFrom (widthOf (limitOrTolerancePlace kind)) (v .limitOrTolerance) ∷ bodyFields kind v)
+    ++ (fieldFrom (widthOf (limitOrToleranceItem kind)) (v .limitOrTolerance) ∷ bodyFields kind v)
 layout-fields FirstPass f v e = first-fields f v e
 layout-fields SecondPass f v e = second-fields f v e
 
 -- ---- short and narrow
 
-pub body-fits : (kind : Kind) (f : Figure) (v : Values) → lengthsGiven v ≡ lengthsOf kind f → BodyFits kind v
+pub body-fits : (kind : Kind) (f : Figure) (v : Values) → AsMany kind f v → BodyFits kind v
 body-fits FirstPass f v e =
-    omega (arith, angle-bound f, fixed-bound f, ap (λ (l : Lengths). l .angles) e, ap (λ (l : Lengths). l .fixed) e)
+    omega (arith, angle-bound f, fixed-bound f, e .angles, e .fixed)
 body-fits SecondPass f v e =
-    let angles : length (v .angles) ≡ angleCount f = ap (λ (l : Lengths). l .angles) e in
-    (omega (arith, angle-bound f), ap (λ (l : Lengths). l .«log_sines») e ∙ sym angles, ap (λ (l : Lengths). l .differences) e ∙ sym angles)
+    (omega (arith, angle-bound f, e .angles), e .logSines ∙ sym (e .angles), e .differences ∙ sym (e .angles))
 
-fields-narrow : (kind : Kind) (f : Figure) (v : Values) (ps : List Place) → Narrow (map (fieldOf kind f v) ps)
+fields-narrow : (kind : Kind) (f : Figure) (v : Values) (ps : List Item) → Narrow (map (fieldOf kind f v) ps)
 fields-narrow kind f v [] = tt
 fields-narrow kind f v (p ∷ ps) = (narrow p, fields-narrow kind f v ps)
 
 -- ---- a sheet that is written part by part
 
 body-after-head : (kind : Kind) (s : List ℕ) (limitOrTolerance : ℕ) (v w : Values) → bodyFields kind v ≡ bodyFields kind w
-    → putAll (putAll s 12 (fieldFrom (widthOf (limitOrTolerancePlace kind)) limitOrTolerance ∷ [])) (bodyStart kind) (bodyFields kind v)
-    ≡ putAll s 12 (fieldFrom (widthOf (limitOrTolerancePlace kind)) limitOrTolerance ∷ bodyFields kind w)
+    → putAll (putAll s 12 (fieldFrom (widthOf (limitOrToleranceItem kind)) limitOrTolerance ∷ [])) (bodyStart kind) (bodyFields kind v)
+    ≡ putAll s 12 (fieldFrom (widthOf (limitOrToleranceItem kind)) limitOrTolerance ∷ bodyFields kind w)
 unfolding putAll
 body-after-head FirstPass s l v w e = ap (putAll (withField s 12 10 l) 22) e
 body-after-head SecondPass s l v w e = ap (putAll (withField s 12 6 l) 18) e
@@ -88,20 +86,18 @@ same-body : (kind : Kind) (l m : ℕ) (v : Values)
 same-body FirstPass l m v = refl
 same-body SecondPass l m v = refl
 
-module _ (kind : Kind) (f : Figure) (v : Values) (s : List ℕ) (bytes : AreBytes s) (size : length s ≡ sheetSize kind f) (lengths : lengthsGiven v ≡ lengthsOf kind f)
-    {number code n : ℕ} (own : (number ≡ numberOfKind kind) × (code ≡ description f .code) × (n ≡ description f .n)) where
-  abbrev after-limit : ℕ → ℕ → ℕ → List ℕ
-  after-limit number code n = putAll (putAll s 0 (headFields number code n)) 12 (fieldFrom (widthOf (limitOrTolerancePlace kind)) (v .limitOrTolerance) ∷ [])
+module _ (kind : Kind) (f : Figure) (v : Values) (s : List ℕ) (bytes : AreBytes s) (size : length s ≡ sheetSize kind f) (lengths : AsMany kind f v) where
+  abbrev heading : List Field
+  heading = headFields (numberOfKind kind) (description f .code) (description f .n)
 
   whole : (w : Values) → bodyFields kind w ≡ bodyFields kind v
-      → putAll (after-limit (numberOfKind kind) (description f .code) (description f .n)) (bodyStart kind) (bodyFields kind w)
+      → putAll (putAll (putAll s 0 heading) 12 (fieldFrom (widthOf (limitOrToleranceItem kind)) (v .limitOrTolerance) ∷ [])) (bodyStart kind) (bodyFields kind w)
       ≡ putAll s 0 (map (fieldOf kind f v) (layout kind f))
   unfolding totalWidth widths
   whole w e =
-      body-after-head kind (putAll s 0 (headFields (numberOfKind kind) (description f .code) (description f .n))) (v .limitOrTolerance) w v e
+      body-after-head kind (putAll s 0 heading) (v .limitOrTolerance) w v e
       ∙ sym (ap (putAll s 0) (layout-fields kind f v lengths)
-      ∙ put-append s 0 (headFields (numberOfKind kind) (description f .code) (description f .n))
-      (fieldFrom (widthOf (limitOrTolerancePlace kind)) (v .limitOrTolerance) ∷ bodyFields kind v))
+      ∙ put-append s 0 heading (fieldFrom (widthOf (limitOrToleranceItem kind)) (v .limitOrTolerance) ∷ bodyFields kind v))
 
   filled : withField (putAll s 0 (map (fieldOf kind f v) (layout kind f))) (bitCount kind f) (fillingWidth (bitCount kind f)) 0 ≡ packedSheet kind f v
   unfolding packedSheet putAll sheetSize
@@ -113,16 +109,15 @@ module _ (kind : Kind) (f : Figure) (v : Values) (s : List ℕ) (bytes : AreByte
       ∙ packed s fs bytes (size ∙ ap byteCount (sym total)) (fields-narrow kind f v (layout kind f))
 
   pub packed-in-parts : {a b c d : List ℕ}
-      → a ≡ putAll s 0 (headFields number code n)
-      → b ≡ putAll a 12 (fieldFrom (widthOf (limitOrTolerancePlace kind)) (v .limitOrTolerance) ∷ [])
+      → a ≡ putAll s 0 heading
+      → b ≡ putAll a 12 (fieldFrom (widthOf (limitOrToleranceItem kind)) (v .limitOrTolerance) ∷ [])
       → c ≡ putAll b (bodyStart kind) (bodyFields kind (valuesFrom 0 (v .angles) (v .fixed) (v .logSines) (v .differences)))
       → d ≡ withField c (bitCount kind f) (fillingWidth (bitCount kind f)) 0
       → d ≡ packedSheet kind f v
   packed-in-parts x y z w =
       let w₀ : Values = valuesFrom 0 (v .angles) (v .fixed) (v .logSines) (v .differences) in
-      let head : headFields number code n ≡ headFields (numberOfKind kind) (description f .code) (description f .n) = rw (own .0, own .1, own .2) in
       w ∙ ap (λ (c : List ℕ). withField c (bitCount kind f) (fillingWidth (bitCount kind f)) 0)
       (z ∙ ap (λ (b : List ℕ). putAll b (bodyStart kind) (bodyFields kind w₀))
-      (y ∙ ap (λ (a : List ℕ). putAll a 12 (fieldFrom (widthOf (limitOrTolerancePlace kind)) (v .limitOrTolerance) ∷ [])) (x ∙ ap (putAll s 0) head))
+      (y ∙ ap (λ (a : List ℕ). putAll a 12 (fieldFrom (widthOf (limitOrToleranceItem kind)) (v .limitOrTolerance) ∷ [])) x)
       ∙ whole w₀ (same-body kind 0 (v .limitOrTolerance) v))
       ∙ filled

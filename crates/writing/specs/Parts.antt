@@ -4,14 +4,19 @@ use mathlib.Core.List.{List, [], _∷_, _++_}
 use mathlib.Core.Path.{_≡_}
 use lib.IntN.{ℤ, pos}
 use lib.ListN.{length}
-use Rattle.refusals.specs.Order.{numbered}
+use Rattle.refusals.specs.declared.Verdict.{Verdict}
+use Rattle.refusals.specs.Numbers.{numbered}
+use Rattle.refusals.specs.Order.{judged}
+use Rattle.refusals.specs.Promise.{Promised}
 use Rattle.bits.specs.Bits.{Field, withField}
 use Rattle.complement.specs.Complement.{twosComplement}
+use Rattle.figures.specs.declared.Figure.{Figure}
 use Rattle.figures.specs.Rows.{eachOf}
 use Rattle.layout.specs.declared.Kind.{Kind}
 use Rattle.layout.specs.declared.Kind.the-variants.{FirstPass, SecondPass}
 use Rattle.layout.specs.Layout.{theKind, theCode, theN, widthOf}
-use Rattle.sheets.specs.Sheet.{Values, mostBits}
+use Rattle.sheets.specs.Sheet.{Values, packedSheet, mostBits}
+use Rattle.sheets.specs.Judging.{givenRows, afterWriting}
 
 -- fields that are written one after the other, from a position on
 unfoldable pub putAll : List ℕ → ℕ → List Field → List ℕ
@@ -49,3 +54,8 @@ abbrev pub BodyFits : Kind → Values → Type 0
 BodyFits FirstPass v = 22 + 23 * length (v .angles) + 23 * length (v .fixed) ≤ mostBits
 BodyFits SecondPass v =
     (18 + 65 * length (v .angles) ≤ mostBits) × (length (v .logSines) ≡ length (v .angles)) × (length (v .differences) ≡ length (v .angles))
+
+-- what the writer promises once kind and figure are known
+abbrev pub GivenPromise : Kind → Figure → Values → (entry : List ℕ) → (answer : Verdict) → (exit : List ℕ) → Type 0
+GivenPromise kind f v entry answer exit =
+    Promised (judged (givenRows kind f v (length entry))) (afterWriting (judged (givenRows kind f v (length entry))) (packedSheet kind f v) entry) answer exit

@@ -2,8 +2,10 @@
 use bits::put_field;
 use complement::twos_complement;
 use figures::Figure;
+use figures::name_of;
 use heads::Look;
 use heads::named_head;
+use heads::number_of_kind;
 use layout::ANGLE_WIDTH;
 use layout::CODE_AT;
 use layout::CODE_WIDTH;
@@ -15,7 +17,6 @@ use layout::Kind;
 use layout::LIMIT_OR_TOLERANCE_AT;
 use layout::LIMIT_WIDTH;
 use layout::LOG_SINE_WIDTH;
-use layout::Lengths;
 use layout::N_AT;
 use layout::N_WIDTH;
 use layout::SECOND_PASS_BODY_AT;
@@ -24,88 +25,49 @@ use layout::TOLERANCE_WIDTH;
 use layout::bit_count;
 use layout::lengths_of;
 use layout::sheet_size;
-use places::lowest_outside;
-use places::lowest_signed_outside;
-use refusals::LEAST_ANGLE;
-use refusals::LEAST_DIFFERENCE;
-use refusals::LEAST_LOG_SINE;
-use refusals::MOST_ANGLE;
-use refusals::MOST_DIFFERENCE;
-use refusals::MOST_LOG_SINE;
-use refusals::Refusal;
 use refusals::Verdict;
-use refusals::first_to_fail;
-use sheets::range_verdict;
-use sheets::same_lengths;
+use refusals::lengths_verdict;
+use sheets::values_verdict;
 ghost use mathlib.Core.Path.{_≡_};
-ghost use mathlib.Core.List.{[], _∷_};
+ghost use mathlib.Core.List.{[], _∷_, _++_};
 ghost use Prim.Native.Nat.{_+_, _*_, _≤_};
-ghost use mathlib.Core.Bool.{not, _&&_};
-ghost use lib.Dec.{eqb};
 ghost use lib.ListN.{length};
-ghost use Rattle.refusals.specs.declared.Refusal.{Refusal};
-ghost use Rattle.refusals.specs.Order.{answerOf, failsIf};
+ghost use Rattle.refusals.specs.Order.{verdictOf};
+ghost use Rattle.refusals.specs.Table.{lengthsRow};
 ghost use Rattle.bits.specs.Bits.{withField, fillingWidth};
 ghost use Rattle.figures.specs.Figure.{description};
-ghost use Rattle.layout.specs.Layout.{numberOfKind, limitOrTolerancePlace, widthOf, lengthsOf, bitCount, sheetSize};
+ghost use Rattle.layout.specs.Layout.{numberOfKind, limitOrToleranceItem, widthOf, bitCount, sheetSize};
 ghost use Rattle.sheets.specs.Sheet.{valuesFrom, packedSheet, mostBits};
-ghost use Rattle.sheets.specs.Judging.{sameLengths, lengthsGiven, givenTests, writingOf, afterWriting, sheetGiven};
-ghost use Rattle.writing.specs.Parts.{putAll, fieldFrom, headFields, columnFields, rowOf, rowFields, bodyFields, bodyStart, BodyFits};
+ghost use Rattle.sheets.specs.Judging.{lengthsGiven, ownLengths};
+ghost use Rattle.sheets.specs.Promises.{WriterPromise};
+ghost use Rattle.writing.specs.Parts.{putAll, fieldFrom, headFields, columnFields, rowOf, rowFields, bodyFields, bodyStart};
+ghost use Rattle.writing.specs.Parts.{BodyFits, GivenPromise};
 
-// The test of the lengths of what is lent; `size` is that of the byte slice.
-fn length_verdict(given: Lengths, size: usize, kind: Kind, figure: Figure) -> Verdict
-    ensures { λ verdict. ⌜ verdict ≡ failsIf (not (sameLengths given (lengthsOf kind figure) && eqb size (sheetSize kind figure))) Refusal.WrongLength ⌝ }
+// Number 2: `given` are the lengths of the values' slices and of the byte slice.
+fn given_lengths_verdict(given: &[usize], kind: Kind, figure: Figure) -> Verdict
+    ensures { λ verdict. ⌜ verdict ≡ verdictOf
+        (lengthsRow (now (given .entry)) (ownLengths kind figure ++ (sheetSize kind figure ∷ []))) ⌝ }
 {
-    if !same_lengths(given, lengths_of(kind, figure)) {
-        return Verdict::Failed(Refusal::WrongLength);
-    }
-    if size != sheet_size(kind, figure) {
-        return Verdict::Failed(Refusal::WrongLength);
-    }
-    Verdict::Passed
+    let own = lengths_of(kind, figure);
+    let size = sheet_size(kind, figure);
+    lengths_verdict(
+        given,
+        &[own.angles, own.fixed, own.log_sines, own.differences, size],
+    )
 }
 
-// The tests that follow once kind and figure are known.
-fn given_verdict(
-    kind: Kind,
-    figure: Figure,
-    limit_or_tolerance: u32,
-    angles: &[u32],
-    fixed: &[u32],
-    log_sines: &[u32],
-    differences: &[i32],
-    size: usize,
-) -> Verdict
-    ensures { λ verdict. ⌜ verdict ≡ answerOf (givenTests kind figure (valuesFrom «limit_or_tolerance» (now (angles .entry)) (now (fixed .entry)) (now («log_sines» .entry)) (now (differences .entry))) size) ⌝ }
+fn put_head(sheet: &mut [u8], kind: Kind, figure: Figure)
+    ensures { λ _. ⌜ now (sheet .exit) ≡ putAll (now (sheet .entry)) 0
+        (headFields (numberOfKind kind) (description figure .code) (description figure .n)) ⌝ }
 {
-    let given = Lengths {
-        angles: angles.len(),
-        fixed: fixed.len(),
-        log_sines: log_sines.len(),
-        differences: differences.len(),
-    };
-    let lengths = length_verdict(given, size, kind, figure);
-    let values = range_verdict(
-        kind,
-        limit_or_tolerance,
-        lowest_outside(angles, LEAST_ANGLE, MOST_ANGLE),
-        lowest_outside(fixed, LEAST_ANGLE, MOST_ANGLE),
-        lowest_outside(log_sines, LEAST_LOG_SINE, MOST_LOG_SINE),
-        lowest_signed_outside(differences, LEAST_DIFFERENCE, MOST_DIFFERENCE),
-    );
-    first_to_fail(lengths, values)
-}
-
-fn put_head(sheet: &mut [u8], kind: u32, code: u32, n: u32)
-    ensures { λ _. ⌜ now (sheet .exit) ≡ putAll (now (sheet .entry)) 0 (headFields kind code n) ⌝ }
-{
-    put_field(sheet, 0, KIND_WIDTH, kind);
-    put_field(sheet, CODE_AT, CODE_WIDTH, code);
-    put_field(sheet, N_AT, N_WIDTH, n);
+    let name = name_of(figure);
+    put_field(sheet, 0, KIND_WIDTH, number_of_kind(kind));
+    put_field(sheet, CODE_AT, CODE_WIDTH, name.code);
+    put_field(sheet, N_AT, N_WIDTH, name.n);
 }
 
 fn put_limit_or_tolerance(sheet: &mut [u8], kind: Kind, value: u32)
-    ensures { λ _. ⌜ now (sheet .exit) ≡ putAll (now (sheet .entry)) 12 (fieldFrom (widthOf (limitOrTolerancePlace kind)) value ∷ []) ⌝ }
+    ensures { λ _. ⌜ now (sheet .exit) ≡ putAll (now (sheet .entry)) 12 (fieldFrom (widthOf (limitOrToleranceItem kind)) value ∷ []) ⌝ }
 {
     match kind {
         Kind::FirstPass => put_field(sheet, LIMIT_OR_TOLERANCE_AT, LIMIT_WIDTH, value),
@@ -146,7 +108,8 @@ fn put_row(sheet: &mut [u8], at: usize, angle: u32, log_sine: u32, difference: i
 fn put_rows(sheet: &mut [u8], angles: &[u32], log_sines: &[u32], differences: &[i32])
     requires { ⌜ 18 + 65 * length (now angles) ≤ mostBits ⌝ }
     requires { ⌜ (length (now «log_sines») ≡ length (now angles)) × (length (now differences) ≡ length (now angles)) ⌝ }
-    ensures { λ _. ⌜ now (sheet .exit) ≡ putAll (now (sheet .entry)) 18 (rowFields (now (angles .entry)) (now («log_sines» .entry)) (now (differences .entry))) ⌝ }
+    ensures { λ _. ⌜ now (sheet .exit) ≡ putAll (now (sheet .entry)) 18
+        (rowFields (now (angles .entry)) (now («log_sines» .entry)) (now (differences .entry))) ⌝ }
 {
     let mut at = SECOND_PASS_BODY_AT;
     let mut put = 0;
@@ -166,7 +129,8 @@ fn put_body(
     differences: &[i32],
 )
     requires { ⌜ BodyFits kind (valuesFrom 0 (now angles) (now fixed) (now «log_sines») (now differences)) ⌝ }
-    ensures { λ _. ⌜ now (sheet .exit) ≡ putAll (now (sheet .entry)) (bodyStart kind) (bodyFields kind (valuesFrom 0 (now (angles .entry)) (now (fixed .entry)) (now («log_sines» .entry)) (now (differences .entry)))) ⌝ }
+    ensures { λ _. ⌜ now (sheet .exit) ≡ putAll (now (sheet .entry)) (bodyStart kind) (bodyFields kind (valuesFrom 0
+        (now (angles .entry)) (now (fixed .entry)) (now («log_sines» .entry)) (now (differences .entry)))) ⌝ }
 {
     match kind {
         Kind::FirstPass => {
@@ -194,24 +158,63 @@ fn pack(
     sheet: &mut [u8],
     kind: Kind,
     figure: Figure,
-    number: u32,
-    code: u32,
-    n: u32,
-    limit_or_tolerance: u32,
+    bound: u32,
     angles: &[u32],
     fixed: &[u32],
     log_sines: &[u32],
     differences: &[i32],
 )
-    requires { ⌜ (number ≡ numberOfKind kind) × (code ≡ description figure .code) × (n ≡ description figure .n) ⌝ }
-    requires { ⌜ lengthsGiven (valuesFrom «limit_or_tolerance» (now angles) (now fixed) (now «log_sines») (now differences)) ≡ lengthsOf kind figure ⌝ }
+    requires { ⌜ lengthsGiven (valuesFrom bound (now angles) (now fixed) (now «log_sines») (now differences))
+        ≡ ownLengths kind figure ⌝ }
     requires { ⌜ length (now sheet) ≡ sheetSize kind figure ⌝ }
-    ensures { λ _. ⌜ now (sheet .exit) ≡ packedSheet kind figure (valuesFrom «limit_or_tolerance» (now (angles .entry)) (now (fixed .entry)) (now («log_sines» .entry)) (now (differences .entry))) ⌝ }
+    ensures { λ _. ⌜ now (sheet .exit) ≡ packedSheet kind figure (valuesFrom bound
+        (now (angles .entry)) (now (fixed .entry)) (now («log_sines» .entry)) (now (differences .entry))) ⌝ }
 {
-    put_head(sheet, number, code, n);
-    put_limit_or_tolerance(sheet, kind, limit_or_tolerance);
+    put_head(sheet, kind, figure);
+    put_limit_or_tolerance(sheet, kind, bound);
     put_body(sheet, kind, angles, fixed, log_sines, differences);
     put_filling(sheet, kind, figure);
+}
+
+// What follows once kind and figure are known; `bound` is L or e.
+fn write_given(
+    kind: Kind,
+    figure: Figure,
+    bound: u32,
+    angles: &[u32],
+    fixed: &[u32],
+    log_sines: &[u32],
+    differences: &[i32],
+    sheet: &mut [u8],
+) -> Verdict
+    ensures { λ verdict. ⌜ GivenPromise kind figure (valuesFrom bound (now (angles .entry)) (now (fixed .entry))
+        (now («log_sines» .entry)) (now (differences .entry))) (now (sheet .entry)) verdict (now (sheet .exit)) ⌝ }
+{
+    let given = [
+        angles.len(),
+        fixed.len(),
+        log_sines.len(),
+        differences.len(),
+        sheet.len(),
+    ];
+    let lengths = given_lengths_verdict(&given, kind, figure);
+    let values = values_verdict(kind, bound, angles, fixed, log_sines, differences);
+    if let Verdict::Failed(_) = lengths {
+        return lengths;
+    }
+    if let Verdict::Passed = values {
+        pack(
+            sheet,
+            kind,
+            figure,
+            bound,
+            angles,
+            fixed,
+            log_sines,
+            differences,
+        );
+    }
+    values
 }
 
 // Writes a sheet into a slice that has exactly its size. On a refusal nothing lent changes.
@@ -226,38 +229,21 @@ pub fn write_sheet(
     differences: &[i32],
     sheet: &mut [u8],
 ) -> Verdict
-    ensures { λ verdict. ⌜ verdict ≡ writingOf kind code n (valuesFrom «limit_or_tolerance» (now (angles .entry)) (now (fixed .entry)) (now («log_sines» .entry)) (now (differences .entry))) (length (now (sheet .entry))) ⌝ }
-    ensures { λ verdict. ⌜ now (sheet .exit) ≡ afterWriting verdict (sheetGiven kind code n (valuesFrom «limit_or_tolerance» (now (angles .entry)) (now (fixed .entry)) (now («log_sines» .entry)) (now (differences .entry)))) (now (sheet .entry)) ⌝ }
+    ensures { λ verdict. ⌜ WriterPromise kind code n (valuesFrom «limit_or_tolerance»
+        (now (angles .entry)) (now (fixed .entry)) (now («log_sines» .entry)) (now (differences .entry)))
+        (now (sheet .entry)) verdict (now (sheet .exit)) ⌝ }
 {
     match named_head(kind, code, n) {
         Look::Refused(refusal) => Verdict::Failed(refusal),
-        Look::Head(named, figure) => {
-            let verdict = given_verdict(
-                named,
-                figure,
-                limit_or_tolerance,
-                angles,
-                fixed,
-                log_sines,
-                differences,
-                sheet.len(),
-            );
-            if let Verdict::Passed = verdict {
-                pack(
-                    sheet,
-                    named,
-                    figure,
-                    kind,
-                    code,
-                    n,
-                    limit_or_tolerance,
-                    angles,
-                    fixed,
-                    log_sines,
-                    differences,
-                );
-            }
-            verdict
-        }
+        Look::Head(named, figure) => write_given(
+            named,
+            figure,
+            limit_or_tolerance,
+            angles,
+            fixed,
+            log_sines,
+            differences,
+            sheet,
+        ),
     }
 }

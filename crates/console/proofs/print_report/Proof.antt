@@ -30,7 +30,7 @@ module _ (sheet : List ℕ) where
 within : (c : tie.After-known-told) → c .before .end .given .0 .0 ≤ length (c .before .before .before .before .report .last .1 .0)
 within c =
     let called = c .before .before .before .before in
-    rw (called .report .kept .1 .0) (written-within (reportText (now (called .before .before .before .args .sheet))) (replicate longestText 0) (c .before .end .given .0 .0) (sym (called .report .ensures .0) ∙ c .before .end .given .1))
+    rw (called .report .kept .1 .0) (written-within (reportText (now (called .before .before .before .args .sheet))) (replicate longestText 0) (c .before .end .given .0 .0) (sym (called .report .ensures .answered) ∙ c .before .end .given .1))
 
 slice-aggregate-write-all : tie.Need-slice-aggregate-write-all
 slice-aggregate-write-all c = sym (length-take-le _ _ (within (c .before)))
@@ -39,12 +39,12 @@ returns : tie.Need-returns
 returns c =
     let told = c .before .before .before in
     let called = told .before .before .before in
-    count-told (now (called .before .before .before .args .sheet)) _ (sym (called .report .ensures .0) ∙ told .end .given .1)
+    count-told (now (called .before .before .before .args .sheet)) _ (sym (called .report .ensures .answered) ∙ told .end .given .1)
 
 returns-2 : tie.Need-returns-2
 returns-2 c =
     let called = c .before .before .before in
-    absurd (never-full (now (called .before .before .before .args .sheet)) (sym (called .report .ensures .0) ∙ c .enum-told .given .1))
+    absurd (never-full (now (called .before .before .before .args .sheet)) (sym (called .report .ensures .answered) ∙ c .enum-told .given .1))
 
 pub print-report-spec : {M : Type 1} → statement M
 print-report-spec =

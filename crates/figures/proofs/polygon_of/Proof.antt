@@ -1,7 +1,7 @@
 -- `figures::polygon_of` meets its contract: at a number from 3 to 8 the definition computes, and any other number passes every test of it.
-use mathlib.Core.Path.{refl, sym, ap}
+use mathlib.Core.Path.{sym, ap}
 use borrow.Author.Tests.{ne-eqb}
-use Rattle.figures.specs.Figure.{figureOf, namedAmong}
+use Rattle.figures.specs.Figure.{figureOf}
 use Rattle.figures.proofs.polygon_of.Statement.{statement}
 use Rattle.figures.proofs.polygon_of.Tie as tie
 

@@ -1,7 +1,7 @@
 -- `heads::look_at` meets its contract: under two bytes the first test fails, and else the three fields of the head decide.
 use mathlib.Core.Path.{sym, _∙_}
 use borrow.Author.Needs.{needs}
-use Rattle.heads.proofs.Naming.{short, long-enough}
+use Rattle.heads.proofs.Naming.{short, long-enough, fields-decide}
 use Rattle.heads.proofs.look_at.Statement.{statement}
 use Rattle.heads.proofs.look_at.Tie as tie
 
@@ -22,8 +22,11 @@ named-head-requires c κs = search needs
 
 returns-2 : tie.Need-returns-2
 returns-2 c =
+    let at = c .before .before .before .before in
+    let sheet = at .before .before .args .sheet .now in
     c .named-head .ensures
-    ∙ long-enough _ _ _ _ (c .before .before .before .before .if1 .left) (c .before .before .before .field .ensures) (c .before .before .field2 .ensures) (c .before .field3 .ensures)
+    ∙ fields-decide sheet (c .before .before .before .field .ensures) (c .before .before .field2 .ensures) (c .before .field3 .ensures)
+    ∙ sym (long-enough sheet (at .if1 .left))
 
 pub look-at-spec : {M : Type 1} → statement M
 look-at-spec =

@@ -1,9 +1,8 @@
 -- `numerals::digits` meets its contract: each turn spells one digit more and leaves the number without it (`spelling-more`); a u64 has at most 20.
 use mathlib.Core.Path.{refl}
-use native.Mathlib.Nat.{mod-lt}
 use native.Mathlib.Omega.{arith}
 use borrow.Author.Needs.{needs}
-use lib.ListN.{length, length-set}
+use lib.ListN.{length-set}
 use Rattle.numerals.proofs.Spelling.{Spelling, spelling-none, spelling-more, spelled}
 use Rattle.numerals.proofs.digits.Statement.{statement}
 use Rattle.numerals.proofs.digits.Tie as tie

@@ -1,11 +1,11 @@
 -- `rows::row_applied` meets its contract. The invariant: the total is the sum of the products passed, each at most 2³⁸.
 use mathlib.Core.Path.{_≡_, refl, ap, ap₂, _∙_}
-use Prim.Native.Nat.{ℕ, _*_, _^_, _-_, _≤_, _<_}
+use Prim.Native.Nat.{ℕ, _*_, _^_, _-_, _≤_}
 use native.Mathlib.Omega.{arith}
 use borrow.Author.Needs.{needs}
 use mathlib.Core.List.{List}
-use lib.IntN.{ℤ, pos, natAbs, _+ℤ_, _*ℤ_}
-use mir.Syntax.{w8, w32, w64}
+use lib.IntN.{ℤ, natAbs, _+ℤ_, _*ℤ_}
+use mir.Syntax.{w8, w64}
 use mir.Val.{toZ, ofZ}
 use mir.Facts.{toZ-ofZ}
 use Rattle.whole.specs.Sums.{dot, sum, vector}

@@ -1,46 +1,52 @@
--- `worked::first_sheet` meets its contract: the verdict of the figure's tests, and its work where they pass.
-use mathlib.Core.Path.{_≡_, refl, sym, ap, ap₂, _∙_}
-use mathlib.Core.List.{List}
+-- `worked::first_sheet` meets its contract: what the figure's rows say, and its work where they hold nowhere.
+use mathlib.Core.Path.{_≡_, sym, ap, ap₂, _∙_}
+use mathlib.Core.List.{List, _∷_}
+use Prim.Native.Nat.{ℕ}
 use borrow.Author.Needs.{needs}
 use denote.Ref.{now}
 use lib.IntN.{ℤ}
+use lib.ListN.{length}
 use Rattle.refusals.specs.declared.Verdict.{Verdict}
-use Rattle.refusals.specs.Order.{answerOf}
+use Rattle.refusals.specs.Order.{judged}
 use Rattle.work.specs.declared.first.FirstJudged.{FirstJudged}
 use Rattle.work.specs.declared.first.FirstWork.{FirstWork}
 use Rattle.columns.specs.Column.{column}
-use Rattle.method.specs.FirstPass.{firstLengths, firstTests}
+use Rattle.method.specs.FirstPass.{firstRows}
 use Rattle.method.specs.Pass.{given}
 use Rattle.work.specs.FirstWork.{firstWorkOf, firstJudgedOf}
 use Rattle.work.proofs.FirstAccepted.{judged-verdict, steps-pass}
-use Rattle.worked.specs.Worked.{firstSheet, firstShown, shownIf}
+use Rattle.worked.specs.Worked.{firstSheetLengths, firstSheet, firstShown, shownIf}
 use Rattle.worked.proofs.first_sheet.Statement.{statement}
 use Rattle.worked.proofs.first_sheet.Tie as tie
 
-abbrev start : tie.After-first-judged → tie.Start
-start j = j .before .before .before .before
+module _ (j : tie.After-first-judged) where
+  abbrev start : tie.Start
+  start = j .before .before .before .before
 
-judged-is : (j : tie.After-first-judged)
-    → j .first-judged .result ≡ firstJudgedOf (start j .args .f) (start j .args .limit) (now (start j .args .angles)) (now (start j .args .fixed)) (firstLengths (start j .args .f))
-judged-is j =
-    let s = start j in
-    j .first-judged .ensures ∙ ap (firstJudgedOf (s .args .f) (s .args .limit) (now (s .args .angles)) (now (s .args .fixed))) (j .before .first-lengths .ensures)
+  abbrev angles : List ℕ
+  angles = now (start .args .angles)
 
-verdict-is : (j : tie.After-first-judged)
-    → j .first-judged .result .verdict
-    ≡ answerOf (firstTests (start j .args .f) (start j .args .limit) (now (start j .args .angles)) (now (start j .args .fixed)) (firstLengths (start j .args .f)))
-verdict-is j =
-    let s = start j in
-    ap (λ (r : FirstJudged). r .verdict) (judged-is j) ∙ judged-verdict (s .args .f) (s .args .limit) (now (s .args .angles)) (now (s .args .fixed)) (firstLengths (s .args .f))
+  abbrev fixed : List ℕ
+  fixed = now (start .args .fixed)
 
--- what is shown goes by the verdict
-shown-by : (j : tie.After-first-judged) (v : Verdict) → j .first-judged .result .verdict ≡ v
-    → shownIf v (firstShown (start j .args .f) (column (given (now (start j .args .angles)))) (firstWorkOf (start j .args .f) (now (start j .args .angles)) (now (start j .args .fixed))))
-    ≡ firstSheet (start j .args .f) (start j .args .limit) (now (start j .args .angles)) (now (start j .args .fixed))
-unfolding firstSheet
-shown-by j v told =
-    let s = start j in
-    ap (λ (w : Verdict). shownIf w (firstShown (s .args .f) (column (given (now (s .args .angles)))) (firstWorkOf (s .args .f) (now (s .args .angles)) (now (s .args .fixed))))) (sym told ∙ verdict-is j)
+  abbrev lent : List ℕ
+  lent = firstSheetLengths (start .args .f) angles fixed
+
+  judged-is : j .first-judged .result ≡ firstJudgedOf (start .args .f) (start .args .limit) angles fixed lent
+  judged-is =
+      j .first-judged .ensures
+      ∙ ap (λ (results : List ℕ). firstJudgedOf (start .args .f) (start .args .limit) angles fixed (length angles ∷ length fixed ∷ results)) (j .before .first-result-lengths .ensures)
+
+  verdict-is : j .first-judged .result .verdict ≡ judged (firstRows (start .args .f) (start .args .limit) angles fixed lent)
+  verdict-is = ap (λ (r : FirstJudged). r .verdict) judged-is ∙ judged-verdict (start .args .f) (start .args .limit) angles fixed lent
+
+  -- what is shown goes by the verdict
+  shown-by : (v : Verdict) → j .first-judged .result .verdict ≡ v
+      → shownIf v (firstShown (start .args .f) (column (given angles)) (firstWorkOf (start .args .f) angles fixed))
+      ≡ firstSheet (start .args .f) (start .args .limit) angles fixed
+  unfolding firstSheet
+  shown-by v told =
+      ap (λ (w : Verdict). shownIf w (firstShown (start .args .f) (column (given angles)) (firstWorkOf (start .args .f) angles fixed))) (sym told ∙ verdict-is)
 
 returns : tie.Need-returns
 returns c =
@@ -52,7 +58,7 @@ returns-2 c =
     let told = c .before .before in
     let j = told .before .before in
     let s = start j in
-    let steps = steps-pass (s .args .f) (s .args .limit) (now (s .args .angles)) (now (s .args .fixed)) (firstLengths (s .args .f)) (sym (verdict-is j) ∙ told .enum-told .given .1) in
+    let steps = steps-pass (s .args .f) (s .args .limit) (angles j) (fixed j) (lent j) (sym (verdict-is j) ∙ told .enum-told .given .1) in
     c .first-shown .ensures
     ∙ ap₂ (λ (g : List ℤ) (w : FirstWork). firstShown (s .args .f) g w) (c .before .column-of .ensures) (ap (λ (r : FirstJudged). r .work) (judged-is j) ∙ steps .work-is)
     ∙ shown-by j _ (told .enum-told .given .1)

@@ -1,10 +1,8 @@
 -- `worked::values_of` meets its contract: the reader keeps its promise on the parts that are lent to it.
 use mathlib.Core.Path.{_≡_, refl, sym, ap, _∙_, subst}
-use mathlib.Core.List.{List, _++_}
+use mathlib.Core.List.{List, [], _∷_, _++_}
 use Prim.Native.Nat.{ℕ, _+_, _≤_}
-use native.Mathlib.Omega.{arith}
 use borrow.Author.Needs.{needs}
-use lib.Dec.{lit≤}
 use lib.IntN.{ℤ, pos}
 use lib.ListN.{length, take, drop, replicate, length-append, take-append-drop}
 use denote.Ref.{now}
@@ -13,12 +11,12 @@ use Rattle.figures.specs.declared.Figure.{Figure}
 use Rattle.figures.specs.Figure.{angleCount}
 use Rattle.layout.specs.declared.Lengths.{Lengths}
 use Rattle.layout.specs.declared.Kind.{Kind}
-use Rattle.layout.specs.Layout.{lengthsFrom, fixedIn, sineEntriesIn}
+use Rattle.layout.specs.Layout.{fixedIn, sineEntriesIn}
 use Rattle.sheets.specs.declared.Reading.{Reading}
 use Rattle.sheets.specs.declared.Reading.the-variants.{Read}
 use Rattle.sheets.specs.Judging.{readingOf, afterReading}
+use Rattle.sheets.specs.Promises.{Slices, slices, slicesOf, ReaderPromise}
 use Rattle.sheets.specs.Sheet.{valuesRead}
-use Rattle.worked.specs.Worked.{ReadInto}
 use Rattle.worked.proofs.SheetBounds.{angles-few, fixed-few, log-sines-few}
 use Rattle.worked.proofs.values_of.Statement.{statement}
 use Rattle.worked.proofs.values_of.Tie as tie
@@ -59,13 +57,24 @@ put-back : {A : Type 0} (n : ℕ) (part whole : List A) → length part ≡ leng
 put-back n part whole size =
     length-append part (drop n whole) ∙ ap (λ (m : ℕ). m + length (drop n whole)) size ∙ sym (length-append (take n whole) (drop n whole)) ∙ ap length (take-append-drop n whole)
 
+-- what the reader leaves in one of the slices
+left-of : {A : Type 0} (pick : Slices → List A) (sheet : List ℕ) (lent left : Slices) (reading : Reading) → ReaderPromise sheet lent reading left
+    → pick left ≡ afterReading reading (λ k g. pick (slicesOf (valuesRead k g sheet))) (pick lent)
+left-of pick sheet lent left reading promise =
+    ap pick (promise .leaves ∙ ap (λ (r : Reading). afterReading r (λ k g. slicesOf (valuesRead k g sheet)) lent) (sym (promise .answered))) ∙ picked reading
+  where
+    picked : (r : Reading)
+        → pick (afterReading r (λ k g. slicesOf (valuesRead k g sheet)) lent) ≡ afterReading r (λ k g. pick (slicesOf (valuesRead k g sheet))) (pick lent)
+    picked (Read k g e) = refl
+    picked (Reading.Refused r) = refl
+
 returns : tie.Need-returns
 returns c =
     let call = c .before .before .before .before in
     let called = call .before .before .before .before .before in
     let start = called .before .before in
     let same = called .lengths-of .ensures in
-    let done = call .read-sheet .ensures in
+    let promise = call .read-sheet .ensures in
     let size = call .read-sheet .kept in
     let sheet = now (start .args .sheet) in
     let kind = start .args .kind in
@@ -79,6 +88,10 @@ returns c =
     let fixed = length-take-le {A = ℕ} (lengths called .fixed) (replicate 3 0) (few-fixed called) in
     let log-sines = length-take-le {A = ℕ} (lengths called .«log_sines») (replicate 24 0) (few-log-sines called) in
     let differences = length-take-le {A = ℤ} (lengths called .«log_sines») (replicate 24 (pos 0)) (few-log-sines called) in
+    let entry : Slices =
+    slices (take (lengths called .angles) (replicate 24 0)) (take (lengths called .fixed) (replicate 3 0)) (take (lengths called .«log_sines») (replicate 24 0))
+    (take (lengths called .«log_sines») (replicate 24 (pos 0))) in
+    let left : Slices = slices (last .1 .0) (last .1 .1 .0) (last .1 .1 .1 .0) (last .1 .1 .1 .1 .0) in
     record {
       full = record {
         angles-full = put-back (lengths called .angles) (last .1 .0) (replicate 24 0) (size .1 .0);
@@ -86,15 +99,19 @@ returns c =
         log-sines-full = put-back (lengths called .«log_sines») (last .1 .1 .1 .0) (replicate 24 0) (size .1 .1 .1 .0);
         differences-full = put-back (lengths called .«log_sines») (last .1 .1 .1 .1 .0) (replicate 24 (pos 0)) (size .1 .1 .1 .1 .0);
       };
-      reading-is = done .0 ∙ λ i. readingOf sheet (lengthsFrom ((angles ∙ n) i) ((fixed ∙ k) i) ((log-sines ∙ m) i) ((differences ∙ m) i));
+      reading-is = promise .answered ∙ λ i. readingOf sheet ((angles ∙ n) i ∷ (fixed ∙ k) i ∷ (log-sines ∙ m) i ∷ (differences ∙ m) i ∷ []);
       angles-are =
-          at-start reading (λ κ g. valuesRead κ g sheet .angles) (angleCount f) (last .1 .0) (take (lengths called .angles) (replicate 24 0)) _ n (size .1 .0 ∙ angles) (done .1 .0);
+          at-start reading (λ κ g. valuesRead κ g sheet .angles) (angleCount f) (last .1 .0) (entry .angles) _ n (size .1 .0 ∙ angles)
+          (left-of (λ (s : Slices). s .angles) sheet entry left reading promise);
       fixed-are =
-          at-start reading (λ κ g. valuesRead κ g sheet .fixed) (fixedIn kind f) (last .1 .1 .0) (take (lengths called .fixed) (replicate 3 0)) _ k (size .1 .1 .0 ∙ fixed) (done .1 .1 .0);
+          at-start reading (λ κ g. valuesRead κ g sheet .fixed) (fixedIn kind f) (last .1 .1 .0) (entry .fixed) _ k (size .1 .1 .0 ∙ fixed)
+          (left-of (λ (s : Slices). s .fixed) sheet entry left reading promise);
       log-sines-are =
-          at-start reading (λ κ g. valuesRead κ g sheet .logSines) (sineEntriesIn kind f) (last .1 .1 .1 .0) (take (lengths called .«log_sines») (replicate 24 0)) _ m (size .1 .1 .1 .0 ∙ log-sines) (done .1 .1 .1 .0);
+          at-start reading (λ κ g. valuesRead κ g sheet .logSines) (sineEntriesIn kind f) (last .1 .1 .1 .0) (entry .logSines) _ m (size .1 .1 .1 .0 ∙ log-sines)
+          (left-of (λ (s : Slices). s .logSines) sheet entry left reading promise);
       differences-are =
-          at-start reading (λ κ g. valuesRead κ g sheet .differences) (sineEntriesIn kind f) (last .1 .1 .1 .1 .0) (take (lengths called .«log_sines») (replicate 24 (pos 0))) _ m (size .1 .1 .1 .1 .0 ∙ differences) (done .1 .1 .1 .1);
+          at-start reading (λ κ g. valuesRead κ g sheet .differences) (sineEntriesIn kind f) (last .1 .1 .1 .1 .0) (entry .differences) _ m (size .1 .1 .1 .1 .0 ∙ differences)
+          (left-of (λ (s : Slices). s .differences) sheet entry left reading promise);
     }
 
 pub values-of-spec : {M : Type 1} → statement M

@@ -10,13 +10,13 @@ use Rattle.figures.specs.declared.Figure.{Figure}
 use Rattle.figures.specs.Figure.{angleCount}
 use Rattle.layout.specs.declared.Kind.{Kind}
 use Rattle.heads.specs.declared.Look.{Look}
-use Rattle.layout.specs.Layout.{lengthsOf, fixedIn, sineEntriesIn}
+use Rattle.layout.specs.Layout.{fixedIn, sineEntriesIn}
 use Rattle.sheets.specs.declared.Reading.{Reading}
 use Rattle.sheets.specs.declared.Reading.the-variants.{Read}
-use Rattle.sheets.specs.Judging.{readingOf, afterReading}
+use Rattle.sheets.specs.Judging.{ownLengths, readingOf, afterReading}
 use Rattle.sheets.specs.Sheet.{valuesRead}
 use Rattle.worked.specs.declared.SheetValues.{SheetValues}
-use Rattle.worked.specs.Worked.{ReadInto, refusedSheet, workedKind, workedReading, workedFrom, workedRead, workedLook, workedOf}
+use Rattle.worked.specs.Worked.{ReadInto, workedKind, workedReading, workedFrom, workedRead, workedLook, workedOf}
 use Rattle.worked.proofs.worked_sheet.Statement.{statement}
 use Rattle.worked.proofs.worked_sheet.Tie as tie
 
@@ -30,7 +30,7 @@ from-read : (q : Reading) (sheet : List ℕ) (angles fixed logSines : List ℕ) 
 from-read (Reading.Refused r) sheet angles fixed logSines differences a x l d = refl
 from-read (Read k g e) sheet angles fixed logSines differences a x l d = λ i. workedKind k g e (a i) (x i) (l i) (d i)
 
-read-into : (sheet : List ℕ) (kind : Kind) (f : Figure) (v : SheetValues) → ReadInto sheet kind f v → workedFrom kind f v ≡ workedRead (readingOf sheet (lengthsOf kind f)) sheet
+read-into : (sheet : List ℕ) (kind : Kind) (f : Figure) (v : SheetValues) → ReadInto sheet kind f v → workedFrom kind f v ≡ workedRead (readingOf sheet (ownLengths kind f)) sheet
 read-into sheet kind f v into =
     from-read (v .reading) sheet (take (angleCount f) (v .angles)) (take (fixedIn kind f) (v .fixed)) (take (sineEntriesIn kind f) (v .«log_sines»)) (take (sineEntriesIn kind f) (v .differences)) (into .angles-are) (into .fixed-are) (into .log-sines-are) (into .differences-are)
     ∙ ap (λ (q : Reading). workedRead q sheet) (into .reading-is)

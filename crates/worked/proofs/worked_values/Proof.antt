@@ -1,19 +1,15 @@
 -- `worked::worked_values` meets its contract: the pass of the kind that was read, on the values at the start of each array.
-use mathlib.Core.Path.{_≡_, refl, sym, ap, _∙_, subst}
-use mathlib.Core.List.{List}
-use Prim.Native.Nat.{ℕ, _≤_}
+use mathlib.Core.Path.{_≡_, sym, ap, _∙_, subst}
+use Prim.Native.Nat.{_≤_}
 use borrow.Author.Needs.{needs}
-use lib.IntN.{ℤ}
 use lib.ListN.{length, take}
 use lib.Seq.{length-take-le}
-use Rattle.figures.specs.declared.Figure.{Figure}
-use Rattle.figures.specs.Figure.{angleCount}
 use Rattle.layout.specs.declared.Kind.{Kind}
 use Rattle.layout.specs.declared.Lengths.{Lengths}
 use Rattle.sheets.specs.declared.Reading.{Reading}
 use Rattle.worked.specs.declared.SheetValues.{SheetValues}
 use Rattle.worked.specs.declared.WorkedSheet.{WorkedSheet}
-use Rattle.worked.specs.Worked.{firstSheet, secondSheet, workedKind, workedReading, workedFrom}
+use Rattle.worked.specs.Worked.{workedReading, workedFrom}
 use Rattle.worked.proofs.SheetBounds.{angles-few, fixed-few, log-sines-few}
 use Rattle.worked.proofs.worked_values.Statement.{statement}
 use Rattle.worked.proofs.worked_values.Tie as tie

@@ -7,7 +7,7 @@ use borrow.Author.Needs.{needs}
 use lib.IntN.{ℤ, pos}
 use mir.Facts.{toZ-ofZ}
 use denote.Ref.{now}
-use Rattle.refusals.specs.Order.{numbered}
+use Rattle.refusals.specs.Numbers.{numbered}
 use Rattle.method.specs.Pass.{given}
 use Rattle.columns.proofs.targets.numbered_value.Statement.{statement}
 use Rattle.columns.proofs.targets.numbered_value.Tie as tie

@@ -3,19 +3,19 @@ use Prim.Native.Nat.{ℕ, _+_, _*_}
 use mathlib.Core.Path.{ap₂}
 use native.Mathlib.Omega.{arith}
 use borrow.Author.Needs.{needs}
-use Rattle.controller.specs.Answer.{placeStep, numberAndPlace}
-use Rattle.controller.proofs.Answers.{from-table}
+use Rattle.refusals.proofs.Rows.{number-range}
+use Rattle.controller.specs.Answer.{placeStep, answerNumber}
 use Rattle.controller.proofs.answer.refused.Statement.{statement}
 use Rattle.controller.proofs.answer.refused.Tie as tie
 
 mul-result : tie.Need-mul-result
-mul-result c = record { fits = omega (arith, c .before .number-of .ensures, from-table (c .before .before .args .refusal) .last) }
+mul-result c = record { fits = omega (arith, c .before .number-of .ensures, number-range (c .before .before .args .refusal) .1) }
 
 add-result : tie.Need-add-result
-add-result c = record { fits = omega (arith, c .before .number-of .ensures, c .place-of .ensures, c .before .before .pre, from-table (c .before .before .args .refusal) .last) }
+add-result c = record { fits = omega (arith, c .before .number-of .ensures, c .place-of .ensures, c .before .before .pre, number-range (c .before .before .args .refusal) .1) }
 
 returns : tie.Need-returns
-unfolding numberAndPlace
+unfolding answerNumber
 returns c = ap₂ (λ (number place : ℕ). number * placeStep + place) (c .before .number-of .ensures) (c .place-of .ensures)
 
 pub refused-spec : {M : Type 1} → statement M

@@ -3,9 +3,9 @@ use mathlib.Core.Path.{sym, ap, _∙_}
 use borrow.Author.Needs.{needs}
 use denote.Ref.{now}
 use lib.ListN.{length}
-use Rattle.controller.specs.Heads.{lengthsOfNoSheet}
-use Rattle.controller.proofs.PlaceBounds.{refusal-fits, reader-small}
-use Rattle.controller.proofs.SheetHeads.{was-refused, small-place, answered-wrong-head, answered-refusal, answered-read}
+use Rattle.sheets.specs.Promises.{slices}
+use Rattle.controller.specs.Promises.{ReadLent, readLent}
+use Rattle.controller.proofs.SheetsRead.{wrong-head-small, wrong-head, right-refusal-small, right-refused, right-read}
 use Rattle.controller.proofs.read.bienguloc_read.Statement.{statement}
 use Rattle.controller.proofs.read.bienguloc_read.Tie as tie
 
@@ -19,31 +19,36 @@ tested c = c .before .before .before .before .before
 abbrev start : tie.Else1 → tie.Start
 start c = c .before .before .before .before .before .before
 
+-- what is lent
+abbrev lent : tie.Start → ReadLent
+lent s = readLent (now (s .args .head)) (slices (now (s .args .angles)) (now (s .args .fixed)) (now (s .args .log-sines)) (now (s .args .differences)))
+
 refused-requires : tie.Need-refused-requires
 refused-requires c κs =
-    let args = c .before .before .before .before .before .before .before .args in
-    refusal-fits (was-refused (now (args .sheet)) lengthsOfNoSheet (c .refusal-of-lengths .result) (c .refusal-of-lengths .ensures)) (reader-small (now (args .sheet)) lengthsOfNoSheet)
+    let s = c .before .before .before .before .before .before .before in
+    wrong-head-small (now (s .args .sheet)) (lent s) (c .before .if1 .taken) (c .refusal-of-lengths .result) (c .refusal-of-lengths .ensures)
 
 returns : tie.Need-returns
 returns c =
     let told = c .before in
-    let args = told .before .before .before .before .before .before .before .args in
-    answered-wrong-head (now (args .sheet)) (now (args .head)) (now (args .angles)) (now (args .fixed)) (now (args .log-sines)) (now (args .differences)) (told .refusal-of-lengths .result) (told .before .if1 .taken) (told .refusal-of-lengths .ensures) (c .refused .ensures)
+    let s = told .before .before .before .before .before .before .before in
+    wrong-head (now (s .args .sheet)) (lent s) (told .before .if1 .taken) (told .refusal-of-lengths .result) (told .refusal-of-lengths .ensures) (c .refused .ensures)
 
 refused-requires-2 : tie.Need-refused-requires-2
 refused-requires-2 c κs =
     let found = c .before in
     let read = called (found .before .before) in
-    let args = start (tested read) .args in
-    small-place (now (args .sheet)) (now (args .head)) (now (args .angles)) (now (args .fixed)) (now (args .log-sines)) (now (args .differences)) (read .read-sheet .ensures) (found .refusal .given .0 .0) (found .refusal .given .1)
+    let test = tested read in
+    let s = start test in
+    right-refusal-small (now (s .args .sheet)) (lent s) (test .if1 .left) (read .read-sheet .ensures) (found .refusal .given .0 .0) (found .refusal .given .1)
 
 returns-2 : tie.Need-returns-2
 returns-2 c =
     let found = c .before .before in
     let read = called (found .before .before) in
     let test = tested read in
-    let args = start test .args in
-    answered-refusal (now (args .sheet)) (now (args .head)) (now (args .angles)) (now (args .fixed)) (now (args .log-sines)) (now (args .differences)) (read .read-sheet .ensures) (found .refusal .given .0 .0) (test .if1 .left) (found .refusal .given .1) (c .refused2 .ensures)
+    let s = start test in
+    right-refused (now (s .args .sheet)) (lent s) (test .if1 .left) (read .read-sheet .ensures) (found .refusal .given .0 .0) (found .refusal .given .1) (c .refused2 .ensures)
 
 store-requires : tie.Need-store-requires
 store-requires c κs =
@@ -57,8 +62,8 @@ returns-3 c =
     let found = made .before .before in
     let read = called (found .before .before) in
     let test = tested read in
-    let args = start test .args in
-    answered-read (now (args .sheet)) (now (args .head)) (now (args .angles)) (now (args .fixed)) (now (args .log-sines)) (now (args .differences)) (read .read-sheet .ensures) _ _ _ (test .if1 .left) (found .kind .given .1) (stored .store .ensures ∙ made .head-of .ensures)
+    let s = start test in
+    right-read (now (s .args .sheet)) (lent s) (test .if1 .left) (read .read-sheet .ensures) _ _ _ (found .kind .given .1) (stored .store .ensures ∙ made .head-of .ensures)
 
 pub bienguloc-read-spec : {M : Type 1} → statement M
 bienguloc-read-spec =

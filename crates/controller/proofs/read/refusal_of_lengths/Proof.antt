@@ -1,29 +1,31 @@
--- `controller::read::refusal_of_lengths` meets its contract: the tests before number 2, and number 2, which no sheet passes.
+-- `controller::read::refusal_of_lengths` meets its contract: the rows before number 2, and number 2, which no sheet without lengths passes.
+use mathlib.Core.List.{[]}
 use mathlib.Core.Path.{sym, _∙_}
 use borrow.Author.Needs.{needs}
 use denote.Ref.{now}
-use Rattle.sheets.proofs.Accepted.{head-found, head-refused, size-fails, lengths-fail}
-use Rattle.controller.specs.Heads.{lengthsOfNoSheet}
-use Rattle.controller.proofs.SheetHeads.{no-sheet}
+use Rattle.sheets.proofs.Accepted.{head-found, head-refused}
+use Rattle.controller.proofs.SheetsRead.{size-refused, lengths-refused}
 use Rattle.controller.proofs.read.refusal_of_lengths.Statement.{statement}
 use Rattle.controller.proofs.read.refusal_of_lengths.Tie as tie
 
 returns : tie.Need-returns
 returns c =
     let looked = c .before .before .before in
-    head-refused (now (looked .before .before .args .sheet)) lengthsOfNoSheet _ (sym (looked .look-at .ensures) ∙ c .before .refusal .given .1)
+    head-refused (now (looked .before .before .args .sheet)) [] _ (sym (looked .look-at .ensures) ∙ c .before .refusal .given .1)
 
 returns-2 : tie.Need-returns-2
 returns-2 c =
     let found = c .before .before .before in
-    head-found _ lengthsOfNoSheet _ _ (sym (found .before .before .look-at .ensures) ∙ found .kind .given .1)
-    ∙ size-fails _ _ _ lengthsOfNoSheet (λ e. c .if1 .taken (e ∙ sym (c .before .sheet-size .ensures)))
+    let looked = found .before .before in
+    head-found (now (looked .before .before .args .sheet)) [] _ _ (sym (looked .look-at .ensures) ∙ found .kind .given .1)
+    ∙ size-refused _ _ _ (λ e. c .if1 .taken (e ∙ sym (c .before .sheet-size .ensures)))
 
 returns-3 : tie.Need-returns-3
 returns-3 c =
     let found = c .before .before .before in
-    head-found _ lengthsOfNoSheet _ _ (sym (found .before .before .look-at .ensures) ∙ found .kind .given .1)
-    ∙ lengths-fail _ _ _ lengthsOfNoSheet (c .if1 .left ∙ c .before .sheet-size .ensures) (no-sheet (found .kind .given .0 .0) (found .kind .given .0 .1 .0))
+    let looked = found .before .before in
+    head-found (now (looked .before .before .args .sheet)) [] _ _ (sym (looked .look-at .ensures) ∙ found .kind .given .1)
+    ∙ lengths-refused _ _ _ (c .if1 .left ∙ c .before .sheet-size .ensures)
 
 pub refusal-of-lengths-spec : {M : Type 1} → statement M
 refusal-of-lengths-spec =

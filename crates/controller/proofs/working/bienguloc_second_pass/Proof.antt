@@ -6,14 +6,15 @@ use native.Mathlib.Omega.{arith}
 use borrow.Author.Needs.{needs}
 use denote.Ref.{now}
 use lib.IntN.{ℤ}
-use lib.ListN.{length, length-set}
+use lib.ListN.{length-set}
 use mir.Facts.{toZ-ofZ}
 use Rattle.refusals.specs.declared.Refusal.{Refusal}
-use Rattle.refusals.specs.Numbers.{placeOf}
-use Rattle.controller.specs.Answer.{placeStep, numberAndPlace}
-use Rattle.controller.specs.Working.{refusalOfLengths}
+use Rattle.refusals.specs.Numbers.{placeOf, refusalTold}
+use Rattle.passes.specs.Promises.{SecondGiven, secondGiven, secondLent}
+use Rattle.controller.specs.Answer.{placeStep, answerNumber}
+use Rattle.controller.specs.Promises.{SumsLent, sumsLent}
 use Rattle.controller.proofs.Lists.{stored-2}
-use Rattle.controller.proofs.SecondSums.{no-place, small-place, answered-wrong-sums, answered-refusal, answered-done}
+use Rattle.controller.proofs.SecondSums.{wrong-sums-small, wrong-sums, right-refusal-small, right-refused, right-done}
 use Rattle.controller.proofs.working.bienguloc_second_pass.Statement.{statement}
 use Rattle.controller.proofs.working.bienguloc_second_pass.Tie as tie
 
@@ -27,21 +28,33 @@ tested c = c .before .before .before .before .before .before
 abbrev start : tie.Else1 → tie.Start
 start c = c .before .before .before .before
 
+abbrev sheet : tie.Start → SecondGiven
+sheet s = secondGiven (s .args .code) (s .args .n) (s .args .tolerance) (now (s .args .angles)) (now (s .args .log-sines)) (now (s .args .differences))
+
+abbrev lent : tie.Start → SumsLent
+lent s =
+    sumsLent (now (s .args .sums))
+    (secondLent (now (s .args .reduced)) (now (s .args .numerators)) (now (s .args .rounded)) (now (s .args .adjusted)) (now (s .args .rests)))
+
 refused-requires : tie.Need-refused-requires
-refused-requires c κs = subst (λ (r : Refusal). placeOf r < placeStep) (sym (c .refusal-of-lengths .ensures)) (no-place _ _)
+refused-requires c κs =
+    let test = c .before in
+    let s = test .before .before .before .before in
+    subst (λ (r : Refusal). placeOf r < placeStep) (sym (c .refusal-of-lengths .ensures)) (wrong-sums-small (sheet s) (lent s) (test .if1 .taken))
 
 returns : tie.Need-returns
 returns c =
     let test = c .before .before in
-    let args = test .before .before .before .before .args in
-    answered-wrong-sums (args .code) (args .n) (args .tolerance) (now (args .angles)) (now (args .log-sines)) (now (args .differences)) (now (args .sums)) (now (args .reduced)) (now (args .numerators)) (now (args .rounded)) (now (args .adjusted)) (now (args .rests)) (test .if1 .taken) (c .refused .ensures ∙ ap numberAndPlace (c .before .refusal-of-lengths .ensures))
+    let s = test .before .before .before .before in
+    wrong-sums (sheet s) (lent s) (test .if1 .taken) (c .refused .ensures ∙ ap (λ (r : Refusal). answerNumber (refusalTold r)) (c .before .refusal-of-lengths .ensures))
 
 refused-requires-2 : tie.Need-refused-requires-2
 refused-requires-2 c κs =
     let found = c .before in
     let worked = called (found .before .before) in
-    let args = start (tested worked) .args in
-    small-place (args .code) (args .n) (args .tolerance) (now (args .angles)) (now (args .log-sines)) (now (args .differences)) (now (args .sums)) (now (args .reduced)) (now (args .numerators)) (now (args .rounded)) (now (args .adjusted)) (now (args .rests)) (worked .second-pass .ensures) (found .refusal .given .0 .0) (found .refusal .given .1)
+    let test = tested worked in
+    let s = start test in
+    right-refusal-small (sheet s) (lent s) (test .if1 .left) (worked .second-pass .ensures) (found .refusal .given .0 .0) (found .refusal .given .1)
 
 slice-set-from-squares : tie.Need-slice-set-from-squares
 slice-set-from-squares c =
@@ -53,18 +66,18 @@ returns-2 c =
     let found = c .before .before in
     let worked = called (found .before .before) in
     let test = tested worked in
-    let args = start test .args in
-    answered-refusal (args .code) (args .n) (args .tolerance) (now (args .angles)) (now (args .log-sines)) (now (args .differences)) (now (args .sums)) (now (args .reduced)) (now (args .numerators)) (now (args .rounded)) (now (args .adjusted)) (now (args .rests)) (worked .second-pass .ensures) (found .refusal .given .0 .0) (test .if1 .left) (found .refusal .given .1) (c .refused2 .ensures)
+    let s = start test in
+    right-refused (sheet s) (lent s) (test .if1 .left) (worked .second-pass .ensures) (found .refusal .given .0 .0) (found .refusal .given .1) (c .refused2 .ensures)
 
 returns-3 : tie.Need-returns-3
 returns-3 c =
     let found = c .before in
     let worked = called (found .before .before) in
     let test = tested worked in
-    let args = start test .args in
+    let s = start test in
     let facts = c .known-told2 .given in
-    answered-done (args .code) (args .n) (args .tolerance) (now (args .angles)) (now (args .log-sines)) (now (args .differences)) (now (args .sums)) (now (args .reduced)) (now (args .numerators)) (now (args .rounded)) (now (args .adjusted)) (now (args .rests)) (worked .second-pass .ensures) _ _ (test .if1 .left) (found .misclosure .given .1)
-    (stored-2 (now (args .sums)) _ _ (test .if1 .left)
+    right-done (sheet s) (lent s) (test .if1 .left) (worked .second-pass .ensures) _ _ (found .misclosure .given .1)
+    (stored-2 (now (s .args .sums)) _ _ (test .if1 .left)
     ∙ ap₂ (λ (w s : ℤ). w ∷ s ∷ []) (toZ-ofZ (record { sfits = facts .0 .1 })) (toZ-ofZ (record { sfits = facts .1 .0 .1 })))
 
 pub bienguloc-second-pass-spec : {M : Type 1} → statement M

@@ -3,7 +3,7 @@ use mathlib.Core.Path.{sym, ap, _∙_}
 use borrow.Author.Needs.{needs}
 use Rattle.refusals.specs.declared.Refusal.{Refusal}
 use Rattle.figures.specs.declared.Named.{Named}
-use Rattle.method.specs.Pass.{ofNamed}
+use Rattle.figures.specs.Figure.{ofNamed}
 use Rattle.controller.proofs.working.refusal_of_lengths.Statement.{statement}
 use Rattle.controller.proofs.working.refusal_of_lengths.Tie as tie
 

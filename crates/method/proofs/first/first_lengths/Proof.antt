@@ -1,13 +1,19 @@
--- `method::first::first_lengths` meets its contract: the figure's counts, as the slices of the first pass stand.
+-- `method::first::first_lengths` meets its contract: the results' lengths one by one.
+use mathlib.Core.List.{List, _∷_}
 use mathlib.Core.Path.{ap}
-use mathlib.Core.List.{[], _∷_}
-use Rattle.figures.specs.declared.Counts.{Counts}
+use Prim.Native.Nat.{ℕ}
+use native.Mathlib.Omega.{arith}
 use borrow.Author.Needs.{needs}
+use Rattle.method.proofs.ResultLengths.{one-by-one}
 use Rattle.method.proofs.first.first_lengths.Statement.{statement}
 use Rattle.method.proofs.first.first_lengths.Tie as tie
 
 returns : tie.Need-returns
-returns c = ap (λ (n : Counts). n .angles ∷ n .fixed ∷ n .conditions ∷ n .angles ∷ n .angles ∷ n .angles ∷ n .conditions ∷ []) (c .counts-of .ensures)
+returns c =
+    let args = c .args in
+    ap (λ (l : List ℕ). args .angles ∷ args .fixed ∷ l) (one-by-one (args .t3) (omega arith))
 
 pub first-lengths-spec : {M : Type 1} → statement M
-first-lengths-spec = tie.close (tie.spec (λ c κs. search needs) returns)
+first-lengths-spec =
+    tie.close
+    (tie.spec (λ c. search needs) (λ c. search needs) (λ c. search needs) (λ c. search needs) (λ c. search needs) returns)

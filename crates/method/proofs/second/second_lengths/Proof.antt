@@ -1,13 +1,19 @@
--- `method::second::second_lengths` meets its contract: the figure's counts, as the slices of the second pass stand.
+-- `method::second::second_lengths` meets its contract: the results' lengths one by one.
+use mathlib.Core.List.{List, _∷_}
 use mathlib.Core.Path.{ap}
-use mathlib.Core.List.{[], _∷_}
-use Rattle.figures.specs.declared.Counts.{Counts}
+use Prim.Native.Nat.{ℕ}
+use native.Mathlib.Omega.{arith}
 use borrow.Author.Needs.{needs}
+use Rattle.method.proofs.ResultLengths.{one-by-one}
 use Rattle.method.proofs.second.second_lengths.Statement.{statement}
 use Rattle.method.proofs.second.second_lengths.Tie as tie
 
 returns : tie.Need-returns
-returns c = ap (λ (n : Counts). n .angles ∷ n .angles ∷ n .angles ∷ n .angles ∷ n .angles ∷ n .angles ∷ n .angles ∷ n .conditions ∷ []) (c .counts-of .ensures)
+returns c =
+    let args = c .args in
+    ap (λ (l : List ℕ). args .angles ∷ args .log-sines ∷ args .differences ∷ l) (one-by-one (args .t4) (omega arith))
 
 pub second-lengths-spec : {M : Type 1} → statement M
-second-lengths-spec = tie.close (tie.spec (λ c κs. search needs) returns)
+second-lengths-spec =
+    tie.close
+    (tie.spec (λ c. search needs) (λ c. search needs) (λ c. search needs) (λ c. search needs) (λ c. search needs) returns)

@@ -8,13 +8,14 @@ returns c =
     let at-corrected = c .before .before .before .before .before .before in
     let at-rounded = at-corrected .before .before .before .before in
     let at-numerators = at-rounded .before .before .before .before in
-    let at-misclosures = at-numerators .before .before .before .before in (
-      at-misclosures .store-signed .ensures,
-      (
-        at-numerators .store-signed2 .ensures,
-        (at-rounded .store-signed3 .ensures, (at-corrected .store-angles .ensures, c .before .store-signed4 .ensures)),
-      ),
-    )
+    let at-misclosures = at-numerators .before .before .before .before in
+    λ i. record {
+      misclosures = at-misclosures .store-signed .ensures i;
+      numerators = at-numerators .store-signed2 .ensures i;
+      rounded = at-rounded .store-signed3 .ensures i;
+      corrected = at-corrected .store-angles .ensures i;
+      rests = c .before .store-signed4 .ensures i;
+    }
 
 pub store-first-spec : {M : Type 1} → statement M
 store-first-spec =

@@ -1,5 +1,5 @@
 -- `passes::stores::store_signed` meets its contract. The invariant: the places passed hold the column's numbers, each below 2³¹.
-use mathlib.Core.Path.{_≡_, refl, sym, ap, _∙_}
+use mathlib.Core.Path.{_≡_, refl, _∙_}
 use Prim.Native.Nat.{_-_}
 use native.Mathlib.Omega.{arith}
 use lib.ListN.{length}

@@ -1,5 +1,5 @@
 -- `passes::stores::store_wide` meets its contract. The invariant: the places passed hold the column's numbers.
-use mathlib.Core.Path.{_≡_, refl}
+use mathlib.Core.Path.{refl}
 use Prim.Native.Nat.{_-_}
 use native.Mathlib.Omega.{arith}
 use lib.ListN.{length}

@@ -1,23 +1,27 @@
--- `reading::read::read_sheet` meets its contract: it stores only what `judge` has accepted, and then every slice has its length.
-use mathlib.Core.Path.{sym, _∙_}
+-- `reading::read::read_sheet` meets its contract: the head's refusal, or what follows once kind and figure are known.
 use borrow.Author.Needs.{needs}
-use Rattle.sheets.proofs.Accepted.{accepted, kept}
+use Rattle.sheets.specs.Promises.{slices}
+use Rattle.reading.proofs.BodyLaws.{head-refuses, body-reads}
 use Rattle.reading.proofs.read.read_sheet.Statement.{statement}
 use Rattle.reading.proofs.read.read_sheet.Tie as tie
 
-judge-requires : tie.Need-judge-requires
-judge-requires c κs = search needs
+look-at-requires : tie.Need-look-at-requires
+look-at-requires c κs = search needs
 
-enum-known-reading : tie.Need-enum-known-reading
-enum-known-reading c = search needs
+enum-known-refusal : tie.Need-enum-known-refusal
+enum-known-refusal c = search needs
 
-store-requires : tie.Need-store-requires
-store-requires c κs =
-    let read = c .before .before .before .before .before in
-    accepted _ _ _ _ _ (sym (read .before .before .judge .ensures) ∙ read .reading .given .1) .lengths
+enum-known-kind : tie.Need-enum-known-kind
+enum-known-kind c = search needs
 
-enum-told : tie.Need-enum-told
-enum-told c = search needs
+read-body-requires : tie.Need-read-body-requires
+read-body-requires c κs = search needs
+
+returns : tie.Need-returns
+returns c =
+    let looked = c .before .before .before in
+    let a = looked .before .before .before .before .before .args in
+    head-refuses (a .sheet .now) (slices (a .angles .now) (a .fixed .now) (a .log-sines .now) (a .differences .now)) _ (looked .look-at .ensures) (c .before .refusal .given .1)
 
 same-length : tie.Need-same-length
 same-length c = search needs
@@ -31,27 +35,25 @@ same-length-3 c = search needs
 same-length-4 : tie.Need-same-length-4
 same-length-4 c = search needs
 
-returns : tie.Need-returns
-returns c =
-    let read = c .before .before .before .before .before .before .before .before .before .before .before .before .before in
-    (sym (read .reading .given .1) ∙ read .before .before .judge .ensures, c .before .before .before .before .before .before .before .store .ensures)
-
 returns-2 : tie.Need-returns-2
 returns-2 c =
-    let refused = c .enum-told .given .1 in
-    (c .before .before .judge .ensures, (kept _ refused _ _, (kept _ refused _ _, (kept _ refused _ _, kept _ refused _ _))))
+    let read = c .before .before .before .before .before .before .before in
+    let named = read .before .before .before .before .before .before in
+    let looked = named .before .before in
+    let a = looked .before .before .before .before .before .args in
+    body-reads (a .sheet .now) (slices (a .angles .now) (a .fixed .now) (a .log-sines .now) (a .differences .now)) _ _ (looked .look-at .ensures) (named .kind .given .1) (read .read-body .ensures)
 
 pub read-sheet-spec : {M : Type 1} → statement M
 read-sheet-spec =
     tie.close
     (tie.spec
-    judge-requires
-    enum-known-reading
-    store-requires
-    enum-told
+    look-at-requires
+    enum-known-refusal
+    enum-known-kind
+    read-body-requires
+    returns
     same-length
     same-length-2
     same-length-3
     same-length-4
-    returns
     returns-2)

@@ -43,7 +43,10 @@ returns : tie.Need-returns
 returns c =
     let j = c .before .before in
     let none = past-lent (text j) (buffer j) (end j) (held j) (fits j) (lent j) (c .if1 .taken) in
-    (sym (ap (λ (b : Bool). reportedOf b (text j)) none), sym (ap (λ (b : Bool). afterReport b (text j) (lent j)) none))
+    record {
+      answered = sym (ap (λ (b : Bool). reportedOf b (text j)) none);
+      leaves = sym (ap (λ (b : Bool). afterReport b (text j) (lent j)) none);
+    }
 
 array-share-prefix-buffer : tie.Need-array-share-prefix-buffer
 array-share-prefix-buffer c =
@@ -60,12 +63,13 @@ returns-2 c =
     let put = c .before .before in
     let room = put .before .before .before in
     let j = room .before .before in
-    let there = room-there (text j) (buffer j) (end j) (held j) (fits j) (lent j) (room .if1 .left) in (
-      ap Written (length-told (text j) (buffer j) (end j) (held j) (fits j)) ∙ sym (ap (λ (b : Bool). reportedOf b (text j)) there),
-      put .put-word .ensures .0
+    let there = room-there (text j) (buffer j) (end j) (held j) (fits j) (lent j) (room .if1 .left) in
+    record {
+      answered = ap Written (length-told (text j) (buffer j) (end j) (held j) (fits j)) ∙ sym (ap (λ (b : Bool). reportedOf b (text j)) there);
+      leaves = put .put-word .ensures .0
           ∙ laid-there (text j) (buffer j) (end j) (held j) (fits j) (lent j) (room .if1 .left)
-          ∙ sym (ap (λ (b : Bool). afterReport b (text j) (lent j)) there),
-    )
+          ∙ sym (ap (λ (b : Bool). afterReport b (text j) (lent j)) there);
+    }
 
 pub report-spec : {M : Type 1} → statement M
 report-spec =

@@ -1,16 +1,17 @@
 -- `work::sines::tolerance_verdict` meets its contract. W is below 2³², so that its square fits 64 bits; a hundredfold of it is not taken here.
 use mathlib.Core.Path.{_≡_, sym, ap, _∙_}
 use mathlib.Core.Bool.{Bool}
-use Prim.Native.Nat.{_-_, _^_, _≤_}
+use Prim.Native.Nat.{_-_, _*_, _^_, _≤_}
 use native.Mathlib.Nat.{le-of-lt, mul-le-mul}
 use native.Mathlib.Omega.{arith}
-use lib.IntN.{natAbs}
+use lib.IntN.{pos, natAbs, _*ℤ_}
 use mir.Facts.{toZ-ofZ}
 use Rattle.refusals.specs.declared.Refusal.{Refusal}
 use Rattle.refusals.specs.Order.{failsIf}
+use Rattle.refusals.specs.Questions.{lessSigned, asked}
 use Rattle.refusals.specs.Ranges.{mostTolerance}
-use Rattle.method.specs.SecondPass.{toleranceOf, exceeds}
-use Rattle.method.proofs.EntryLaws.{in-force-within}
+use Rattle.method.specs.SecondPass.{toleranceOf}
+use Rattle.method.proofs.WithinRange.{in-force-within}
 use Rattle.work.proofs.ToleranceLaws.{exceeds-is}
 use borrow.Author.Needs.{needs}
 use lib.Dec.{lit≤}
@@ -27,7 +28,7 @@ magnitude-requires : tie.Need-magnitude-requires
 magnitude-requires c κs = search needs
 
 tolerance : (c : tie.After-in-force) → c .in-force .result ≤ mostTolerance
-tolerance c = rw (c .in-force .ensures) (in-force-within 10 mostTolerance (c .before .args .tolerance) (lit≤ tt) (c .before .pre .1 .0))
+tolerance c = rw (c .in-force .ensures) (in-force-within _ mostTolerance (c .before .args .tolerance) (lit≤ tt) (c .before .pre .1 .0))
 
 misclosure : (c : tie.After-magnitude) → c .magnitude .result ≡ natAbs (c .before .before .args .misclosure)
 misclosure c = c .magnitude .ensures ∙ ap natAbs (toZ-ofZ (c .before .before .fits .misclosure))
@@ -56,8 +57,9 @@ hundredfold-exceeds-requires c κs = search needs
 
 -- the call has decided number 9
 decided : (c : tie.After-hundredfold-exceeds)
-    → let start = c .before .before .before .before in
-    exceeds (start .args .misclosure) (toleranceOf (start .args .tolerance)) (start .args .difference-squares) ≡ c .hundredfold-exceeds .result
+    → let args = c .before .before .before .before .args in
+    let e = toleranceOf (args .tolerance) in
+    asked (lessSigned (pos (e * e) *ℤ args .difference-squares) (pos 100 *ℤ (args .misclosure *ℤ args .misclosure))) ≡ c .hundredfold-exceeds .result
 decided c =
     let start = c .before .before .before .before in
     exceeds-is (start .args .misclosure) (toleranceOf (start .args .tolerance)) (start .args .difference-squares) (start .pre .1 .1 .0)

@@ -8,7 +8,7 @@ use denote.Ref.{now}
 use lib.ListN.{getD}
 use lib.IntN.{ℤ, pos}
 use mir.Facts.{toZ-ofZ}
-use Rattle.refusals.specs.Order.{numbered}
+use Rattle.refusals.specs.Numbers.{numbered}
 use Rattle.work.proofs.sums.member.Statement.{statement}
 use Rattle.work.proofs.sums.member.Tie as tie
 

@@ -1,6 +1,7 @@
 -- `writing::write::pack` meets its contract: the parts that are written one after the other are the fields of the layout, and the filling.
 use borrow.Author.Needs.{needs}
 use Rattle.sheets.specs.Sheet.{valuesFrom}
+use Rattle.sheets.proofs.Accepted.{as-many}
 use Rattle.writing.proofs.PartLaws.{body-fits, packed-in-parts}
 use Rattle.writing.proofs.write.pack.Statement.{statement}
 use Rattle.writing.proofs.write.pack.Tie as tie
@@ -15,7 +16,8 @@ put-body-requires : tie.Need-put-body-requires
 put-body-requires c κs =
     let start = c .before .before .before .before .before .before .before .before .before .before .before .before .before in
     let a = start .args in
-    body-fits (a .kind) (a .figure) (valuesFrom 0 (a .angles .now) (a .fixed .now) (a .log-sines .now) (a .differences .now)) (start .pre .1 .0)
+    let v = valuesFrom 0 (a .angles .now) (a .fixed .now) (a .log-sines .now) (a .differences .now) in
+    body-fits (a .kind) (a .figure) v (as-many (a .kind) (a .figure) v (start .pre .0))
 
 put-filling-requires : tie.Need-put-filling-requires
 put-filling-requires c κs = search needs
@@ -25,11 +27,16 @@ same-length c = search needs
 
 returns : tie.Need-returns
 returns c =
-    let start = c .before .before .before .before .before .before .before .before .before .before .before .before .before .before .before .before .before .before .before .before in
+    let filled = c .before .before in
+    let body = filled .before .before .before .before in
+    let limit = body .before .before .before .before in
+    let head = limit .before .before .before .before in
+    let known = head .before .before .before .before in
+    let start = known .before .before in
     let a = start .args in
-    packed-in-parts (a .kind) (a .figure) (valuesFrom (a .limit-or-tolerance) (a .angles .now) (a .fixed .now) (a .log-sines .now) (a .differences .now))
-    (a .sheet .now) (λ i. c .before .before .before .before .before .before .before .before .before .before .before .before .before .before .before .before .before .before .before .slice-known .given i .fits) (start .pre .1 .1) (start .pre .1 .0) (start .pre .0)
-    (c .before .before .before .before .before .before .before .before .before .before .before .before .before .before .put-head .ensures) (c .before .before .before .before .before .before .before .before .before .before .put-limit-or-tolerance .ensures) (c .before .before .before .before .before .before .put-body .ensures) (c .before .before .put-filling .ensures)
+    let v = valuesFrom (a .bound) (a .angles .now) (a .fixed .now) (a .log-sines .now) (a .differences .now) in
+    packed-in-parts (a .kind) (a .figure) v (a .sheet .now) (λ i. known .before .slice-known .given i .fits) (start .pre .1) (as-many (a .kind) (a .figure) v (start .pre .0))
+    (head .put-head .ensures) (limit .put-limit-or-tolerance .ensures) (body .put-body .ensures) (filled .put-filling .ensures)
 
 pub pack-spec : {M : Type 1} → statement M
 pack-spec =

@@ -3,7 +3,7 @@ use borrow.Author.Needs.{needs}
 use mathlib.Core.List.{[], _∷_}
 use mathlib.Core.Path.{sym, ap, _∙_}
 use Rattle.layout.specs.declared.Kind.{Kind}
-use Rattle.layout.specs.Layout.{widthOf, limitOrTolerancePlace}
+use Rattle.layout.specs.Layout.{widthOf, limitOrToleranceItem}
 use Rattle.writing.specs.Parts.{putAll, fieldFrom}
 use Rattle.writing.proofs.write.put_limit_or_tolerance.Statement.{statement}
 use Rattle.writing.proofs.write.put_limit_or_tolerance.Tie as tie
@@ -28,7 +28,7 @@ unfolding putAll
 returns c =
     let a = c .before .before .before .before .before .before .before .args in
     c .before .before .put-field .ensures
-    ∙ sym (ap (λ (kind : Kind). putAll (a .sheet .now) 12 (fieldFrom (widthOf (limitOrTolerancePlace kind)) (a .value) ∷ [])) (c .before .before .before .before .enum-told .given .1))
+    ∙ sym (ap (λ (kind : Kind). putAll (a .sheet .now) 12 (fieldFrom (widthOf (limitOrToleranceItem kind)) (a .value) ∷ [])) (c .before .before .before .before .enum-told .given .1))
 
 same-length-2 : tie.Need-same-length-2
 same-length-2 c = search needs
@@ -38,7 +38,7 @@ unfolding putAll
 returns-2 c =
     let a = c .before .before .before .before .before .before .before .args in
     c .before .before .put-field2 .ensures
-    ∙ sym (ap (λ (kind : Kind). putAll (a .sheet .now) 12 (fieldFrom (widthOf (limitOrTolerancePlace kind)) (a .value) ∷ [])) (c .before .before .before .before .enum-told2 .given .1))
+    ∙ sym (ap (λ (kind : Kind). putAll (a .sheet .now) 12 (fieldFrom (widthOf (limitOrToleranceItem kind)) (a .value) ∷ [])) (c .before .before .before .before .enum-told2 .given .1))
 
 pub put-limit-or-tolerance-spec : {M : Type 1} → statement M
 put-limit-or-tolerance-spec =

@@ -9,7 +9,7 @@ use lib.ListN.{length}
 use mir.Syntax.{w32}
 use mir.Val.{toZ, ofZ, SFits}
 use mir.ValLaws.{toZ-ofZ}
-use Rattle.refusals.specs.Order.{numbered}
+use Rattle.refusals.specs.Numbers.{numbered}
 use Rattle.bits.specs.Bits.{Field, widths, totalWidth}
 use Rattle.writing.specs.Parts.{putAll, rowOf}
 use Rattle.writing.proofs.Packing.{Written, written-none, written-more, written-all, written-length}

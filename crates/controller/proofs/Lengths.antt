@@ -1,0 +1,52 @@
+-- A slice that C lends beside those of the operation, of the right length and of the wrong one; and what a refusal leaves. Assumes nothing.
+use Prim.Native.Nat.{ℕ}
+use mathlib.Core.List.{List, [], _∷_}
+use mathlib.Core.Path.{_≡_, refl, sym, ap}
+use borrow.Author.Tests.{eq-eqb, ne-eqb}
+use Rattle.refusals.specs.declared.Refusal.{Refusal}
+use Rattle.refusals.specs.declared.Verdict.{Verdict}
+use Rattle.refusals.specs.declared.Verdict.the-variants.{Passed, Failed}
+use Rattle.refusals.specs.Numbers.{Told, refusalTold, verdictTold}
+use Rattle.refusals.specs.Order.{Row, answerOf, judged}
+use Rattle.refusals.specs.Promise.{stored}
+use Rattle.refusals.specs.Table.{lengthsRow}
+use Rattle.refusals.proofs.Rows.{no-zero}
+use Rattle.figures.specs.declared.Figure.{Figure}
+use Rattle.figures.specs.declared.Named.{Named}
+use Rattle.figures.specs.declared.Named.the-variants.{As, Nothing}
+use Rattle.figures.specs.Figure.{ofNamed}
+use Rattle.layout.specs.declared.Kind.{Kind}
+use Rattle.heads.specs.declared.Look.{Look}
+use Rattle.heads.specs.declared.Look.the-variants.{Head}
+use Rattle.heads.specs.Head.{ofHead}
+use Rattle.controller.specs.Answer.{lengthsWith}
+
+module _ (room own : ℕ) where
+  pub wrong-length : (room ≡ own → ⊥) → (later : List Row) → judged (lengthsRow (room ∷ []) (own ∷ []) ∷ later) ≡ Failed Refusal.WrongLength
+  unfolding answerOf
+  wrong-length differs later = rw (ne-eqb room own differs)
+
+  pub right-length : room ≡ own → (later : List Row) → judged (lengthsRow (room ∷ []) (own ∷ []) ∷ later) ≡ judged later
+  unfolding answerOf
+  right-length same later = rw (eq-eqb room own same)
+
+  pub none-with : (room ≡ own → ⊥) → (lent : List ℕ) → lengthsWith room own lent ≡ []
+  none-with differs lent = rw (ne-eqb room own differs)
+
+  pub all-with : room ≡ own → (lent : List ℕ) → lengthsWith room own lent ≡ lent
+  all-with same lent = rw (eq-eqb room own same)
+
+-- what tells a refusal stores nothing, whatever is named
+pub kept-told : {L : Type 0} (v : Verdict) (refusal : Refusal) (new old : L) → verdictTold v ≡ refusalTold refusal → stored v new old ≡ old
+kept-told Passed refusal new old e = absurd (no-zero refusal (sym (ap (λ (t : Told). t .number) e)))
+kept-told (Failed q) refusal new old e = refl
+
+pub kept-head : {L : Type 0} (head : Look) (v : Verdict) (refusal : Refusal) (new : Kind → Figure → L) (old : L) → verdictTold v ≡ refusalTold refusal
+    → ofHead head old (λ kind f. stored v (new kind f) old) ≡ old
+kept-head (Head kind f) v refusal new old e = kept-told v refusal (new kind f) old e
+kept-head (Look.Refused other) v refusal new old e = refl
+
+pub kept-named : {L : Type 0} (named : Named) (v : Verdict) (refusal : Refusal) (new : Figure → L) (old : L) → verdictTold v ≡ refusalTold refusal
+    → ofNamed named old (λ f. stored v (new f) old) ≡ old
+kept-named Nothing v refusal new old e = refl
+kept-named (As f) v refusal new old e = kept-told v refusal (new f) old e

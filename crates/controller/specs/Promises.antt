@@ -1,0 +1,131 @@
+-- What the operations promise to C: what `passes`, `sheets` and `report` promise, with the answer as one number, and W and S, what stands in a head, and the
+-- size of a text in slices of their own.
+use Prim.Native.Nat.{ℕ}
+use mathlib.Core.List.{List, [], _∷_, _++_}
+use lib.IntN.{ℤ}
+use lib.ListN.{length, drop}
+use Rattle.refusals.specs.Numbers.{verdictTold}
+use Rattle.refusals.specs.Order.{Row, row, judged}
+use Rattle.refusals.specs.Promise.{Promised, stored}
+use Rattle.refusals.specs.Questions.{less}
+use Rattle.refusals.specs.Table.{lengthsRow}
+use Rattle.figures.specs.declared.Figure.{Figure}
+use Rattle.figures.specs.Figure.{description, conditionCount, figureOf, ofNamed}
+use Rattle.layout.specs.declared.Kind.{Kind}
+use Rattle.layout.specs.Layout.{numberOfKind, lengthsOf}
+use Rattle.heads.specs.Head.{headRows, lookOf, ofHead}
+use Rattle.sheets.specs.Sheet.{Values, valuesRead}
+use Rattle.sheets.specs.Judging.{readerRows, writerRows, writtenOf}
+use Rattle.sheets.specs.Promises.{Slices, slicesOf, lengthsLent}
+use Rattle.method.specs.SecondPass.{sineMisclosure, sumOfSquares, secondPassRows}
+use Rattle.passes.specs.Promises.{FirstGiven, FirstLent, firstRowsOf, firstLeft, SecondGiven, SecondLent, secondLengthsLent, secondValues}
+use Rattle.report.specs.Report.{reportText}
+use Rattle.controller.specs.Answer.{answerNumber, lengthsWith}
+
+-- what an order answers C
+abbrev pub answerBy : List Row → ℕ
+answerBy rows = answerNumber (verdictTold (judged rows))
+
+-- ---- a look: kind, code, n, and how many angles, fixed angles, log-sines and conditions
+
+abbrev pub lookHead : Kind → Figure → List ℕ
+lookHead kind f =
+    numberOfKind kind ∷ description f .code ∷ description f .n
+    ∷ lengthsOf kind f .angles ∷ lengthsOf kind f .fixed ∷ lengthsOf kind f .«log_sines» ∷ conditionCount f ∷ []
+
+-- 12 if under two bytes, 11, 1, 2: `head` has seven values
+abbrev pub lookRows : (sheet head : List ℕ) → List Row
+lookRows sheet head = headRows sheet ++ (lengthsRow (length head ∷ []) (7 ∷ []) ∷ [])
+
+abbrev pub lookLeft : (sheet head : List ℕ) → List ℕ
+lookLeft sheet head = ofHead (lookOf sheet) head (λ kind f. stored (judged (lookRows sheet head)) (lookHead kind f) head)
+
+abbrev pub LookPromise : (sheet entry : List ℕ) → (answer : ℕ) → (exit : List ℕ) → Type 0
+LookPromise sheet entry answer exit = Promised (answerBy (lookRows sheet entry)) (lookLeft sheet entry) answer exit
+
+-- ---- the reader: kind, code, n, and L or e as packed, and the values
+
+pub record ReadLent : Type 0 where
+  pub head : List ℕ
+  pub values : Slices
+
+abbrev pub readLent : (head : List ℕ) → Slices → ReadLent
+readLent head values = record { head = head; values = values }
+
+-- the reader's rows: `head` has four values
+abbrev pub readRows : (sheet : List ℕ) → ReadLent → List Row
+readRows sheet lent = readerRows sheet (lengthsWith (length (lent .head)) 4 (lengthsLent (lent .values)))
+
+abbrev pub readHead : Kind → Figure → Values → List ℕ
+readHead kind f v = numberOfKind kind ∷ description f .code ∷ description f .n ∷ v .limitOrTolerance ∷ []
+
+abbrev pub readValues : Kind → Figure → (sheet : List ℕ) → ReadLent
+readValues kind f sheet = readLent (readHead kind f (valuesRead kind f sheet)) (slicesOf (valuesRead kind f sheet))
+
+abbrev pub readLeft : (sheet : List ℕ) → ReadLent → ReadLent
+readLeft sheet lent = ofHead (lookOf sheet) lent (λ kind f. stored (judged (readRows sheet lent)) (readValues kind f sheet) lent)
+
+abbrev pub ReadPromise : (sheet : List ℕ) → (entry : ReadLent) → (answer : ℕ) → (exit : ReadLent) → Type 0
+ReadPromise sheet entry answer exit = Promised (answerBy (readRows sheet entry)) (readLeft sheet entry) answer exit
+
+-- ---- the writer
+
+abbrev pub WritePromise : (kind code n : ℕ) → Values → (entry : List ℕ) → (answer : ℕ) → (exit : List ℕ) → Type 0
+WritePromise kind code n v entry answer exit =
+    Promised (answerBy (writerRows kind code n v (length entry))) (writtenOf kind code n v entry) answer exit
+
+-- ---- the first pass
+
+abbrev pub FirstPassPromise : FirstGiven → (entry : FirstLent) → (answer : ℕ) → (exit : FirstLent) → Type 0
+FirstPassPromise given entry answer exit = Promised (answerBy (firstRowsOf given entry)) (firstLeft given entry) answer exit
+
+-- ---- the second pass: W and S, and the values
+
+pub record SumsLent : Type 0 where
+  pub sums : List ℤ
+  pub values : SecondLent
+
+abbrev pub sumsLent : (sums : List ℤ) → SecondLent → SumsLent
+sumsLent sums values = record { sums = sums; values = values }
+
+-- the rows of the second pass: `sums` has two values
+abbrev pub sumsRows : SecondGiven → SumsLent → List Row
+sumsRows given lent =
+    secondPassRows (given .code) (given .n) (given .tolerance) (given .angles) (given .logSines) (given .differences)
+    (lengthsWith (length (lent .sums)) 2 (secondLengthsLent given (lent .values)))
+
+abbrev pub sumsOf : Figure → SecondGiven → List ℤ
+sumsOf f given = sineMisclosure f (given .logSines) ∷ sumOfSquares f (given .differences) ∷ []
+
+abbrev pub sumsLeft : SecondGiven → SumsLent → SumsLent
+sumsLeft given lent =
+    ofNamed (figureOf (given .code) (given .n)) lent
+    (λ f. stored (judged (sumsRows given lent)) (sumsLent (sumsOf f given) (secondValues f given)) lent)
+
+abbrev pub SecondPassPromise : SecondGiven → (entry : SumsLent) → (answer : ℕ) → (exit : SumsLent) → Type 0
+SecondPassPromise given entry answer exit = Promised (answerBy (sumsRows given entry)) (sumsLeft given entry) answer exit
+
+-- ---- a sheet's text, and its size. A refused sheet has its text too, so that number 2 is the only one
+
+pub record TextLent : Type 0 where
+  pub text : List ℕ
+  pub written : List ℕ
+
+abbrev pub textLent : (text written : List ℕ) → TextLent
+textLent text written = record { text = text; written = written }
+
+-- `written` has one value, and the text has room
+abbrev pub reportRows : (sheet : List ℕ) → TextLent → List Row
+reportRows sheet lent =
+    lengthsRow (length (lent .written) ∷ []) (1 ∷ []) ∷ row 2 (less (length (lent .text)) (length (reportText sheet))) ∷ []
+
+-- the text from the start of what is lent, and what lies past it as it was
+abbrev pub textLaid : (sheet text : List ℕ) → List ℕ
+textLaid sheet text = reportText sheet ++ drop (length (reportText sheet)) text
+
+abbrev pub reportLeft : (sheet : List ℕ) → TextLent → TextLent
+reportLeft sheet lent =
+    stored (judged (reportRows sheet lent)) (textLent (textLaid sheet (lent .text)) (length (reportText sheet) ∷ [])) lent
+
+abbrev pub ReportPromise : (sheet : List ℕ) → (entry : TextLent) → (answer : ℕ) → (exit : TextLent) → Type 0
+ReportPromise sheet entry answer exit = Promised (answerBy (reportRows sheet entry)) (reportLeft sheet entry) answer exit

@@ -1,0 +1,9 @@
+-- The demands proved, each statement of specs/ under its name. `ByTheTable`, `Closing` and `Pages` have the laws that they share.
+mod ByTheTable
+mod Closing
+pub mod Demand1
+pub mod Demand2
+pub mod Demand3
+mod Pages
+pub mod Printed
+mod WorkedValues

@@ -1,0 +1,88 @@
+-- Demand 3. "Take any accepted first-pass sheet, and any corrections whatever, as whole numbers over one common denominator, that cancel every listed linear
+-- misclosure: the sum of their squares is never below that of our unrounded first corrections, and equals it only if they are the same corrections. Where a
+-- second pass is accepted, its unrounded corrections change no linear condition and cancel the linearised sine misclosure exactly."
+--
+-- Said of the misclosures and numerators that stand in the lent slices. Unrounded corrections are numerator / D in the first pass, numerator / S in the
+-- second; in whole numbers, both sides are multiplied by the denominators.
+use Prim.Native.Nat.{ℕ, _<_}
+use mathlib.Core.List.{List}
+use mathlib.Core.Path.{_≡_}
+use lib.IntN.{ℤ, pos, negℤ, _*ℤ_}
+use lib.Signed.{_≤ℤ_}
+use Rattle.whole.specs.Sums.{dot, squares, vector}
+use Rattle.refusals.specs.declared.Verdict.the-variants.{Passed}
+use Rattle.figures.specs.declared.Figure.{Figure}
+use Rattle.figures.specs.declared.Named.the-variants.{As}
+use Rattle.figures.specs.Figure.{denominator, angleCount, conditionCount, figureOf}
+use Rattle.figures.specs.Numerators.{conditionSum}
+use Rattle.method.specs.declared.second.SecondAnswer.the-variants.{Done}
+use Rattle.passes.specs.Promises.{FirstGiven, FirstLent, FirstPromise, SecondGiven, SecondLent, SecondPromise}
+use Rattle.worked.specs.declared.Outcome.the-variants.{First, Second}
+use Rattle.worked.specs.declared.WorkedSheet.{WorkedSheet}
+use Rattle.worked.specs.Worked.{workedOf, differencesIn}
+use Rattle.controller.specs.Promises.{FirstPassPromise, SumsLent, SecondPassPromise}
+use Rattle.demands.specs.Demand2.{signed}
+
+-- corrections x / q cancel every listed misclosure
+abbrev pub Cancel : Figure → (q : ℕ) → (x misclosures : ℕ → ℤ) → Type 0
+Cancel f q x misclosures = (j : ℕ) → j < conditionCount f → conditionSum f x j ≡ negℤ (pos q) *ℤ misclosures j
+
+-- the sum of squares of corrections x / q, times q² and the square of another denominator
+abbrev pub squaresOver : Figure → (other : ℕ) → (x : ℕ → ℤ) → ℤ
+squaresOver f other x = pos other *ℤ pos other *ℤ squares (angleCount f) x
+
+-- numerators over D are the least-squares corrections of misclosures
+pub record LeastSquares (f : Figure) (misclosures numerators : ℕ → ℤ) : Type 0 where
+  -- they cancel every listed misclosure
+  pub cancel : Cancel f (denominator f) numerators misclosures
+  -- no corrections x / q that do have a smaller sum of squares
+  pub never-below : (q : ℕ) → 0 < q → (x : ℕ → ℤ) → Cancel f q x misclosures → squaresOver f q numerators ≤ℤ squaresOver f (denominator f) x
+  -- and only the same corrections have the same: x / q = numerator / D
+  pub only-the-same : (q : ℕ) → 0 < q → (x : ℕ → ℤ) → Cancel f q x misclosures → squaresOver f q numerators ≡ squaresOver f (denominator f) x
+      → (i : ℕ) → i < angleCount f → pos (denominator f) *ℤ x i ≡ pos q *ℤ numerators i
+
+-- numerators over S change no linear condition, and cancel the sine misclosure W: "the sum of d times the exact second correction (tenths) is −100·W"
+pub record SineCloses (f : Figure) (differences : List ℤ) (numerators : ℕ → ℤ) (w s : ℤ) : Type 0 where
+  pub not-zero : s ≡ pos 0 → ⊥
+  pub linear : (j : ℕ) → j < conditionCount f → conditionSum f numerators j ≡ pos 0
+  pub sine : dot (angleCount f) (signed f differences) numerators ≡ negℤ (pos 100) *ℤ w *ℤ s
+
+-- ---- the passes
+
+abbrev pub FirstPass : Type 0
+FirstPass =
+    (given : FirstGiven) (entry exit : FirstLent) → FirstPromise given entry Passed exit
+    → (f : Figure) → figureOf (given .code) (given .n) ≡ As f
+    → LeastSquares f (vector (exit .misclosures)) (vector (exit .numerators))
+
+abbrev pub SecondPass : Type 0
+SecondPass =
+    (given : SecondGiven) (w s : ℤ) (entry exit : SecondLent) → SecondPromise given entry (Done w s) exit
+    → (f : Figure) → figureOf (given .code) (given .n) ≡ As f
+    → SineCloses f (given .differences) (vector (exit .numerators)) w s
+
+-- ---- the same for C: the answer is 0, and W and S stand in `sums`
+
+abbrev pub FirstPass-C : Type 0
+FirstPass-C =
+    (given : FirstGiven) (entry exit : FirstLent) → FirstPassPromise given entry 0 exit
+    → (f : Figure) → figureOf (given .code) (given .n) ≡ As f
+    → LeastSquares f (vector (exit .misclosures)) (vector (exit .numerators))
+
+abbrev pub SecondPass-C : Type 0
+SecondPass-C =
+    (given : SecondGiven) (entry exit : SumsLent) → SecondPassPromise given entry 0 exit
+    → (f : Figure) → figureOf (given .code) (given .n) ≡ As f
+    → SineCloses f (given .differences) (vector (exit .values .numerators)) (vector (exit .sums) 0) (vector (exit .sums) 1)
+
+-- ---- a sheet worked from its bytes
+
+abbrev pub FirstSheet : Type 0
+FirstSheet =
+    (sheet : List ℕ) (worked : WorkedSheet) → worked ≡ workedOf sheet → (f : Figure) → worked .outcome ≡ First f
+    → LeastSquares f (vector (worked .misclosures)) (vector (worked .numerators))
+
+abbrev pub SecondSheet : Type 0
+SecondSheet =
+    (sheet : List ℕ) (worked : WorkedSheet) → worked ≡ workedOf sheet → (f : Figure) (w s : ℤ) → worked .outcome ≡ Second f w s
+    → SineCloses f (differencesIn sheet) (vector (worked .numerators)) w s

@@ -1,0 +1,90 @@
+-- What is printed. The complaint that began this work: a controller printed corrections that did not cancel the misclosures above them. Here the numbers are
+-- read off the lines of the text of any bytes, as a person reads them, and nothing else is known of them.
+--
+-- A line's parts are counted from 0: of kind 1, `figure 1 0 denominator 8`; `1 1620004 -12 -2 1620002`; `condition 1 4 -2`. Of kind 2,
+-- `figure 1 0 W 100 S 24315176`; `1 1620000 2049 -163920000 -7 1619993`; `condition 1 0`. The line of angle i, counted from 0, is line 1 + i, that of condition
+-- j follows the angles' lines.
+use Prim.Native.Nat.{ℕ, suc, _+_, _<_}
+use mathlib.Core.List.{List, [], _∷_}
+use mathlib.Core.Logic.{_↔_, _⊎_}
+use mathlib.Core.Path.{_≡_}
+use lib.IntN.{ℤ, pos, negℤ, _+ℤ_, _*ℤ_}
+use lib.ListN.{getD, take}
+use Rattle.refusals.specs.Order.{Answers}
+use Rattle.figures.specs.declared.Figure.{Figure}
+use Rattle.figures.specs.Figure.{description, denominator, angleCount, conditionCount}
+use Rattle.figures.specs.Numerators.{conditionSum}
+use Rattle.text.specs.Text.{decimal, lines, readNumber, readLines}
+use Rattle.lines.specs.Lines.{figureWord, denominatorWord, wWord, sWord, refusedWord}
+use Rattle.worked.specs.Worked.{sheetRows}
+use Rattle.report.specs.declared.reporting.Reported.the-variants.{Written}
+use Rattle.report.specs.Report.{ReportedPromise}
+use Rattle.controller.specs.Promises.{TextLent, ReportPromise}
+
+-- a part of a line of a text, and the number that it is
+abbrev pub part : (text : List ℕ) → (line place : ℕ) → List ℕ
+part text line place = getD (getD (readLines text) line []) place []
+
+abbrev pub numberOn : (text : List ℕ) → (line place : ℕ) → ℤ
+numberOn text line place = readNumber (part text line place)
+
+-- what stands on the angles' lines, and on the conditions' lines
+abbrev pub ofAngle : (text : List ℕ) → (place : ℕ) → ℕ → ℤ
+ofAngle text place i = numberOn text (suc i) place
+
+abbrev pub ofCondition : Figure → (text : List ℕ) → (place : ℕ) → ℕ → ℤ
+ofCondition f text place j = numberOn text (suc (angleCount f + j)) place
+
+-- the figure's line names the figure
+pub record Names (f : Figure) (text : List ℕ) : Type 0 where
+  pub word : part text 0 0 ≡ figureWord
+  pub code : numberOn text 0 1 ≡ pos (description f .code)
+  pub n : numberOn text 0 2 ≡ pos (description f .n)
+
+-- a text of kind 1
+pub record FirstPage (f : Figure) (text : List ℕ) : Type 0 where
+  pub names : Names f text
+  pub denominator-word : part text 0 3 ≡ denominatorWord
+  pub denominator-is : numberOn text 0 4 ≡ pos (denominator f)
+  -- the numerators of a condition's angles sum to −D times the misclosure
+  pub corrections-cancel : (j : ℕ) → j < conditionCount f
+      → conditionSum f (ofAngle text 2) j ≡ negℤ (numberOn text 0 4) *ℤ ofCondition f text 2 j
+  -- misclosure plus rounded corrections is the rest
+  pub rests : (j : ℕ) → j < conditionCount f → ofCondition f text 2 j +ℤ conditionSum f (ofAngle text 3) j ≡ ofCondition f text 3 j
+  -- the result is the given angle plus the rounded correction
+  pub results : (i : ℕ) → i < angleCount f → ofAngle text 1 i +ℤ ofAngle text 3 i ≡ ofAngle text 4 i
+
+-- a text of kind 2
+pub record SecondPage (f : Figure) (text : List ℕ) : Type 0 where
+  pub names : Names f text
+  pub w-word : part text 0 3 ≡ wWord
+  pub s-word : part text 0 5 ≡ sWord
+  -- each numerator is −100·D·A·W, with A and W as printed
+  pub numerators : (i : ℕ) → i < angleCount f
+      → ofAngle text 3 i ≡ negℤ (pos 100) *ℤ pos (denominator f) *ℤ ofAngle text 2 i *ℤ numberOn text 0 4
+  -- the numerators of each condition sum to 0
+  pub corrections-close : (j : ℕ) → j < conditionCount f → conditionSum f (ofAngle text 3) j ≡ pos 0
+  -- and the rounded ones to its rest
+  pub rests : (j : ℕ) → j < conditionCount f → conditionSum f (ofAngle text 4) j ≡ ofCondition f text 2 j
+  -- the result is the given angle plus the rounded correction
+  pub results : (i : ℕ) → i < angleCount f → ofAngle text 1 i +ℤ ofAngle text 4 i ≡ ofAngle text 5 i
+
+-- `refused 6 1`, number and place, alone
+abbrev pub refusedLine : (k p : ℕ) → List ℕ
+refusedLine k p = lines ((refusedWord ∷ decimal (pos k) ∷ decimal (pos p) ∷ []) ∷ [])
+
+-- the text of a sheet is a page of kind 1 or of kind 2, where no row of its order holds; and else its refusal
+pub record Printed (sheet text : List ℕ) : Type 0 where
+  pub page : ((f : Figure) × FirstPage f text) ⊎ (((f : Figure) × SecondPage f text) ⊎ ((k : ℕ) × (p : ℕ) × (text ≡ refusedLine k p)))
+  -- turned back with number k at place p if and only if the order of reader and pass says so
+  pub refused : (k p : ℕ) → (k ≡ 0 → ⊥) → (text ≡ refusedLine k p) ↔ Answers (sheetRows sheet) k p
+
+-- ---- of whatever the program, and C, write
+
+abbrev pub Report : Type 0
+Report = (sheet entry exit : List ℕ) (count : ℕ) → ReportedPromise sheet entry (Written count) exit → Printed sheet (take count exit)
+
+abbrev pub Report-C : Type 0
+Report-C =
+    (sheet : List ℕ) (entry exit : TextLent) → ReportPromise sheet entry 0 exit
+    → (count : ℕ) → exit .written ≡ count ∷ [] → Printed sheet (take count (exit .text))

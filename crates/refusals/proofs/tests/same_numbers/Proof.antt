@@ -1,0 +1,79 @@
+-- `refusals::tests::same_numbers` meets its contract. The invariant: the lists are the same exactly if what is left of them is.
+use mathlib.Core.Path.{_≡_, refl, sym, ap, _∙_}
+use Prim.Native.Nat.{ℕ, _≤_, _-_}
+use native.Mathlib.Omega.{arith}
+use borrow.Author.Needs.{needs}
+use lib.ListN.{length, drop}
+use denote.Ref.{now}
+use Rattle.refusals.specs.Questions.{sameNumbers}
+use Rattle.refusals.proofs.NumberLists.{lengths-differ, one-same, one-differs, all-same}
+use Rattle.refusals.proofs.tests.same_numbers.Statement.{statement}
+use Rattle.refusals.proofs.tests.same_numbers.Tie as tie
+
+abbrev Inv-loop : tie.InvT-loop
+Inv-loop lent own i₀ i = (i ≤ length lent) × (length lent ≡ length own) × (sameNumbers lent own ≡ sameNumbers (drop i lent) (drop i own))
+
+abbrev μ-loop : tie.MeasureT-loop
+μ-loop lent own i₀ i = length lent - i
+
+returns : tie.Need-returns Inv-loop μ-loop
+returns c = sym (lengths-differ (now (c .before .args .lent)) (now (c .before .args .own)) (c .if1 .taken))
+
+loop-holds : tie.Need-loop-holds Inv-loop μ-loop
+loop-holds c = (omega arith, c .if1 .left, refl)
+
+mul-if2 : tie.Need-mul-if2 Inv-loop μ-loop
+mul-if2 c = search needs
+
+shared-slice-read-if2 : tie.Need-shared-slice-read-if2 Inv-loop μ-loop
+shared-slice-read-if2 c = search needs
+
+mul-if2-2 : tie.Need-mul-if2-2 Inv-loop μ-loop
+mul-if2-2 c = search needs
+
+shared-slice-read-if2-2 : tie.Need-shared-slice-read-if2-2 Inv-loop μ-loop
+shared-slice-read-if2-2 c = omega arith
+
+returns-2 : tie.Need-returns-2 Inv-loop μ-loop
+returns-2 c =
+    let at = c .before .before .before .before in
+    let start = at .before .before in
+    sym (at .loop .inv .2 ∙ one-differs (now (start .args .lent)) (now (start .args .own)) (at .loop .i) (omega arith) (omega arith) (c .if2 .taken))
+
+add-i : tie.Need-add-i Inv-loop μ-loop
+add-i c = omega arith
+
+loop-less : tie.Need-loop-less Inv-loop μ-loop
+loop-less c = omega arith
+
+loop-again : tie.Need-loop-again Inv-loop μ-loop
+loop-again c =
+    let at = c .before .before .before .before in
+    let start = at .before .before in
+    (omega arith, at .loop .inv .1, at .loop .inv .2 ∙ one-same (now (start .args .lent)) (now (start .args .own)) (at .loop .i) (omega arith) (omega arith) (c .if2 .left))
+
+returns-3 : tie.Need-returns-3 Inv-loop μ-loop
+returns-3 c =
+    let at = c .before in
+    let start = at .before .before in
+    let last : at .loop .i ≡ length (now (start .args .lent)) = omega arith in
+    sym (at .loop .inv .2 ∙ ap (λ (n : ℕ). sameNumbers (drop n (now (start .args .lent))) (drop n (now (start .args .own)))) last
+    ∙ all-same (now (start .args .lent)) (now (start .args .own)) (at .loop .inv .1))
+
+pub same-numbers-spec : {M : Type 1} → statement M
+same-numbers-spec =
+    tie.close
+    (tie.spec
+    Inv-loop
+    μ-loop
+    returns
+    loop-holds
+    mul-if2
+    shared-slice-read-if2
+    mul-if2-2
+    shared-slice-read-if2-2
+    returns-2
+    add-i
+    loop-less
+    loop-again
+    returns-3)

@@ -11,7 +11,7 @@ from pathlib import Path
 
 PARTS = (".text", ".rodata")  # what a controller must keep in its memory: machine code, and tables
 SHOWN = 5
-GOAL = 32 * 1024
+GOAL = 36 * 1024
 
 
 def said(*command):
@@ -58,7 +58,7 @@ def main():
     print("\nthe archive, in bytes")
     for part, size in sizes.items():
         print(f"{part:24} {size:10}")
-    print(f"{'code and constants':24} {total:10}   goal {GOAL} {'met' if total < GOAL else 'missed'}")
+    print(f"{'code and constants':24} {total:10}   goal {GOAL} {'met' if total <= GOAL else 'not met'}")
     print(f"{'the file itself':24} {Path(archive).stat().st_size:10}   with symbols and relocations, which a program does not keep")
     print(f"wanted from outside: {', '.join(wanted(said(f'{prefix}nm', archive))) or 'nothing'}")
     print("\nthe largest frames, in bytes")

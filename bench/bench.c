@@ -1,31 +1,41 @@
-/* The library beside the peer, on the same sheets, in alternating rounds: bench SHEETS, or bench SHEETS figures for each kind
- * and figure by itself. A difference between the two is an error. */
-#define _POSIX_C_SOURCE 200809L
+/* The library beside the peer, on the same sheets. A difference between the two is an error.
+ *
+ *     bench count SHEETS all|figures            one turn of each operation by each of the two, for callgrind to count
+ *     bench measure SHEETS all|figures COUNTS   the tables; COUNTS has the instructions of those turns in their order, or nothing
+ *
+ * `figures` takes the sheets of each kind and figure by themselves. */
 #include <stdio.h>
 #include <stdlib.h>
 #include <string.h>
-#include <time.h>
 
 #include "operations.h"
 #include "stack.h"
+#include "timing.h"
 
-enum { ROUNDS = 41, ROUND_NANOSECONDS = 4000000, STACK_GOAL = 8192, UNTOUCHED = 0xA5 };
+enum { STACK_GOAL = 6 * 1024, STACK_GOAL_OF_A_PASS = 2 * 1024, UNTOUCHED = 0xA5, GOAL_WIDTH = 16 };
 
 struct bench {
     const struct task *tasks;
     size_t count;
+    FILE *counts; /* the instructions of the turns that are still to be measured; NULL where they were not counted */
 };
 
-/* The most times the peer's time that each operation may take; 0 where nothing is asked. */
-static const double goals[OPERATIONS] = {0, 3, 3, 1.5, 1.5, 2, 0};
+/* What the two of a comparison work. */
+struct turn {
+    const struct bench *bench;
+    const struct library *library;
+    enum operation operation;
+};
 
-/* Of this program's own running, so that what else the machine does counts less. */
-static double nanoseconds(void)
-{
-    struct timespec now;
-    clock_gettime(CLOCK_PROCESS_CPUTIME_ID, &now);
-    return 1e9 * (double)now.tv_sec + (double)now.tv_nsec;
-}
+/* The most times the peer's time and instructions that an operation may take; 0 where nothing is asked. */
+static const struct {
+    double time, instructions;
+} goals[OPERATIONS] = {
+    [READ] = {6, 0},
+    [FIRST_PASS] = {1.35, 1.6},
+    [SECOND_PASS] = {1.35, 1.6},
+    [REPORT] = {2.2, 0},
+};
 
 /* Both on the same sheet, with every byte that they may store compared, and with it what they leave alone. */
 static void compare_one(enum operation operation, const struct task *task)
@@ -44,108 +54,118 @@ static void compare_one(enum operation operation, const struct task *task)
     exit(1);
 }
 
-static size_t compare(const struct bench *bench, enum operation operation)
+static void compare_answers(const void *about)
 {
-    size_t compared = 0;
-    for (size_t i = 0; i < bench->count; i++) {
-        if (takes(operation, &bench->tasks[i])) {
-            compare_one(operation, &bench->tasks[i]);
-            compared++;
-        }
-    }
-    return compared;
+    const struct turn *turn = about;
+    for (size_t i = 0; i < turn->bench->count; i++)
+        if (takes(turn->operation, &turn->bench->tasks[i]))
+            compare_one(turn->operation, &turn->bench->tasks[i]);
+}
+
+static double calls_of_a_turn(const struct bench *bench, enum operation operation)
+{
+    double calls = 0;
+    for (size_t i = 0; i < bench->count; i++)
+        calls += takes(operation, &bench->tasks[i]);
+    return calls;
 }
 
 /* So many times through the sheets; the sum of the answers keeps the calls from being dropped. */
-static uint32_t go_through(const struct bench *bench, const struct library *library, enum operation operation, unsigned times)
+static void go_through(const void *about, unsigned times)
 {
     static struct desk desk;
+    const struct turn *turn = about;
+    const struct bench *bench = turn->bench;
     uint32_t answers = 0;
-    for (unsigned turn = 0; turn < times; turn++)
+    for (unsigned time = 0; time < times; time++)
         for (size_t i = 0; i < bench->count; i++)
-            if (takes(operation, &bench->tasks[i]))
-                answers += operate(library, operation, &bench->tasks[i], &desk);
-    return answers;
-}
-
-static double time_of(const struct bench *bench, const struct library *library, enum operation operation, unsigned times)
-{
-    const double start = nanoseconds();
-    if (go_through(bench, library, operation, times) != 0) {
-        fprintf(stderr, "%s of %s: a sheet of the bench is turned back\n", operation_names[operation], library->name);
+            if (takes(turn->operation, &bench->tasks[i]))
+                answers += operate(turn->library, turn->operation, &bench->tasks[i], &desk);
+    if (answers != 0) {
+        fprintf(stderr, "%s of %s: a sheet of the bench is turned back\n", operation_names[turn->operation], turn->library->name);
         exit(1);
     }
-    return nanoseconds() - start;
 }
 
-static unsigned times_for_a_round(const struct bench *bench, const struct library *library, enum operation operation)
+/* callgrind writes down what it has counted whenever this is left, so it must stay a call under this name. */
+__attribute__((noipa)) void counted_turn(const struct turn *turn)
 {
-    const double once = time_of(bench, library, operation, 4) / 4;
-    return once < ROUND_NANOSECONDS ? (unsigned)(ROUND_NANOSECONDS / once) : 1;
+    go_through(turn, 1);
 }
 
-static int by_size(const void *a, const void *b)
+static void count_operation(const struct bench *bench, enum operation operation)
 {
-    const double x = *(const double *)a, y = *(const double *)b;
-    return (x > y) - (x < y);
+    counted_turn(&(struct turn){bench, &ours, operation});
+    counted_turn(&(struct turn){bench, &peer, operation});
 }
 
-static double median(double *values)
+/* Without a column after it the goal has a width of 0. */
+static void print_goal(double measured, double goal, int width)
 {
-    qsort(values, ROUNDS, sizeof *values, by_size);
-    return values[ROUNDS / 2];
+    char text[32] = "";
+    if (goal > 0)
+        snprintf(text, sizeof text, "  %.4g %s", goal, measured <= goal ? "met" : "not met");
+    printf("%-*s", width, text);
 }
 
-static void print_row(enum operation operation, double our_time, double peer_time, double ratio)
+static double next_count(FILE *counts)
 {
-    printf("%-24s %10.1f %10.1f %8.2f", operation_names[operation], our_time, peer_time, ratio);
-    if (goals[operation] > 0)
-        printf("   %4.1f %s", goals[operation], ratio <= goals[operation] ? "met" : "missed");
+    double total;
+    if (fscanf(counts, "%lf", &total) == 1)
+        return total;
+    fprintf(stderr, "the counts of instructions are of other sheets\n");
+    exit(2);
+}
+
+static void print_instructions(const struct bench *bench, enum operation operation)
+{
+    const double calls = calls_of_a_turn(bench, operation);
+    const double our_count = next_count(bench->counts) / calls, peer_count = next_count(bench->counts) / calls;
+    printf(" %9.0f %9.0f %6.2f", our_count, peer_count, our_count / peer_count);
+    print_goal(our_count / peer_count, goals[operation].instructions, 0);
+}
+
+static void measure_operation(const struct bench *bench, enum operation operation)
+{
+    const struct turn our_turn = {bench, &ours, operation}, peer_turn = {bench, &peer, operation};
+    compare_answers(&our_turn);
+    const struct compared times = compare_times(go_through, &our_turn, go_through, &peer_turn, compare_answers);
+    const double calls = calls_of_a_turn(bench, operation);
+    printf("%-22s %9.1f %9.1f %6.2f", operation_names[operation], times.one / calls, times.other / calls, times.ratio);
+    print_goal(times.ratio, goals[operation].time, bench->counts ? GOAL_WIDTH : 0);
+    if (bench->counts)
+        print_instructions(bench, operation);
     putchar('\n');
     fflush(stdout);
 }
 
-/* The one that goes first changes from round to round. The ratio is the median of the rounds' ratios: the two of a round meet the same
- * state of the machine. */
-static void measure(const struct bench *bench, enum operation operation)
+static void print_heading(bool counted)
 {
-    double our_times[ROUNDS], peer_times[ROUNDS], ratios[ROUNDS];
-    const double calls = (double)compare(bench, operation);
-    const unsigned turns = times_for_a_round(bench, &ours, operation), peer_turns = times_for_a_round(bench, &peer, operation);
-    for (int round = 0; round < ROUNDS; round++) {
-        if (round % 2 == 0)
-            our_times[round] = time_of(bench, &ours, operation, turns) / (turns * calls);
-        peer_times[round] = time_of(bench, &peer, operation, peer_turns) / (peer_turns * calls);
-        if (round % 2 == 1)
-            our_times[round] = time_of(bench, &ours, operation, turns) / (turns * calls);
-        ratios[round] = our_times[round] / peer_times[round];
-        compare(bench, operation);
-    }
-    print_row(operation, median(our_times), median(peer_times), median(ratios));
+    const char *columns = "  library      peer  times  goal";
+    printf("%-22s   %-41s%s\n", "", "nanoseconds a call", counted ? "  instructions a call" : "");
+    printf("%-22s %-42s %s\n", "", columns, counted ? columns : "");
 }
 
 static void print_stack(const struct bench *bench)
 {
-    printf("\nbytes of stack in a call %10s %10s              goal\n", ours.name, peer.name);
+    printf("\n%-22s %9s %9s         goal\n", "bytes of stack a call", ours.name, peer.name);
     for (enum operation operation = LOOK; operation < WHOLE_SHEET; operation++) {
         const size_t our_depth = deepest(&ours, operation, bench->tasks, bench->count);
         const size_t peer_depth = deepest(&peer, operation, bench->tasks, bench->count);
-        printf("%-24s %10zu %10zu            %d %s\n", operation_names[operation], our_depth, peer_depth, STACK_GOAL,
-            our_depth <= STACK_GOAL ? "met" : "missed");
+        const bool pass = operation == FIRST_PASS || operation == SECOND_PASS;
+        printf("%-22s %9zu %9zu       ", operation_names[operation], our_depth, peer_depth);
+        print_goal((double)our_depth, pass ? STACK_GOAL_OF_A_PASS : STACK_GOAL, 0);
+        putchar('\n');
     }
 }
 
-static bool any_takes(const struct bench *bench, enum operation operation)
-{
-    return takes(operation, bench->tasks) || takes(operation, bench->tasks + bench->count - 1);
-}
+typedef void (*each_operation)(const struct bench *bench, enum operation operation);
 
-static void measure_all(const struct bench *bench)
+static void all_operations(const struct bench *bench, each_operation act)
 {
-    printf("nanoseconds a call       %10s %10s %8s   goal\n", ours.name, peer.name, "ratio");
     for (enum operation operation = LOOK; operation < OPERATIONS; operation++)
-        if (any_takes(bench, operation))
-            measure(bench, operation);
+        if (calls_of_a_turn(bench, operation) > 0)
+            act(bench, operation);
 }
 
 /* The sheets of a kind and figure stand together. */
@@ -157,31 +177,57 @@ static size_t alike(const struct task *tasks, size_t count)
     return end;
 }
 
-static void measure_each_figure(const struct bench *bench)
+static void each_figure(const struct bench *bench, each_operation act)
 {
     for (size_t start = 0; start < bench->count;) {
-        const struct bench part = {bench->tasks + start, alike(bench->tasks + start, bench->count - start)};
+        const struct bench part = {bench->tasks + start, alike(bench->tasks + start, bench->count - start), bench->counts};
         const uint32_t *head = part.tasks->head;
-        printf("\nkind %u, code %u, n %u: ", (unsigned)head[0], (unsigned)head[1], (unsigned)head[2]);
-        measure_all(&part);
+        if (act == measure_operation)
+            printf("\nkind %u, code %u, n %u\n", (unsigned)head[0], (unsigned)head[1], (unsigned)head[2]);
+        all_operations(&part, act);
         start += part.count;
     }
 }
 
+/* NULL of a file that has nothing. */
+static FILE *open_counts(const char *path)
+{
+    FILE *counts = fopen(path, "r");
+    if (!counts) {
+        perror(path);
+        exit(2);
+    }
+    const int first = fgetc(counts);
+    if (first == EOF) {
+        fclose(counts);
+        return NULL;
+    }
+    ungetc(first, counts);
+    return counts;
+}
+
+static void measure(const struct bench *bench, bool by_figure)
+{
+    printf("%zu sheets, median of %d rounds\n\n", bench->count, ROUNDS);
+    print_heading(bench->counts != NULL);
+    (by_figure ? each_figure : all_operations)(bench, measure_operation);
+    if (!by_figure)
+        print_stack(bench);
+}
+
 int main(int argc, char **argv)
 {
-    if (argc < 2 || argc > 3 || (argc == 3 && strcmp(argv[2], "figures") != 0)) {
-        fprintf(stderr, "usage: bench SHEETS [figures]\n");
+    const bool counting = argc == 4 && strcmp(argv[1], "count") == 0;
+    if (!counting && !(argc == 5 && strcmp(argv[1], "measure") == 0)) {
+        fprintf(stderr, "usage: bench count SHEETS all|figures, or bench measure SHEETS all|figures COUNTS\n");
         return 2;
     }
-    struct bench bench = {NULL, 0};
-    bench.tasks = read_tasks(argv[1], &bench.count);
-    printf("%zu sheets, median of %d rounds\n\n", bench.count, ROUNDS);
-    if (argc == 3) {
-        measure_each_figure(&bench);
-        return 0;
-    }
-    measure_all(&bench);
-    print_stack(&bench);
+    const bool by_figure = strcmp(argv[3], "figures") == 0;
+    struct bench bench = {NULL, 0, counting ? NULL : open_counts(argv[4])};
+    bench.tasks = read_tasks(argv[2], &bench.count);
+    if (counting)
+        (by_figure ? each_figure : all_operations)(&bench, count_operation);
+    else
+        measure(&bench, by_figure);
     return 0;
 }

@@ -1,5 +1,5 @@
-/* The operations of the library in plain C, from document 01: figures by table, the central polygon by its formula, bits through a
- * 64-bit register, results held back until every test has passed. */
+/* The operations of the library in plain C, from document 01: figures by table, the central polygon by its formula, sheets by four
+ * bytes at a time through a 64-bit register, every loop over the figure's own count, results held back until every test has passed. */
 #include "peer.h"
 
 #include <stdbool.h>
@@ -59,7 +59,7 @@ struct first_work {
 
 struct second_work {
     int64_t sine_misclosure, square_sum, reduced[MOST_ANGLES], numerators[MOST_ANGLES];
-    int32_t signed_differences[MOST_ANGLES], rounded[MOST_ANGLES], rests[MOST_CONDITIONS];
+    int32_t rounded[MOST_ANGLES], rests[MOST_CONDITIONS];
     uint32_t adjusted[MOST_ANGLES];
 };
 
@@ -90,9 +90,6 @@ static const int32_t point_rows[9][6] = {
     {2, 0, -2, -5, -1, 1},
 };
 
-static const int32_t alternate_signs[MOST_ANGLES] = {1, -1, 1, -1, 1, -1, 1, -1};
-static const int32_t triangle_signs[MOST_ANGLES] = {0, 1, -1, 0, 1, -1, 0, 1, -1, 0, 1, -1, 0, 1, -1, 0, 1, -1, 0, 1, -1, 0, 1, -1};
-
 static uint32_t refused(enum refusal_number number, uint32_t place)
 {
     return 256u * (uint32_t)number + place;
@@ -107,11 +104,6 @@ static const struct figure *figure_of(uint32_t code, uint32_t n)
     if (code == 3 && n >= 3 && n <= 8)
         return &polygons[n - 3];
     return NULL;
-}
-
-static const int32_t *sine_signs(const struct figure *f)
-{
-    return f->code == 1 ? alternate_signs : triangle_signs;
 }
 
 /* The lowest place of a value outside low..high, or 0. */
@@ -164,6 +156,17 @@ static void corner_sums(const int32_t *v, int32_t *sums)
     sums[2] = v[5] + v[7];
 }
 
+/* The answer is the sum round the inner point. */
+static int32_t triangle_sums(size_t n, const int32_t *v, int32_t *sums)
+{
+    int32_t horizon = 0;
+    for (size_t i = 0; i < n; i++, v += 3) {
+        sums[i] = v[0] + v[1] + v[2];
+        horizon += v[0];
+    }
+    return horizon;
+}
+
 /* The sum of the values in each condition. */
 static void condition_sums(const struct figure *f, const int32_t *v, int32_t *sums)
 {
@@ -171,26 +174,23 @@ static void condition_sums(const struct figure *f, const int32_t *v, int32_t *su
         quadrilateral_sums(v, sums);
         return;
     }
-    int32_t horizon = 0;
-    for (uint32_t i = 0; i < f->n; i++) {
-        sums[i] = v[3 * i] + v[3 * i + 1] + v[3 * i + 2];
-        horizon += v[3 * i];
-    }
+    const int32_t horizon = triangle_sums(f->n, v, sums);
     if (f->code == 2)
         corner_sums(v, sums + 3);
     else
         sums[f->n] = horizon;
 }
 
-static void polygon_numerators(const struct figure *f, const int32_t *w, int32_t *numerators)
+static void polygon_numerators(size_t n, const int32_t *w, int32_t *numerators)
 {
-    int32_t total = 0;
-    for (uint32_t i = 0; i < f->n; i++)
-        total += w[i];
-    int32_t horizon = w[f->n], twice_n = 2 * (int32_t)f->n;
-    for (uint32_t i = 0; i < f->n; i++) {
-        numerators[3 * i] = -twice_n * w[i] + 2 * total - 6 * horizon;
-        numerators[3 * i + 1] = numerators[3 * i + 2] = -twice_n * w[i] - total + 3 * horizon;
+    int32_t common = -3 * w[n]; /* T - 3h */
+    for (size_t i = 0; i < n; i++)
+        common += w[i];
+    const int32_t of_its_own = -2 * (int32_t)n;
+    for (size_t i = 0; i < n; i++, numerators += 3) {
+        const int32_t own = of_its_own * w[i];
+        numerators[0] = own + 2 * common;
+        numerators[1] = numerators[2] = own - common;
     }
 }
 
@@ -207,7 +207,7 @@ static void point_numerators(const int32_t *w, int32_t *numerators)
 static void first_numerators(const struct figure *f, const int32_t *w, int32_t *numerators)
 {
     if (f->code == 3) {
-        polygon_numerators(f, w, numerators);
+        polygon_numerators(f->n, w, numerators);
     } else if (f->code == 2) {
         point_numerators(w, numerators);
     } else {
@@ -229,18 +229,17 @@ static void subtract_targets(const struct figure *f, const uint32_t *fixed, int3
         sums[f->n] -= 2 * HALF_CIRCLE;
 }
 
-/* Nearest whole number, halves away from zero. */
+/* Nearest whole number, halves away from zero, since C's division cuts toward zero; of an odd denominator no quotient is a half. */
 static int32_t rounded_tenths(int32_t numerator, int32_t denominator)
 {
-    int32_t half = denominator / 2; /* every D is even */
-    return numerator < 0 ? -((half - numerator) / denominator) : (half + numerator) / denominator;
+    const int32_t half = denominator / 2;
+    return (numerator + (numerator < 0 ? -half : half)) / denominator;
 }
 
 static int64_t rounded_wide(int64_t numerator, int64_t denominator)
 {
-    int64_t magnitude = numerator < 0 ? -numerator : numerator;
-    int64_t nearest = (2 * magnitude + denominator) / (2 * denominator);
-    return numerator < 0 ? -nearest : nearest;
+    const int64_t half = denominator / 2;
+    return (numerator + (numerator < 0 ? -half : half)) / denominator;
 }
 
 static bool is_angle(int64_t tenths)
@@ -251,22 +250,23 @@ static bool is_angle(int64_t tenths)
 /* Numbers 6 and 7, once every value is known to lie in its range. */
 static uint32_t work_first(const struct figure *f, uint32_t limit, const uint32_t *angles, const uint32_t *fixed, struct first_work *out)
 {
-    const int32_t most = limit ? (int32_t)limit : DEFAULT_LIMIT;
+    const int32_t most = limit ? (int32_t)limit : DEFAULT_LIMIT, denominator = f->denominator;
+    const uint32_t angle_count = f->angles, condition_count = f->conditions;
     condition_sums(f, (const int32_t *)angles, out->misclosures);
     subtract_targets(f, fixed, out->misclosures);
-    for (uint32_t j = 0; j < f->conditions; j++)
+    for (uint32_t j = 0; j < condition_count; j++)
         if (out->misclosures[j] < -most || out->misclosures[j] > most)
             return refused(MISCLOSURE, j + 1);
     first_numerators(f, out->misclosures, out->numerators);
-    for (uint32_t i = 0; i < f->angles; i++) {
-        out->rounded[i] = rounded_tenths(out->numerators[i], f->denominator);
-        int32_t corrected = (int32_t)angles[i] + out->rounded[i];
+    for (uint32_t i = 0; i < angle_count; i++) {
+        const int32_t rounded = rounded_tenths(out->numerators[i], denominator), corrected = (int32_t)angles[i] + rounded;
         if (!is_angle(corrected))
             return refused(RESULT_RANGE, i + 1);
+        out->rounded[i] = rounded;
         out->corrected[i] = (uint32_t)corrected;
     }
     condition_sums(f, out->rounded, out->rests);
-    for (uint32_t j = 0; j < f->conditions; j++)
+    for (uint32_t j = 0; j < condition_count; j++)
         out->rests[j] += out->misclosures[j];
     return 0;
 }
@@ -278,24 +278,49 @@ static bool beyond_tolerance(int64_t sine_misclosure, uint32_t tolerance, int64_
     return 100 * magnitude * magnitude > (wide)(tolerance * tolerance) * (wide)difference_squares;
 }
 
-/* W and A; the answer is the sum of the squares of d. */
+/* One angle with sign + and the next with sign -: their d, and what they add to W and to the sum of the squares of d. */
+static void add_pair(const uint32_t *log_sines, const int32_t *differences, int32_t *d, int64_t *sine_misclosure, int64_t *squares)
+{
+    d[0] = differences[0];
+    d[1] = -differences[1];
+    *sine_misclosure += (int64_t)log_sines[0] - log_sines[1];
+    *squares += d[0] * d[0] + d[1] * d[1];
+}
+
+/* W and d; the answer is the sum of the squares of d. */
+static int64_t sign_sines(const struct figure *f, const uint32_t *log_sines, const int32_t *differences, int32_t *d,
+    int64_t *sine_misclosure)
+{
+    int64_t misclosure = 0, squares = 0;
+    if (f->code == 1) {
+        for (uint32_t i = 0; i < f->angles; i += 2)
+            add_pair(log_sines + i, differences + i, d + i, &misclosure, &squares);
+    } else {
+        for (uint32_t i = 0; i < f->angles; i += 3) {
+            d[i] = 0;
+            add_pair(log_sines + i + 1, differences + i + 1, d + i + 1, &misclosure, &squares);
+        }
+    }
+    *sine_misclosure = misclosure;
+    return squares;
+}
+
+/* W, A and S; the answer is the sum of the squares of d. */
 static int64_t reduce_sines(const struct figure *f, const uint32_t *log_sines, const int32_t *differences, struct second_work *out)
 {
-    const int32_t *signs = sine_signs(f);
-    int32_t *d = out->signed_differences, sums[MOST_CONDITIONS], taken[MOST_ANGLES];
-    int64_t squares = 0;
-    out->sine_misclosure = out->square_sum = 0;
-    for (uint32_t i = 0; i < f->angles; i++) {
-        d[i] = signs[i] * differences[i];
-        squares += (int64_t)d[i] * d[i];
-        out->sine_misclosure += (int64_t)signs[i] * log_sines[i];
-    }
+    int32_t d[MOST_ANGLES], sums[MOST_CONDITIONS], taken[MOST_ANGLES];
+    const int64_t squares = sign_sines(f, log_sines, differences, d, &out->sine_misclosure);
     condition_sums(f, d, sums);
     first_numerators(f, sums, taken);
-    for (uint32_t i = 0; i < f->angles; i++) {
-        out->reduced[i] = f->denominator * d[i] + taken[i];
-        out->square_sum += out->reduced[i] * out->reduced[i];
+    const uint32_t angle_count = f->angles;
+    const int32_t denominator = f->denominator;
+    int64_t square_sum = 0;
+    for (uint32_t i = 0; i < angle_count; i++) {
+        const int64_t reduced = denominator * d[i] + taken[i];
+        out->reduced[i] = reduced;
+        square_sum += reduced * reduced;
     }
+    out->square_sum = square_sum;
     return squares;
 }
 
@@ -308,13 +333,14 @@ static uint32_t work_second(const struct figure *f, uint32_t tolerance, const ui
         return refused(NO_SINE_PART, 0);
     if (beyond_tolerance(out->sine_misclosure, tolerance ? tolerance : DEFAULT_TOLERANCE, squares))
         return refused(TOLERANCE, 0);
-    const int64_t factor = -100 * (int64_t)f->denominator * out->sine_misclosure;
-    for (uint32_t i = 0; i < f->angles; i++) {
-        out->numerators[i] = factor * out->reduced[i];
-        const int64_t rounded = rounded_wide(out->numerators[i], out->square_sum);
+    const int64_t factor = -100 * (int64_t)f->denominator * out->sine_misclosure, square_sum = out->square_sum;
+    const uint32_t angle_count = f->angles;
+    for (uint32_t i = 0; i < angle_count; i++) {
+        const int64_t numerator = factor * out->reduced[i], rounded = rounded_wide(numerator, square_sum);
         const int64_t adjusted = (int64_t)angles[i] + rounded;
         if (!is_angle(adjusted))
             return refused(RESULT_RANGE, i + 1);
+        out->numerators[i] = numerator;
         out->rounded[i] = (int32_t)rounded;
         out->adjusted[i] = (uint32_t)adjusted;
     }
@@ -377,14 +403,34 @@ uint32_t peer_second_pass(uint32_t code, uint32_t n, uint32_t tolerance, const u
 
 /* --- packed sheets --- */
 
+/* The most significant byte first, as on a sheet; a compiler makes one load and one store of these. */
+static inline uint32_t four_bytes(const uint8_t *at)
+{
+    return (uint32_t)at[0] << 24 | (uint32_t)at[1] << 16 | (uint32_t)at[2] << 8 | at[3];
+}
+
+static inline void store_four_bytes(uint8_t *at, uint32_t bytes)
+{
+    at[0] = (uint8_t)(bytes >> 24);
+    at[1] = (uint8_t)(bytes >> 16);
+    at[2] = (uint8_t)(bytes >> 8);
+    at[3] = (uint8_t)bytes;
+}
+
 struct bits_in {
-    const uint8_t *next;
+    const uint8_t *next, *end;
     uint64_t held;
     unsigned count;
 };
 
-static uint32_t take(struct bits_in *in, unsigned width)
+/* No field is wider than 27 bits, so what is held stays under 26 + 32 bits. */
+static inline uint32_t take(struct bits_in *in, unsigned width)
 {
+    if (in->count < width && in->end - in->next >= 4) {
+        in->held = in->held << 32 | four_bytes(in->next);
+        in->next += 4;
+        in->count += 32;
+    }
     while (in->count < width) {
         in->held = in->held << 8 | *in->next++;
         in->count += 8;
@@ -399,14 +445,26 @@ struct bits_out {
     unsigned count;
 };
 
-static void put(struct bits_out *out, unsigned width, uint32_t value)
+static inline void put(struct bits_out *out, unsigned width, uint32_t value)
 {
     out->held = out->held << width | value;
     out->count += width;
+    if (out->count >= 32) {
+        out->count -= 32;
+        store_four_bytes(out->next, (uint32_t)(out->held >> out->count));
+        out->next += 4;
+    }
+}
+
+/* What put still holds, and the filling. */
+static void put_last_bytes(struct bits_out *out)
+{
     while (out->count >= 8) {
         out->count -= 8;
         *out->next++ = (uint8_t)(out->held >> out->count);
     }
+    if (out->count)
+        *out->next = (uint8_t)(out->held << (8 - out->count));
 }
 
 static size_t sheet_size(uint32_t kind, const struct figure *f)
@@ -429,10 +487,10 @@ static uint32_t take_head(const uint8_t *sheet, size_t size, struct values *v)
 }
 
 /* Number 13 is tested before the values, so the filling is looked at once all fields are taken. */
-static uint32_t take_values(const uint8_t *sheet, struct values *v)
+static uint32_t take_values(const uint8_t *sheet, size_t size, struct values *v)
 {
     const struct figure *f = v->figure;
-    struct bits_in in = {sheet + 2, sheet[1] & 15, 4};
+    struct bits_in in = {sheet + 2, sheet + size, sheet[1] & 15, 4};
     v->limit = take(&in, v->kind == 1 ? 10 : 6);
     if (v->kind == 1) {
         for (uint32_t i = 0; i < f->angles; i++)
@@ -491,7 +549,7 @@ uint32_t peer_read(const uint8_t *sheet, size_t size, uint32_t *head, size_t hea
     if (head_count != 4 || angle_count != f->angles || fixed_count != fixed_here || log_sine_count != sines_here
         || difference_count != sines_here)
         return refused(WRONG_LENGTH, 0);
-    answer = take_values(sheet, &v);
+    answer = take_values(sheet, size, &v);
     if (!answer)
         answer = judge_values(&v);
     if (answer)
@@ -559,14 +617,13 @@ uint32_t peer_write(uint32_t kind, uint32_t code, uint32_t n, uint32_t limit_or_
         put_first(&out, limit_or_tolerance, angles, angle_count, fixed, fixed_count);
     else
         put_second(&out, limit_or_tolerance, angles, log_sines, differences, angle_count);
-    if (out.count)
-        put(&out, 8 - out.count, 0);
+    put_last_bytes(&out);
     return 0;
 }
 
 /* --- the printed text --- */
 
-static uint8_t *put_word(uint8_t *at, const char *word)
+static inline uint8_t *put_word(uint8_t *at, const char *word)
 {
     const size_t length = strlen(word);
     memcpy(at, word, length);
@@ -645,7 +702,7 @@ static uint32_t take_sheet(const uint8_t *sheet, size_t size, struct values *v)
     if (!answer && size != sheet_size(v->kind, v->figure))
         answer = refused(SHEET_LENGTH, 0);
     if (!answer)
-        answer = take_values(sheet, v);
+        answer = take_values(sheet, size, v);
     return answer ? answer : judge_values(v);
 }
 

@@ -23,10 +23,7 @@ use Rattle.method.proofs.PassRows.{one-judged}
 use Rattle.method.proofs.Refusals.{first-in-table}
 use Rattle.method.proofs.SecondAccepted.{accepted}
 use Rattle.passes.specs.Promises.{firstLengthsLent, firstRowsOf, SecondGiven, secondLengthsLent, secondValues}
-use Rattle.worked.specs.declared.Outcome.{Outcome}
-use Rattle.worked.specs.declared.Outcome.the-variants.{First, Second}
-use Rattle.worked.specs.declared.WorkedSheet.{WorkedSheet}
-use Rattle.worked.specs.Worked.{workedOf, secondSheetLengths, differencesIn}
+use Rattle.worked.specs.Worked.{Outcome, First, Second, WorkedSheet, workedOf, secondSheetLengths, differencesIn}
 use Rattle.worked.proofs.ShownAs.{FirstShown, SecondShown, RefusedShown, shown-as}
 use Rattle.controller.specs.Answer.{lengthsWith}
 use Rattle.controller.specs.Promises.{sumsLent, sumsOf, sumsRows}

@@ -21,13 +21,14 @@ use Rattle.text.proofs.Numbers.{decimal-words, read-decimal}
 use Rattle.text.proofs.Tests.{and-both}
 use Rattle.lines.specs.Lines.{figureWord, refusedWord, refusedText, refusedLines}
 use Rattle.method.specs.SecondPass.{sineMisclosure, sumOfSquares}
+use Rattle.method.proofs.FirstAccepted as First
 use Rattle.method.proofs.SecondAccepted.{accepted}
-use Rattle.worked.specs.declared.WorkedSheet.{WorkedSheet}
-use Rattle.worked.specs.Worked.{workedOf, secondSheetLengths, outcomeTold, sheetRows}
+use Rattle.worked.specs.Worked.{WorkedSheet, firstSheetLengths, workedOf, secondSheetLengths, outcomeTold, sheetRows}
 use Rattle.worked.proofs.Refusals.{sheet-rows-known, worked-told}
 use Rattle.worked.proofs.ShownAs.{FirstShown, SecondShown, RefusedShown, shown-as}
 use Rattle.report.specs.declared.reporting.Reported.the-variants.{Written}
-use Rattle.report.specs.Report.{textOf, reportText, hasRoom, reportedOf, afterReport}
+use Rattle.worked.specs.Texts.{textOf}
+use Rattle.report.specs.Report.{reportText, hasRoom, reportedOf, afterReport}
 use Rattle.controller.specs.Promises.{TextLent, textLent, textLaid, reportRows}
 use Rattle.controller.proofs.Answers.{answered-done}
 use Rattle.controller.proofs.PlaceBounds.{report-within}
@@ -77,8 +78,10 @@ module _ (sheet : List ℕ) where
       let f = shown .figure in
       let a = shown .angles in
       let x = shown .fixed in
+      let ok = First.accepted f (shown .limit) a x (firstSheetLengths f a x) (shown .passed) in
       subst (λ (s : WorkedSheet). FirstPage f (textOf s)) (sym (shown .is))
-      (first-page f _ _ _ _ _ _ (are-least-squares f _ _ (first-numerators f a x) .cancel) (first-rests f a x) (first-results f a x))
+      (first-page f _ _ _ _ _ _ (are-least-squares f _ _ (first-numerators f a x) .cancel) (first-rests f a x)
+      (λ i h. first-results f a x i h (ok .result-within i h .0)))
 
   second-printed : (shown : SecondShown sheet (workedOf sheet)) → SecondPage (shown .figure) (reportText sheet)
   unfolding textOf
@@ -91,7 +94,8 @@ module _ (sheet : List ℕ) where
       let close = sine-closes f d _ _ (sineMisclosure f l) (sumOfSquares f d) (second-reduced f a l d) (second-numerators f a l d) (second-squares f a l d)
       (not-zero (sumOfSquares f d) (ok .squares-positive)) in
       subst (λ (s : WorkedSheet). SecondPage f (textOf s)) (sym (shown .is))
-      (second-page f _ _ _ _ _ _ _ _ (second-numerators f a l d) (close .linear) (second-rests f a l d) (second-results f a l d))
+      (second-page f _ _ _ _ _ _ _ _ (second-numerators f a l d) (close .linear) (second-rests f a l d)
+      (λ i h. second-results f a l d i h (ok .result-within i h .0)))
 
   refused-printed : (shown : RefusedShown (workedOf sheet)) → reportText sheet ≡ refusedLine (numberOf (shown .refusal)) (placeOf (shown .refusal))
   unfolding textOf refusedText refusedLines

@@ -1,4 +1,5 @@
 pub mod Certificate
+pub mod Families
 pub mod Figures
 pub mod LeastSquares
 pub mod Naming

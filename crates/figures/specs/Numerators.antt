@@ -2,12 +2,10 @@
 use Prim.Native.Nat.{ℕ, zero, suc}
 use mathlib.Core.List.{List, [], _∷_, map}
 use lib.IntN.{ℤ, pos, _+ℤ_, _*ℤ_}
-use Rattle.whole.specs.Lists.{listed, padded}
+use Rattle.whole.specs.Lists.{padded}
 use Rattle.whole.specs.Sums.{applied, table}
 use Rattle.figures.specs.declared.Figure.{Figure}
-use Rattle.figures.specs.declared.Target.{Target}
-use Rattle.figures.specs.declared.Target.the-variants.{NoCondition}
-use Rattle.figures.specs.Figure.{Condition, description, denominator, conditionCount, membersOf}
+use Rattle.figures.specs.Figure.{description, denominator, conditionCount, membersOf}
 
 -- the sum of x over the angles of a condition; x, and the condition, by the index, counted from 0
 unfoldable pub sumOver : List ℕ → (ℕ → ℤ) → ℤ
@@ -36,19 +34,6 @@ mostAngles = 24
 abbrev pub mostMembers : ℕ
 mostMembers = 8
 
--- the natural tables brought to one size, filled with 0
+-- the natural table brought to one size, filled with 0
 abbrev pub paddedRows : Figure → List (List ℤ)
 paddedRows f = padded mostAngles (padded mostConditions (pos 0) []) (map (padded mostConditions (pos 0)) (description f .rows))
-
-abbrev pub paddedMembers : Figure → List (List ℕ)
-paddedMembers f =
-    padded mostConditions (padded mostMembers 0 []) (map (λ (c : Condition). padded mostMembers 0 (c .angles)) (description f .conditions))
-
-abbrev pub paddedTargets : Figure → List Target
-paddedTargets f = padded mostConditions NoCondition (map (λ (c : Condition). c .target) (description f .conditions))
-
-abbrev pub paddedSigns : Figure → List ℤ
-paddedSigns f = padded mostAngles (pos 0) (description f .signs)
-
-unfoldable pub paddedNumerators : Figure → (ℕ → ℤ) → List ℤ
-paddedNumerators f w = listed mostAngles (numerator f w)

@@ -42,6 +42,14 @@ pub struct Counts {
     pub fixed: usize,
 }
 
+// The most that a figure has of each, which is how long the arrays are.
+pub const MOST_ANGLES: usize = 24;
+
+pub const MOST_CONDITIONS: usize = 9;
+
+// A figure's coefficient rows, one type for all figures: an array of arrays, with 0 where a figure has no angle or no condition.
+pub type Rows = [[i8; MOST_CONDITIONS]; MOST_ANGLES];
+
 pub fn figure_of(code: u32, n: u32) -> Named
     ensures { λ r. ⌜ r ≡ figureOf code n ⌝ }
 {

@@ -1,19 +1,22 @@
 -- What the functions lay, piece by piece, are the lines of the definitions. Assumes nothing.
-use mathlib.Core.Path.{_≡_, refl, sym, ap, ap₂, _∙_}
+use mathlib.Core.Path.{_≡_, sym, ap, _∙_}
 use mathlib.Core.List.{List, [], _∷_, _++_, append-assoc, append-nil}
-use Prim.Native.Nat.{ℕ, _+_}
+use Prim.Native.Nat.{ℕ, _≤_}
+use native.Mathlib.Omega.{arith}
 use lib.IntN.{ℤ, pos}
 use Rattle.whole.specs.Lists.{listed}
-use Rattle.whole.specs.Sums.{vector}
 use Rattle.refusals.specs.declared.Refusal.{Refusal}
 use Rattle.refusals.specs.Numbers.{numberOf, placeOf}
 use Rattle.figures.specs.declared.Figure.{Figure}
-use Rattle.figures.specs.Figure.{description, denominator, angleCount, conditionCount}
+use Rattle.figures.specs.declared.Counts.{Counts}
+use Rattle.figures.specs.Figure.{description, denominator, angleCount, conditionCount, countsOf}
+use Rattle.figures.proofs.Figures.{angle-bound, condition-bound}
 use Rattle.text.specs.Text.{space, lineFeed, decimal, spaced, line, lines}
+use Rattle.text.specs.Holds.{Holds}
 use Rattle.text.proofs.Lines.{lines-append}
-use Rattle.lines.specs.Lays.{numbersLine, rowLine, tablesText, figureStart}
-use Rattle.lines.specs.Lines.{figureWord, denominatorWord, wWord, sWord, conditionWord, refusedWord, numbers, figureNamed, firstFigure, firstAngle, firstCondition, firstLines, firstText, secondFigure, secondAngle, secondCondition, secondLines, secondText, refusedLines, refusedText}
-use Rattle.lines.proofs.Laid.{joined-lines, line-more}
+use Rattle.lines.specs.Lays.{Lays, numbersLine, figureStart}
+use Rattle.lines.specs.Lines.{figureWord, denominatorWord, wWord, sWord, refusedWord, figureNamed, firstFigure, secondFigure, refusedLines, refusedText}
+use Rattle.lines.proofs.Laid.{lays-then, lays-as, lays-start, line-more}
 
 -- a part with the space after it, and the rest of its line
 pub part-line : (p q : List ℕ) (ps : List (List ℕ)) → (p ++ (space ∷ [])) ++ line (q ∷ ps) ≡ line (p ∷ q ∷ ps)
@@ -50,39 +53,25 @@ second-figure f w s rest =
     ∙ ap (λ (l : List ℕ). figureStart f ++ l) (part-line wWord (decimal w) (sWord ∷ decimal s ∷ []))
     ∙ figure-line f wWord (decimal w ∷ sWord ∷ decimal s ∷ [])
 
--- ---- The lines of the angles and of the conditions
+-- ---- All lines
 
-tables-lines : (f : Figure) (angles : List (List ℤ)) (angleWidth : ℕ) (conditions : List (List ℤ)) (conditionWidth : ℕ) (angle condition : ℕ → List (List ℕ))
-    → ((i : ℕ) → rowLine [] angles angleWidth i ≡ line (angle i))
-    → ((j : ℕ) → rowLine (conditionWord ++ (space ∷ [])) conditions conditionWidth j ≡ line (condition j))
-    → tablesText f angles angleWidth conditions conditionWidth ≡ lines (listed (angleCount f) angle ++ listed (conditionCount f) condition)
-unfolding tablesText
-tables-lines f angles angleWidth conditions conditionWidth angle condition each-angle each-condition =
-    ap₂ (λ (l m : List ℕ). l ++ m) (joined-lines (angleCount f) (rowLine [] angles angleWidth) angle each-angle)
-    (joined-lines (conditionCount f) (rowLine (conditionWord ++ (space ∷ [])) conditions conditionWidth) condition each-condition)
-    ∙ sym (lines-append (listed (angleCount f) angle) (listed (conditionCount f) condition))
+-- at most as many as the largest figure has
+pub few-lines : (f : Figure) {counts : Counts} → counts ≡ countsOf f → (counts .angles ≤ 24) × (counts .conditions ≤ 24)
+few-lines f counted =
+    (omega (arith, ap (λ (r : Counts). r .angles) counted, angle-bound f), omega (arith, ap (λ (r : Counts). r .conditions) counted, condition-bound f))
 
-pub first-text : (f : Figure) (given numerators rounded results misclosures rests none : List ℤ)
-    → line (firstFigure f) ++ tablesText f (given ∷ numerators ∷ rounded ∷ results ∷ none ∷ []) 5 (misclosures ∷ rests ∷ none ∷ none ∷ none ∷ []) 3
-    ≡ firstText f (vector given) (vector numerators) (vector rounded) (vector results) (vector misclosures) (vector rests)
-unfolding rowLine numbersLine listed firstText firstLines lines
-first-text f given numerators rounded results misclosures rests none =
-    ap (λ (l : List ℕ). line (firstFigure f) ++ l)
-    (tables-lines f (given ∷ numerators ∷ rounded ∷ results ∷ none ∷ []) 5 (misclosures ∷ rests ∷ none ∷ none ∷ none ∷ []) 3
-    (firstAngle (vector given) (vector numerators) (vector rounded) (vector results)) (firstCondition (vector misclosures) (vector rests))
-    (λ i. refl)
-    (λ j. part-line conditionWord (decimal (pos (j + 1))) (numbers (vector misclosures j ∷ vector rests j ∷ []))))
-
-pub second-text : (f : Figure) (w s : ℤ) (given reduced numerators rounded results rests none : List ℤ)
-    → line (secondFigure f w s) ++ tablesText f (given ∷ reduced ∷ numerators ∷ rounded ∷ results ∷ []) 6 (rests ∷ none ∷ none ∷ none ∷ none ∷ []) 2
-    ≡ secondText f w s (vector given) (vector reduced) (vector numerators) (vector rounded) (vector results) (vector rests)
-unfolding rowLine numbersLine listed secondText secondLines lines
-second-text f w s given reduced numerators rounded results rests none =
-    ap (λ (l : List ℕ). line (secondFigure f w s) ++ l)
-    (tables-lines f (given ∷ reduced ∷ numerators ∷ rounded ∷ results ∷ []) 6 (rests ∷ none ∷ none ∷ none ∷ none ∷ []) 2
-    (secondAngle (vector given) (vector reduced) (vector numerators) (vector rounded) (vector results)) (secondCondition (vector rests))
-    (λ i. refl)
-    (λ j. part-line conditionWord (decimal (pos (j + 1))) (numbers (vector rests j ∷ []))))
+-- the figure's line, then one for each of its angles and of its conditions
+module _ (f : Figure) (figure : List (List ℕ)) (angle condition : ℕ → List (List ℕ)) {counts : Counts} {start first second third : List ℕ} {at at′ at″ : ℕ} where
+  pub text-laid : counts ≡ countsOf f → Lays (line figure) start 0 first at → Lays (lines (listed (counts .angles) angle)) first at second at′
+      → Lays (lines (listed (counts .conditions) condition)) second at′ third at″
+      → Holds start (lines (figure ∷ (listed (angleCount f) angle ++ listed (conditionCount f) condition))) third at″
+  unfolding lines
+  text-laid counted figure-laid angles-laid conditions-laid =
+      lays-start
+      (lays-as
+      (ap (λ (r : Counts). line figure ++ (lines (listed (r .angles) angle) ++ lines (listed (r .conditions) condition))) counted
+      ∙ ap (λ (l : List ℕ). line figure ++ l) (sym (lines-append (listed (angleCount f) angle) (listed (conditionCount f) condition))))
+      (lays-then figure-laid (lays-then angles-laid conditions-laid)))
 
 -- ---- Turned back
 

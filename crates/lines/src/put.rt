@@ -1,29 +1,20 @@
-// Lines of words and numbers, and tables of such lines, laid from a position of a lent byte slice. Each function lays one text more after
-// what was laid before it, and answers the position after it.
-ghost use mathlib.Core.Path.{_≡_};
+// Words, numbers and lines of them, laid from a position of a lent byte slice. Each function lays one text more after what was laid
+// before it, and answers the position after it.
 ghost use mathlib.Core.List.{[], _∷_, _++_};
 ghost use Prim.Native.Nat.{_≤_, _<_};
 ghost use lib.IntN.{pos};
-ghost use Rattle.whole.specs.Sums.{table};
 ghost use Rattle.text.specs.Text.{decimal};
-ghost use Rattle.lines.specs.Lays.{Lays, joined, numbersLine, rowAt, rowLine};
-use tables::MOST_ANGLES;
+ghost use Rattle.lines.specs.Lays.{Lays, figureStart, numbersLine};
+use figures::Figure;
 
 // The most numbers of a line: an angle's of kind 2.
 const MOST_NUMBERS: usize = 6;
-
-// The columns of a table: as many as the numbers of a line, less the one that counts the lines.
-const MOST_COLUMNS: usize = 5;
 
 const SPACE: u8 = b' ';
 
 const LINE_FEED: u8 = b'\n';
 
 pub type Numbers = [i64; MOST_NUMBERS];
-
-pub type Column = [i64; MOST_ANGLES];
-
-pub type Columns = [Column; MOST_COLUMNS];
 
 // A word, with the space after it.
 pub(crate) fn put_word(buffer: &mut [u8], at: usize, word: &[u8]) -> usize
@@ -48,7 +39,7 @@ pub(crate) fn put_natural(buffer: &mut [u8], at: usize, value: u64, end: u8) -> 
 }
 
 // The first `count` numbers as a line.
-fn put_numbers(buffer: &mut [u8], at: usize, values: Numbers, count: usize) -> usize
+pub(crate) fn put_numbers(buffer: &mut [u8], at: usize, values: Numbers, count: usize) -> usize
     requires { ⌜ (0 < count) × (count ≤ 6) ⌝ }
     ensures { λ r. ⌜ Lays (numbersLine count values) (now (buffer .entry)) at (now (buffer .exit)) r ⌝ }
 {
@@ -76,60 +67,12 @@ pub(crate) fn put_line(
     put_numbers(buffer, after, values, count)
 }
 
-fn entry(columns: Columns, column: usize, i: usize) -> i64
-    requires { ⌜ (column < 5) × (i < 24) ⌝ }
-    ensures { λ r. ⌜ r ≡ table columns column i ⌝ }
+// How the figure's line begins.
+pub(crate) fn put_figure_start(buffer: &mut [u8], f: Figure) -> usize
+    ensures { λ r. ⌜ Lays (figureStart f) (now (buffer .entry)) 0 (now (buffer .exit)) r ⌝ }
 {
-    columns[column][i]
-}
-
-// The numbers of a table's line: the number of the angle or condition, and what each column has for it.
-fn row_of(columns: Columns, i: usize) -> Numbers
-    requires { ⌜ i < 24 ⌝ }
-    ensures { λ r. ⌜ r ≡ rowAt columns i ⌝ }
-{
-    [
-        (i + 1) as i64,
-        entry(columns, 0, i),
-        entry(columns, 1, i),
-        entry(columns, 2, i),
-        entry(columns, 3, i),
-        entry(columns, 4, i),
-    ]
-}
-
-// The line of a table for one angle or condition.
-fn put_row(
-    buffer: &mut [u8],
-    at: usize,
-    word: &[u8],
-    columns: Columns,
-    width: usize,
-    i: usize,
-) -> usize
-    requires { ⌜ (0 < width) × (width ≤ 6) × (i < 24) ⌝ }
-    ensures { λ r. ⌜ Lays (rowLine (now (word .entry)) columns width i) (now (buffer .entry)) at (now (buffer .exit)) r ⌝ }
-{
-    put_line(buffer, at, word, row_of(columns, i), width)
-}
-
-// A line for each of `count` angles or conditions: the word, if any, with the space after it, and the first `width` of its numbers.
-pub(crate) fn put_rows(
-    buffer: &mut [u8],
-    at: usize,
-    word: &[u8],
-    count: usize,
-    columns: Columns,
-    width: usize,
-) -> usize
-    requires { ⌜ (0 < width) × (width ≤ 6) × (count ≤ 24) ⌝ }
-    ensures { λ r. ⌜ Lays (joined count (rowLine (now (word .entry)) columns width)) (now (buffer .entry)) at (now (buffer .exit)) r ⌝ }
-{
-    let mut position = at;
-    let mut done = 0;
-    while done < count {
-        position = put_row(buffer, position, word, columns, width, done);
-        done += 1;
-    }
-    position
+    let name = figures::name_of(f);
+    let after_word = put_word(buffer, 0, b"figure ");
+    let after_code = put_natural(buffer, after_word, name.code as u64, SPACE);
+    put_natural(buffer, after_code, name.n as u64, SPACE)
 }

@@ -1,3 +1,4 @@
+pub mod FirstAccepted
 mod FirstExamples
 pub mod PassRows
 pub mod Refusals

@@ -1,26 +1,18 @@
 // The order of the first pass: document 01, "Numbers given when a sheet is turned back".
 ghost use mathlib.Core.Path.{_≡_};
 ghost use mathlib.Core.List.{_∷_};
-ghost use lib.ListN.{length, take};
+ghost use lib.ListN.{length};
 ghost use Rattle.refusals.specs.Order.{judged};
-ghost use Rattle.figures.specs.Figure.{angleCount, conditionCount};
-ghost use Rattle.method.specs.FirstPass.{firstResultLengths, givenRows, workRows};
-use crate::Column;
+ghost use Rattle.method.specs.FirstPass.{firstResultLengths, givenRows};
 use crate::ResultLengths;
-use crate::in_force;
 use figures::Figure;
+use judging::angles_verdict;
+use judging::fixed_verdict;
+use judging::lengths_verdict;
+use judging::limit_or_tolerance_verdict;
 use refusals::MOST_LIMIT;
 use refusals::Verdict;
-use refusals::angles_verdict;
 use refusals::first_to_fail;
-use refusals::fixed_verdict;
-use refusals::lengths_verdict;
-use refusals::limit_or_tolerance_verdict;
-use refusals::misclosures_verdict;
-use refusals::results_verdict;
-
-// Document 01, "Units and ranges": the misclosure limit, in tenths, that 0 stands for.
-const DEFAULT_LIMIT: u32 = 150;
 
 // Of misclosures, numerators, rounded corrections, corrected angles and rests.
 pub fn first_result_lengths(f: Figure) -> ResultLengths
@@ -70,20 +62,4 @@ pub fn first_given_verdict(
         lengths,
         first_to_fail(range, first_to_fail(angle, fixed_angle)),
     )
-}
-
-// Numbers 6 and 7: what the work says. A column may be longer than the figure; the rest of it says nothing.
-pub fn first_work_verdict(f: Figure, limit: u32, misclosures: Column, corrected: Column) -> Verdict
-    ensures { λ verdict.
-        ⌜ verdict ≡ judged (workRows limit (take (conditionCount f) misclosures) (take (angleCount f) corrected)) ⌝ }
-{
-    let counts = tables::counts_of(f);
-    let conditions = counts.conditions;
-    let angles = counts.angles;
-    let misclosure = misclosures_verdict(
-        &misclosures[..conditions],
-        in_force(limit, DEFAULT_LIMIT),
-    );
-    let result = results_verdict(&corrected[..angles]);
-    first_to_fail(misclosure, result)
 }

@@ -5,16 +5,11 @@ mod second;
 
 pub use first::first_given_verdict;
 pub use first::first_result_lengths;
-pub use first::first_work_verdict;
 pub use second::SecondAnswer;
 pub use second::second_given_verdict;
 pub use second::second_result_lengths;
 ghost use mathlib.Core.Path.{_≡_};
 ghost use Rattle.method.specs.Pass.{inForce};
-use tables::MOST_ANGLES;
-
-// A column of the work: a number for each angle or condition.
-pub type Column = [i64; MOST_ANGLES];
 
 // The lengths of the five slices that a pass is lent for its results.
 pub type ResultLengths = [usize; 5];

@@ -7,14 +7,14 @@ ghost use Rattle.refusals.specs.Order.{judged};
 ghost use Rattle.method.specs.SecondPass.{secondResultLengths, entryRows};
 use crate::ResultLengths;
 use figures::Figure;
+use judging::angles_verdict;
+use judging::lengths_verdict;
+use judging::limit_or_tolerance_verdict;
+use judging::sine_entries_verdict;
 use refusals::MOST_TOLERANCE;
 use refusals::Refusal;
 use refusals::Verdict;
-use refusals::angles_verdict;
 use refusals::first_to_fail;
-use refusals::lengths_verdict;
-use refusals::limit_or_tolerance_verdict;
-use refusals::sine_entries_verdict;
 
 // W and S, or why the sheet is turned back.
 pub enum SecondAnswer {

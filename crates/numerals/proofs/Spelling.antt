@@ -1,64 +1,42 @@
--- A number spelled from its last digit backwards, into a room that the text is to end with: what the loop of `numerals::digits` keeps, and its steps.
--- Assumes nothing.
-use mathlib.Core.Path.{_≡_, sym, ap, ap₂, _∙_, subst}
-use mathlib.Core.List.{List, _∷_, _++_, append-nil}
-use Prim.Native.Nat.{ℕ, zero, suc, _+_, _-_, _/_, _%_, _^_, _≤_, _<_}
-use native.Mathlib.Nat.{le-of-eq, pow-suc, div-lt-iff-lt-mul}
-use native.Mathlib.Numerals.{add-one}
+-- A number's digits laid from the last one backwards: what the loop of `numerals::put_digits` keeps, and its steps. Assumes nothing.
+use mathlib.Core.Path.{_≡_, sym, ap, ap₂, _∙_}
+use mathlib.Core.List.{List, [], _∷_, _++_}
+use Prim.Native.Nat.{ℕ, _+_, _-_, _/_, _%_, _≤_, _<_}
 use native.Mathlib.Omega.{arith}
-use lib.Dec.{lit<}
-use lib.ListN.{length, drop, set, length-set, drop-of-length-le}
-use lib.Seq.{drop-cons, drop-set-lt, getD-set-same, append-snoc}
-use Rattle.text.specs.Text.{digit, natural}
-use Rattle.text.proofs.Numbers.{natural-last, natural-before}
+use lib.ListN.{length, set, length-append, length-set}
+use Rattle.text.specs.Text.{digit, natural, laid}
+use Rattle.text.proofs.Laying.{laid-byte, laid-last}
+use Rattle.text.proofs.Numbers.{natural-last, natural-before, natural-some}
 
--- the digits after those of `rest` stand at the end of the room, and there are enough places before them
-pub record Spelling (n : ℕ) (room : List ℕ) (first rest : ℕ) : Type 0 where
-  pub size : length room ≡ 21
-  pub inside : (0 < first) × (first ≤ 20)
-  pub places : rest < 10 ^ first
-  pub text : natural n ≡ natural rest ++ drop (first + 1) room
+pub length-last : (n : ℕ) → n < 10 → length (natural n) ≡ 1
+length-last n h = ap length (natural-last n h)
 
-pub spelling-none : (n : ℕ) (room : List ℕ) → length room ≡ 21 → n < 2 ^ 64 → Spelling n room 20 n
-spelling-none n room e h = record {
-  size = e;
-  inside = omega arith;
-  places = omega arith;
-  text = sym (ap (λ (l : List ℕ). natural n ++ l) (drop-of-length-le room (le-of-eq e)) ∙ append-nil (natural n));
-}
+pub length-before : (n : ℕ) → 10 ≤ n → length (natural n) ≡ length (natural (n / 10)) + 1
+length-before n h = ap length (natural-before n h) ∙ length-append (natural (n / 10)) (digit (n % 10) ∷ [])
 
--- a number of two digits or more takes two places or more, and without its last digit one place less
-fewer-places : (k n : ℕ) → 10 ≤ n → n < 10 ^ k → (1 < k) × (n / 10 < 10 ^ (k - 1))
-fewer-places zero n h b = absurd (omega arith)
-fewer-places (suc zero) n h b = absurd (omega arith)
-fewer-places (suc (suc k)) n h b =
-    let one-less : suc k ≡ suc (suc k) - 1 = omega arith in
-    (omega arith, subst (λ (j : ℕ). n / 10 < 10 ^ j) one-less (div-lt-iff-lt-mul (lit< tt) .1 (rw (pow-suc 10 (suc k)) at b)))
+-- the digits of `rest`, which end at `place`, are still to be laid
+pub record Spelling (start : List ℕ) (at n : ℕ) (buffer : List ℕ) (rest place : ℕ) : Type 0 where
+  pub size : length buffer ≡ length start
+  pub inside : place < length buffer
+  pub last : place + 1 ≡ at + length (natural rest)
+  pub text : laid buffer at (natural rest) ≡ laid start at (natural n)
 
--- a byte stored before the end of a room, and what comes after it
-pub stored : (room : List ℕ) (i b : ℕ) → i < length room → drop i (set room i b) ≡ b ∷ drop (i + 1) room
-stored room i b h =
-    drop-cons (set room i b) i 0 (rw length-set h)
-    ∙ ap₂ (λ (x : ℕ) (l : List ℕ). x ∷ l) (getD-set-same room i b 0 h) (drop-set-lt (suc i) room i b (omega arith) ∙ ap (λ (k : ℕ). drop k room) (sym (add-one i)))
-
-module _ {n : ℕ} {room : List ℕ} {first rest : ℕ} (so-far : Spelling n room first rest) where
-  pub spelling-more : (b : ℕ) → b ≡ digit (rest % 10) → 10 ≤ rest → Spelling n (set room first b) (first - 1) (rest / 10)
+module _ {start buffer : List ℕ} {at n rest place : ℕ} (so-far : Spelling start at n buffer rest place) where
+  pub spelling-more : (b : ℕ) → b ≡ digit (rest % 10) → 10 ≤ rest → Spelling start at n (set buffer place b) (rest / 10) (place - 1)
   spelling-more b e h =
-      let two : 1 < first = fewer-places first rest h (so-far .places) .0 in
-      let back : first - 1 + 1 ≡ first = omega arith in
+      let before = natural (rest / 10) in
+      let here : at + length before ≡ place = omega (arith, length-before rest h) in
       record {
-        size = length-set room first b ∙ so-far .size;
-        inside = omega arith;
-        places = fewer-places first rest h (so-far .places) .1;
+        size = length-set buffer place b ∙ so-far .size;
+        inside = rw (length-set buffer place b) (omega arith);
+        last = omega (arith, natural-some (rest / 10));
         text =
-            so-far .text ∙ ap (λ (l : List ℕ). l ++ drop (first + 1) room) (natural-before rest h)
-            ∙ append-snoc (natural (rest / 10)) (digit (rest % 10)) (drop (first + 1) room)
-            ∙ ap (λ (x : ℕ). natural (rest / 10) ++ (x ∷ drop (first + 1) room)) (sym e)
-            ∙ ap (λ (l : List ℕ). natural (rest / 10) ++ l) (sym (stored room first b (omega arith)))
-            ∙ ap (λ (k : ℕ). natural (rest / 10) ++ drop k (set room first b)) (sym back);
+            ap (λ (k : ℕ). laid (set buffer k b) at before) (sym here) ∙ sym (laid-last buffer at before b (omega arith))
+            ∙ ap (λ (d : ℕ). laid buffer at (before ++ (d ∷ []))) e ∙ ap (laid buffer at) (sym (natural-before rest h)) ∙ so-far .text;
       }
 
-  pub spelled : (b : ℕ) → b ≡ digit rest → rest < 10 → drop first (set room first b) ≡ natural n
+  pub spelled : (b : ℕ) → b ≡ digit rest → rest < 10 → set buffer place b ≡ laid start at (natural n)
   spelled b e h =
-      stored room first b (omega arith) ∙ ap (λ (x : ℕ). x ∷ drop (first + 1) room) e
-      ∙ sym (so-far .text ∙ ap (λ (l : List ℕ). l ++ drop (first + 1) room) (natural-last rest h))
+      let here : place ≡ at = omega (arith, length-last rest h) in
+      ap₂ (λ (k d : ℕ). set buffer k d) here e ∙ sym (laid-byte buffer at (digit rest) (omega arith))
+      ∙ ap (laid buffer at) (sym (natural-last rest h)) ∙ so-far .text

@@ -1,25 +1,27 @@
 // Numbers laid as decimal text in a lent byte slice: document 01, "Sheets worked through". What a number's text is, and what a text without
 // room leaves, are definitions of `text`; every public function answers every input as they say.
 ghost use mathlib.Core.Path.{_≡_};
-ghost use Prim.Native.Nat.{_≤_, _<_};
+ghost use Prim.Native.Nat.{_+_, _≤_, _<_};
 ghost use lib.IntN.{pos};
-ghost use lib.ListN.{length, drop};
+ghost use lib.ListN.{length};
 ghost use Rattle.text.specs.Text.{laid, after, natural};
 ghost use Rattle.text.specs.Text.{decimal as Text·decimal, digit as Text·digit};
-use text::put_word;
 
-// The room for any number: 20 digits of a u64, and a minus sign before them.
-const LONGEST: usize = 21;
+// The most digits of a u64.
+const MOST_DIGITS: usize = 20;
 
 // Lays a number in decimal.
 pub fn put_number(buffer: &mut [u8], at: usize, value: i64) -> usize
     ensures { λ _. ⌜ now (buffer .exit) ≡ laid (now (buffer .entry)) at (Text·decimal value) ⌝ }
     ensures { λ r. ⌜ r ≡ after (length (now (buffer .entry))) at (Text·decimal value) ⌝ }
 {
-    let spelled = decimal(value);
-    let room = spelled.room;
-    let first = spelled.first;
-    put_word(buffer, at, &room[first..])
+    let size = whole::magnitude(value);
+    if value < 0 {
+        let after_sign = text::put_byte(buffer, at, b'-');
+        put_natural(buffer, after_sign, size)
+    } else {
+        put_natural(buffer, at, size)
+    }
 }
 
 // Lays a number from 0 up, of the whole unsigned range.
@@ -27,45 +29,53 @@ pub fn put_natural(buffer: &mut [u8], at: usize, value: u64) -> usize
     ensures { λ _. ⌜ now (buffer .exit) ≡ laid (now (buffer .entry)) at (Text·decimal (pos value)) ⌝ }
     ensures { λ r. ⌜ r ≡ after (length (now (buffer .entry))) at (Text·decimal (pos value)) ⌝ }
 {
-    let spelled = digits(value);
-    let room = spelled.room;
-    let first = spelled.first;
-    put_word(buffer, at, &room[first..])
-}
-
-// A number's text, which is spelled from its last digit backwards: it ends where the room ends.
-struct Spelled {
-    room: [u8; LONGEST],
-    first: usize,
-}
-
-fn decimal(value: i64) -> Spelled
-    ensures { λ r. ⌜ (length (r .room) ≡ 21) × (r .first ≤ 21) × (drop (r .first) (r .room) ≡ Text·decimal value) ⌝ }
-{
-    let spelled = digits(whole::magnitude(value));
-    if value < 0 {
-        let mut room = spelled.room;
-        let first = spelled.first - 1;
-        room[first] = b'-';
-        Spelled { room, first }
-    } else {
-        spelled
+    let count = digit_count(value);
+    let size = buffer.len();
+    if at <= size {
+        if count <= size - at {
+            put_digits(buffer, at, count, value);
+            return at + count;
+        }
     }
+    put_cut(buffer, at, count, value)
 }
 
-fn digits(n: u64) -> Spelled
-    ensures { λ r. ⌜ (length (r .room) ≡ 21) × (0 < r .first) × (r .first ≤ 20) × (drop (r .first) (r .room) ≡ natural n) ⌝ }
+// A text that the end of the slice cuts short lacks its last digits, which are found first: so it is spelled apart.
+fn put_cut(buffer: &mut [u8], at: usize, count: usize, value: u64) -> usize
+    requires { ⌜ count ≡ length (natural value) ⌝ }
+    ensures { λ _. ⌜ now (buffer .exit) ≡ laid (now (buffer .entry)) at (natural value) ⌝ }
+    ensures { λ r. ⌜ r ≡ after (length (now (buffer .entry))) at (natural value) ⌝ }
 {
-    let mut room = [0; LONGEST];
-    let mut first = LONGEST - 1;
-    let mut rest = n;
+    let mut room = [0; MOST_DIGITS];
+    put_digits(&mut room, 0, count, value);
+    text::put_word(buffer, at, &room[..count])
+}
+
+// Lays the digits where they have room, from the last one backwards.
+fn put_digits(buffer: &mut [u8], at: usize, count: usize, value: u64)
+    requires { ⌜ (count ≡ length (natural value)) × (at + count ≤ length (now buffer)) ⌝ }
+    ensures { λ _. ⌜ now (buffer .exit) ≡ laid (now (buffer .entry)) at (natural value) ⌝ }
+{
+    let mut rest = value;
+    let mut place = at + count - 1;
     while rest >= 10 {
-        room[first] = digit(rest % 10);
+        buffer[place] = digit(rest % 10);
         rest /= 10;
-        first -= 1;
+        place -= 1;
     }
-    room[first] = digit(rest);
-    Spelled { room, first }
+    buffer[place] = digit(rest);
+}
+
+fn digit_count(value: u64) -> usize
+    ensures { λ r. ⌜ r ≡ length (natural value) ⌝ }
+{
+    let mut uncounted = value;
+    let mut count = 1;
+    while uncounted >= 10 {
+        uncounted /= 10;
+        count += 1;
+    }
+    count
 }
 
 fn digit(d: u64) -> u8

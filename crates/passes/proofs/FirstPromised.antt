@@ -1,41 +1,159 @@
--- From what was judged of a sheet to what the first pass promises. Assumes nothing.
+-- From the steps of a first pass to what it promises, of a figure that is named. Assumes nothing.
 use mathlib.Core.Path.{_≡_, refl, sym, ap, ap₂, _∙_, subst}
-use mathlib.Core.List.{List}
-use Prim.Native.Nat.{ℕ, _≤_}
-use lib.IntN.{ℤ, natAbs}
-use lib.ListN.{getD}
+use mathlib.Core.List.{List, [], _∷_, _++_}
+use Prim.Native.Nat.{ℕ, suc, _≤_, _<_}
+use native.Mathlib.Nat.{le-trans, lt-of-le-of-lt}
+use lib.Dec.{lit<, lit≤}
+use lib.IntN.{ℤ, natAbs, _+ℤ_}
+use lib.ListN.{length, getD}
 use Rattle.whole.specs.Lists.{listed}
+use Rattle.whole.specs.Quotient.{roundedQuotient}
 use Rattle.whole.specs.Sums.{vector}
+use Rattle.whole.proofs.Lists.{length-listed, listed-ext}
 use Rattle.refusals.specs.declared.Refusal.{Refusal}
 use Rattle.refusals.specs.declared.Verdict.{Verdict}
 use Rattle.refusals.specs.declared.Verdict.the-variants.{Passed, Failed}
-use Rattle.refusals.specs.Order as order
-use Rattle.refusals.specs.Order.{Row}
+use Rattle.refusals.specs.Order.{Row, verdictOf, judged}
 use Rattle.refusals.specs.Promise.{stored}
+use Rattle.refusals.specs.Ranges.{mostLimit}
+use Rattle.refusals.specs.Table.{misclosuresRow, resultsRow}
+use Rattle.refusals.proofs.Answers.{answer-of-one}
+use Rattle.refusals.proofs.InSteps.{judged-after-pass, judged-after-failure}
+use Rattle.refusals.proofs.Rows.{none-holds}
 use Rattle.figures.specs.declared.Figure.{Figure}
 use Rattle.figures.specs.declared.Named.{Named}
 use Rattle.figures.specs.declared.Named.the-variants.{As, Nothing}
-use Rattle.figures.specs.Figure.{angleCount, conditionCount, figureOf, ofNamed}
-use Rattle.figures.specs.Numerators.{mostAngles}
-use Rattle.figures.proofs.Figures.{angle-bound}
-use Rattle.columns.specs.Column.{column}
-use Rattle.columns.proofs.ColumnLaws.{stored-column}
-use Rattle.method.specs.FirstPass.{misclosure, firstNumerator, firstRounded, corrected, firstRest, firstLengths, firstRows, firstPassRows, firstPassVerdict}
+use Rattle.figures.specs.Figure.{denominator, angleCount, conditionCount, figureOf, ofNamed}
+use Rattle.figures.specs.Numerators.{conditionSum, numerator}
+use Rattle.method.specs.FirstPass.{limitOf, misclosure, firstNumerator, firstRounded, corrected, firstRest, misclosuresOf, numeratorsOf, roundedOf, restsOf, firstLengths, givenRows, firstRows, firstPassRows, firstPassVerdict}
+use Rattle.method.specs.Pass.{given}
+use Rattle.method.proofs.FirstAccepted.{Entries, entries-passed}
 use Rattle.method.proofs.PassRows.{none-judged, one-judged}
-use Rattle.work.specs.declared.first.FirstJudged.{FirstJudged}
-use Rattle.work.specs.declared.first.FirstWork.{FirstWork}
-use Rattle.work.specs.FirstWork.{FirstStoresFit, firstWorkOf, firstJudgedOf}
-use Rattle.work.proofs.Bounds.{few-conditions}
-use Rattle.work.proofs.FirstAccepted.{StepsPass, judged-verdict, steps-pass, lengths-fit, limit-within, stores-fit}
-use Rattle.passes.specs.Promises.{FirstGiven, FirstLent, firstLengthsLent, firstAnswer, firstValues, firstLeft, FirstPromise}
-use Rattle.passes.specs.Stores.{firstOver, FirstFits}
+use Rattle.method.proofs.WithinRange as range
+use Rattle.passes.specs.Premises.{Angles, Within}
+use Rattle.passes.specs.Promises.{FirstGiven, FirstLent, firstLent, firstSlices, firstLengthsLent, firstAnswer, firstValuesOf, firstValues, FirstPromise, firstVerdictOf, FirstPromiseOf}
+use Rattle.passes.specs.Steps.{StoredIf, tenthsFrom, resultFrom, firstFrom}
+use Rattle.passes.proofs.Results.{kept}
+use Rattle.passes.proofs.StepLaws.{listed-at, listed-within, condition-ext, numerator-ext}
+use Rattle.passes.proofs.FirstSteps.{listed-after}
+
+-- ---- what the steps give from the misclosures are the values of the definitions
+
+module _ (f : Figure) (angles fixed : List ℕ) where
+  abbrev pub misclosures : List ℤ
+  misclosures = misclosuresOf f angles fixed
+
+  pub numerator-is : (i : ℕ) → numerator f (vector misclosures) i ≡ firstNumerator f angles fixed i
+  unfolding firstNumerator
+  numerator-is i = numerator-ext f (vector misclosures) (misclosure f angles fixed) (λ j h. listed-at (conditionCount f) (misclosure f angles fixed) j h) i
+
+  pub tenths-is : (i : ℕ) → tenthsFrom f misclosures i ≡ firstRounded f angles fixed i
+  unfolding firstRounded
+  tenths-is i = ap (λ (z : ℤ). roundedQuotient z (denominator f)) (numerator-is i)
+
+  result-is : (i : ℕ) → resultFrom f angles misclosures i ≡ corrected f angles fixed i
+  unfolding corrected
+  result-is i = ap (λ (z : ℤ). given angles i +ℤ z) (tenths-is i)
+
+  abbrev tenths : List ℤ
+  tenths = listed (angleCount f) (tenthsFrom f misclosures)
+
+  rest-is : (j : ℕ) → j < conditionCount f → vector misclosures j +ℤ conditionSum f (vector tenths) j ≡ firstRest f angles fixed j
+  unfolding firstRest
+  rest-is j h =
+      ap₂ _+ℤ_ (listed-at (conditionCount f) (misclosure f angles fixed) j h)
+      (condition-ext f (vector tenths) (firstRounded f angles fixed) (λ i b. listed-at (angleCount f) (tenthsFrom f misclosures) i b ∙ tenths-is i) j h)
+
+  results-are : listed (angleCount f) (resultFrom f angles misclosures) ≡ listed (angleCount f) (corrected f angles fixed)
+  results-are = listed-ext (angleCount f) _ _ (λ i h. result-is i)
+
+  values-are : firstFrom f angles misclosures ≡ firstValuesOf f angles fixed
+  values-are =
+      let exact : listed (angleCount f) (numerator f (vector misclosures)) ≡ numeratorsOf f angles fixed = listed-ext (angleCount f) _ _ (λ i h. numerator-is i) in
+      let rounded : tenths ≡ roundedOf f angles fixed = listed-ext (angleCount f) _ _ (λ i h. tenths-is i) in
+      let rests : listed (conditionCount f) (λ j. vector misclosures j +ℤ conditionSum f (vector tenths) j) ≡ restsOf f angles fixed =
+      listed-ext (conditionCount f) _ _ rest-is in
+      λ i. firstLent misclosures (exact i) (rounded i)
+      (listed-after (angleCount f) (corrected f angles fixed) (listed (angleCount f) (resultFrom f angles misclosures)) (λ k z. natAbs z) results-are refl i)
+      (rests i)
+
+-- ---- the rows, step by step
+
+module _ (f : Figure) (limit : ℕ) (angles fixed : List ℕ) (entry : FirstLent) where
+  abbrev before : List Row
+  before = givenRows f limit angles fixed (firstSlices angles fixed entry)
+
+  abbrev limitRow : Row
+  limitRow = misclosuresRow (limitOf limit) (misclosuresOf f angles fixed)
+
+  abbrev resultRow : Row
+  resultRow = resultsRow (listed (angleCount f) (corrected f angles fixed))
+
+  -- a row before the work holds
+  pub refused-before : (v : Verdict) (r : Refusal) → v ≡ judged before → v ≡ Failed r → FirstPromiseOf f limit angles fixed entry v entry
+  unfolding firstRows
+  refused-before v r e refused =
+      let answered : v ≡ firstVerdictOf f limit angles fixed entry =
+      refused ∙ sym (judged-after-failure before (limitRow ∷ resultRow ∷ []) r (sym e ∙ refused)) in
+      record { answered = answered; leaves = kept _ _ _ r (sym answered ∙ refused) }
+
+  module _ (passed : judged before ≡ Passed) where
+    entries : Entries f limit angles fixed (firstSlices angles fixed entry)
+    entries = entries-passed f limit angles fixed (firstSlices angles fixed entry) passed
+
+    -- the length of a slice, by its place in the list
+    pub length-at : (k : ℕ) → getD (firstSlices angles fixed entry) k 0 ≡ getD (firstLengths f) k 0
+    length-at k = ap (λ (l : List ℕ). getD l k 0) (entries .lengths)
+
+    pub small-angles : Angles angles
+    small-angles i = lt-of-le-of-lt (entries .angle-most i) (lit< tt)
+
+    pub small-fixed : Angles fixed
+    small-fixed i = lt-of-le-of-lt (entries .fixed-angle-most i) (lit< tt)
+
+    after : firstVerdictOf f limit angles fixed entry ≡ judged (limitRow ∷ resultRow ∷ [])
+    unfolding firstRows
+    after = judged-after-pass before (limitRow ∷ resultRow ∷ []) passed
+
+    -- number 6 holds
+    pub refused-misclosure : (v : Verdict) (r : Refusal) → v ≡ verdictOf limitRow → v ≡ Failed r → FirstPromiseOf f limit angles fixed entry v entry
+    refused-misclosure v r e refused =
+        let answered : v ≡ firstVerdictOf f limit angles fixed entry =
+        refused ∙ sym (after ∙ judged-after-failure (limitRow ∷ []) (resultRow ∷ []) r (answer-of-one (verdictOf limitRow) ∙ sym e ∙ refused)) in
+        record { answered = answered; leaves = kept _ _ _ r (sym answered ∙ refused) }
+
+    module _ (within : verdictOf limitRow ≡ Passed) where
+      one-passed : judged (limitRow ∷ []) ≡ Passed
+      one-passed = answer-of-one (verdictOf limitRow) ∙ within
+
+      pub small-misclosures : Within mostLimit (misclosuresOf f angles fixed)
+      small-misclosures =
+          listed-within (conditionCount f) (misclosure f angles fixed) mostLimit (λ j h. le-trans
+          (range.misclosure-within (conditionCount f) (misclosure f angles fixed) j h (limitOf limit) (none-holds (limitRow ∷ []) one-passed .0))
+          (range.in-force-within 150 mostLimit limit (lit≤ tt) (entries .limit-range)))
+
+      verdict-is : verdictOf (resultsRow (listed (angleCount f) (resultFrom f angles (misclosuresOf f angles fixed)))) ≡ firstVerdictOf f limit angles fixed entry
+      verdict-is =
+          ap (λ (l : List ℤ). verdictOf (resultsRow l)) (results-are f angles fixed)
+          ∙ sym (after ∙ judged-after-pass (limitRow ∷ []) (resultRow ∷ []) one-passed ∙ answer-of-one (verdictOf resultRow))
+
+      -- number 7 decides
+      pub by-results : (w : List ℤ) → w ≡ misclosuresOf f angles fixed → {answer : Verdict} {exit : FirstLent}
+          → StoredIf (verdictOf (resultsRow (listed (angleCount f) (resultFrom f angles w)))) (firstFrom f angles w) entry answer exit
+          → FirstPromiseOf f limit angles fixed entry answer exit
+      by-results w are promise =
+          let verdict = ap (λ (x : List ℤ). verdictOf (resultsRow (listed (angleCount f) (resultFrom f angles x)))) are ∙ verdict-is in
+          let values = ap (firstFrom f angles) are ∙ values-are f angles fixed in
+          record {
+            answered = promise .answered ∙ verdict;
+            leaves = promise .leaves ∙ ap₂ (λ (v : Verdict) (new : FirstLent). stored v new entry) verdict values;
+          }
+
+-- ---- and of code and n
 
 module _ (given : FirstGiven) (entry : FirstLent) where
-  abbrev lent : List ℕ
-  lent = firstLengthsLent given entry
-
   abbrev rows : Figure → List Row
-  rows f = firstRows f (given .limit) (given .angles) (given .fixed) lent
+  rows f = firstRows f (given .limit) (given .angles) (given .fixed) (firstLengthsLent given entry)
 
   pub none-named : figureOf (given .code) (given .n) ≡ Nothing → FirstPromise given entry (Failed Refusal.NoSuchFigure) entry
   unfolding firstPassVerdict firstPassRows
@@ -44,53 +162,14 @@ module _ (given : FirstGiven) (entry : FirstLent) where
     leaves = sym (ap (λ (m : Named). ofNamed m entry (λ f. stored (firstAnswer given entry) (firstValues f given) entry)) e);
   }
 
-  module _ (f : Figure) (named : figureOf (given .code) (given .n) ≡ As f) (judged : FirstJudged)
-      (made : judged ≡ firstJudgedOf f (given .limit) (given .angles) (given .fixed) lent) where
-    by-rows : judged .verdict ≡ order.judged (rows f)
-    by-rows = ap (λ (j : FirstJudged). j .verdict) made ∙ judged-verdict f (given .limit) (given .angles) (given .fixed) lent
-
-    verdict-is : judged .verdict ≡ firstAnswer given entry
-    unfolding firstPassVerdict firstPassRows
-    verdict-is = by-rows ∙ sym (one-judged (given .code) (given .n) rows named)
-
-    left : (v : Verdict) → judged .verdict ≡ v → firstLeft given entry ≡ stored v (firstValues f given) entry
-    left v e = ap₂ (λ (m : Named) (u : Verdict). ofNamed m entry (λ g. stored u (firstValues g given) entry)) named (sym verdict-is ∙ e)
-
-    -- a refusal leaves everything as it was
-    pub refused : (r : Refusal) → judged .verdict ≡ Failed r → FirstPromise given entry (judged .verdict) entry
-    refused r e = record { answered = verdict-is; leaves = sym (left (Failed r) e) }
-
-    module _ (passed : judged .verdict ≡ Passed) where
-      steps : StepsPass f (given .limit) (given .angles) (given .fixed) lent
-      steps = steps-pass f (given .limit) (given .angles) (given .fixed) lent (sym by-rows ∙ passed)
-
-      work-is : judged .work ≡ firstWorkOf f (given .angles) (given .fixed)
-      work-is = ap (λ (j : FirstJudged). j .work) made ∙ steps .work-is
-
-      lent-is : lent ≡ firstLengths f
-      lent-is = lengths-fit f (given .limit) (given .angles) (given .fixed) lent (steps .before-work)
-
-      pub fits : FirstFits (judged .work) entry
-      fits =
-          subst (λ (l : List ℕ). FirstStoresFit (judged .work) (getD l 2 0) (getD l 3 0) (getD l 4 0) (getD l 5 0) (getD l 6 0)) (sym lent-is)
-          (subst (λ (work : FirstWork). FirstStoresFit work (conditionCount f) (angleCount f) (angleCount f) (angleCount f) (conditionCount f)) (sym work-is)
-          (stores-fit f (given .limit) (given .angles) (given .fixed)
-          (limit-within f (given .limit) (given .angles) (given .fixed) lent (steps .before-work)) (steps .of-work)))
-
-      -- the numbers of a column over the slice at a place of the list of lengths
-      over : {A : Type 0} (read : ℤ → A) (field : FirstWork → List ℤ) (g : ℕ → ℤ) (k : ℕ) → field (firstWorkOf f (given .angles) (given .fixed)) ≡ column g
-          → getD (firstLengths f) k 0 ≤ mostAngles
-          → listed (getD lent k 0) (λ i. read (vector (field (judged .work)) i)) ≡ listed (getD (firstLengths f) k 0) (λ i. read (g i))
-      over read field g k e few = stored-column g read (field (judged .work)) _ _ (ap field work-is ∙ e) (ap (λ (l : List ℕ). getD l k 0) lent-is) few
-
-      values : firstOver (judged .work) entry ≡ firstValues f given
-      values = λ i. record {
-        misclosures = over (λ z. z) (λ w. w .misclosures) (misclosure f (given .angles) (given .fixed)) 2 refl (few-conditions f) i;
-        numerators = over (λ z. z) (λ w. w .numerators) (firstNumerator f (given .angles) (given .fixed)) 3 refl (angle-bound f) i;
-        rounded = over (λ z. z) (λ w. w .rounded) (firstRounded f (given .angles) (given .fixed)) 4 refl (angle-bound f) i;
-        corrected = over natAbs (λ w. w .corrected) (corrected f (given .angles) (given .fixed)) 5 refl (angle-bound f) i;
-        rests = over (λ z. z) (λ w. w .rests) (firstRest f (given .angles) (given .fixed)) 6 refl (few-conditions f) i;
+  pub of-figure : (f : Figure) → figureOf (given .code) (given .n) ≡ As f → {answer : Verdict} {exit : FirstLent}
+      → FirstPromiseOf f (given .limit) (given .angles) (given .fixed) entry answer exit → FirstPromise given entry answer exit
+  unfolding firstPassVerdict firstPassRows
+  of-figure f named promise =
+      let verdict = sym (one-judged (given .code) (given .n) rows named) in
+      record {
+        answered = promise .answered ∙ verdict;
+        leaves =
+            promise .leaves
+            ∙ ap₂ (λ (m : Named) (v : Verdict). ofNamed m entry (λ g. stored v (firstValues g given) entry)) (sym named) verdict;
       }
-
-      pub done : {exit : FirstLent} → exit ≡ firstOver (judged .work) entry → FirstPromise given entry (judged .verdict) exit
-      done put = record { answered = verdict-is; leaves = put ∙ values ∙ sym (left Passed passed) }

@@ -1,2 +1,4 @@
+pub mod Premises
 pub mod Promises
-pub mod Stores
+pub mod Sines
+pub mod Steps

@@ -5,13 +5,13 @@ use mathlib.Core.List.{List, [], _∷_}
 use lib.IntN.{ℤ}
 use lib.ListN.{length}
 use Rattle.refusals.specs.declared.Verdict.{Verdict}
-use Rattle.refusals.specs.Order.{Row}
+use Rattle.refusals.specs.Order.{Row, judged}
 use Rattle.refusals.specs.Promise.{Promised, stored}
 use Rattle.figures.specs.declared.Figure.{Figure}
 use Rattle.figures.specs.Figure.{figureOf, ofNamed}
 use Rattle.method.specs.declared.second.SecondAnswer.{SecondAnswer}
-use Rattle.method.specs.FirstPass.{firstPassRows, firstPassVerdict, misclosuresOf, numeratorsOf, roundedOf, correctedOf, restsOf}
-use Rattle.method.specs.SecondPass.{secondPassRows, secondPassVerdict, secondPassAnswer, reducedOf, secondNumeratorsOf, secondRoundedOf, adjustedOf, secondRestsOf}
+use Rattle.method.specs.FirstPass.{firstRows, firstPassRows, firstPassVerdict, misclosuresOf, numeratorsOf, roundedOf, correctedOf, restsOf}
+use Rattle.method.specs.SecondPass.{sineMisclosure, sumOfSquares, secondRows, secondPassRows, secondPassVerdict, secondAnswerOf, secondPassAnswer, reducedOf, secondNumeratorsOf, secondRoundedOf, adjustedOf, secondRestsOf}
 
 -- ---- the first pass
 
@@ -42,10 +42,15 @@ firstLent misclosures numerators rounded corrected rests = record {
 }
 
 -- the lengths of all slices, for number 2
+abbrev pub firstResultsLent : FirstLent → List ℕ
+firstResultsLent lent =
+    length (lent .misclosures) ∷ length (lent .numerators) ∷ length (lent .rounded) ∷ length (lent .corrected) ∷ length (lent .rests) ∷ []
+
+abbrev pub firstSlices : (angles fixed : List ℕ) → FirstLent → List ℕ
+firstSlices angles fixed lent = length angles ∷ length fixed ∷ firstResultsLent lent
+
 abbrev pub firstLengthsLent : FirstGiven → FirstLent → List ℕ
-firstLengthsLent given lent =
-    length (given .angles) ∷ length (given .fixed) ∷ length (lent .misclosures) ∷ length (lent .numerators)
-    ∷ length (lent .rounded) ∷ length (lent .corrected) ∷ length (lent .rests) ∷ []
+firstLengthsLent given lent = firstSlices (given .angles) (given .fixed) lent
 
 -- its order
 abbrev pub firstRowsOf : FirstGiven → FirstLent → List Row
@@ -57,10 +62,12 @@ firstAnswer given lent =
     firstPassVerdict (given .code) (given .n) (given .limit) (given .angles) (given .fixed) (firstLengthsLent given lent)
 
 -- what a figure's sheet gives
+abbrev pub firstValuesOf : Figure → (angles fixed : List ℕ) → FirstLent
+firstValuesOf f angles fixed =
+    firstLent (misclosuresOf f angles fixed) (numeratorsOf f angles fixed) (roundedOf f angles fixed) (correctedOf f angles fixed) (restsOf f angles fixed)
+
 abbrev pub firstValues : Figure → FirstGiven → FirstLent
-firstValues f given =
-    firstLent (misclosuresOf f (given .angles) (given .fixed)) (numeratorsOf f (given .angles) (given .fixed))
-    (roundedOf f (given .angles) (given .fixed)) (correctedOf f (given .angles) (given .fixed)) (restsOf f (given .angles) (given .fixed))
+firstValues f given = firstValuesOf f (given .angles) (given .fixed)
 
 -- everything lent in the end: the values of the figure that code and n name where no row holds, and else what it held
 abbrev pub firstLeft : FirstGiven → FirstLent → FirstLent
@@ -69,6 +76,14 @@ firstLeft given lent =
 
 abbrev pub FirstPromise : FirstGiven → (entry : FirstLent) → (answer : Verdict) → (exit : FirstLent) → Type 0
 FirstPromise given entry answer exit = Promised (firstAnswer given entry) (firstLeft given entry) answer exit
+
+-- of a figure that is named already: 2, 3, 4, 5, 6, 7
+abbrev pub firstVerdictOf : Figure → (limit : ℕ) → (angles fixed : List ℕ) → FirstLent → Verdict
+firstVerdictOf f limit angles fixed lent = judged (firstRows f limit angles fixed (firstSlices angles fixed lent))
+
+abbrev pub FirstPromiseOf : Figure → (limit : ℕ) → (angles fixed : List ℕ) → (entry : FirstLent) → (answer : Verdict) → (exit : FirstLent) → Type 0
+FirstPromiseOf f limit angles fixed entry answer exit =
+    Promised (firstVerdictOf f limit angles fixed entry) (stored (firstVerdictOf f limit angles fixed entry) (firstValuesOf f angles fixed) entry) answer exit
 
 -- ---- the second pass
 
@@ -107,10 +122,15 @@ secondLent reduced numerators rounded adjusted rests = record {
 }
 
 -- the lengths of all slices, for number 2
+abbrev pub secondResultsLent : SecondLent → List ℕ
+secondResultsLent lent =
+    length (lent .reduced) ∷ length (lent .numerators) ∷ length (lent .rounded) ∷ length (lent .adjusted) ∷ length (lent .rests) ∷ []
+
+abbrev pub secondSlices : (angles logSines : List ℕ) → (differences : List ℤ) → SecondLent → List ℕ
+secondSlices angles logSines differences lent = length angles ∷ length logSines ∷ length differences ∷ secondResultsLent lent
+
 abbrev pub secondLengthsLent : SecondGiven → SecondLent → List ℕ
-secondLengthsLent given lent =
-    length (given .angles) ∷ length (given .logSines) ∷ length (given .differences) ∷ length (lent .reduced)
-    ∷ length (lent .numerators) ∷ length (lent .rounded) ∷ length (lent .adjusted) ∷ length (lent .rests) ∷ []
+secondLengthsLent given lent = secondSlices (given .angles) (given .logSines) (given .differences) lent
 
 -- its order
 abbrev pub secondRowsOf : SecondGiven → SecondLent → List Row
@@ -129,11 +149,13 @@ secondAnswer given lent =
     (secondLengthsLent given lent)
 
 -- what a figure's sheet gives
+abbrev pub secondValuesOf : Figure → (angles logSines : List ℕ) → (differences : List ℤ) → SecondLent
+secondValuesOf f angles logSines differences =
+    secondLent (reducedOf f differences) (secondNumeratorsOf f logSines differences) (secondRoundedOf f logSines differences)
+    (adjustedOf f angles logSines differences) (secondRestsOf f logSines differences)
+
 abbrev pub secondValues : Figure → SecondGiven → SecondLent
-secondValues f given =
-    secondLent (reducedOf f (given .differences)) (secondNumeratorsOf f (given .logSines) (given .differences))
-    (secondRoundedOf f (given .logSines) (given .differences)) (adjustedOf f (given .angles) (given .logSines) (given .differences))
-    (secondRestsOf f (given .logSines) (given .differences))
+secondValues f given = secondValuesOf f (given .angles) (given .logSines) (given .differences)
 
 -- everything lent in the end: the values of the figure that code and n name where no row holds, and else what it held
 abbrev pub secondLeft : SecondGiven → SecondLent → SecondLent
@@ -142,3 +164,14 @@ secondLeft given lent =
 
 abbrev pub SecondPromise : SecondGiven → (entry : SecondLent) → (answer : SecondAnswer) → (exit : SecondLent) → Type 0
 SecondPromise given entry answer exit = Promised (secondAnswer given entry) (secondLeft given entry) answer exit
+
+-- of a figure that is named already: 2, 3, 4, 8, 10, 9, 7
+abbrev pub secondVerdictOf : Figure → (tolerance : ℕ) → (angles logSines : List ℕ) → (differences : List ℤ) → SecondLent → Verdict
+secondVerdictOf f tolerance angles logSines differences lent =
+    judged (secondRows f tolerance angles logSines differences (secondSlices angles logSines differences lent))
+
+abbrev pub SecondPromiseOf : Figure → (tolerance : ℕ) → (angles logSines : List ℕ) → (differences : List ℤ)
+    → (entry : SecondLent) → (answer : SecondAnswer) → (exit : SecondLent) → Type 0
+SecondPromiseOf f tolerance angles logSines differences entry answer exit =
+    Promised (secondAnswerOf (secondVerdictOf f tolerance angles logSines differences entry) (sineMisclosure f logSines) (sumOfSquares f differences))
+    (stored (secondVerdictOf f tolerance angles logSines differences entry) (secondValuesOf f angles logSines differences) entry) answer exit

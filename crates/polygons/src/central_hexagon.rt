@@ -1,16 +1,11 @@
 // Code 3, n = 6: the central polygon of document 01 with 6 triangles.
 ghost use mathlib.Core.Path.{_≡_};
 ghost use Rattle.figures.specs.Figure.{countsOf};
-ghost use Rattle.figures.specs.Numerators.{paddedRows, paddedMembers, paddedTargets, paddedSigns};
+ghost use Rattle.figures.specs.Numerators.{paddedRows};
 use figures::Counts;
 use figures::Figure;
-use figures::Target;
-use rows::MOST_CONDITIONS;
-use rows::MOST_MEMBERS;
-use rows::Members;
-use rows::Rows;
-use rows::Signs;
-use rows::Targets;
+use figures::MOST_CONDITIONS;
+use figures::Rows;
 
 pub struct CentralHexagon;
 
@@ -70,78 +65,6 @@ impl CentralHexagon {
             filling,
             filling,
             filling,
-        ]
-    }
-
-    // The angles of each condition by their numbers, filled with 0.
-    pub fn members() -> Members
-        ensures { λ r. ⌜ r ≡ paddedMembers Figure.CentralHexagon ⌝ }
-    {
-        let filling = [0; MOST_MEMBERS];
-        [
-            [1, 2, 3, 0, 0, 0, 0, 0],
-            [4, 5, 6, 0, 0, 0, 0, 0],
-            [7, 8, 9, 0, 0, 0, 0, 0],
-            [10, 11, 12, 0, 0, 0, 0, 0],
-            [13, 14, 15, 0, 0, 0, 0, 0],
-            [16, 17, 18, 0, 0, 0, 0, 0],
-            [1, 4, 7, 10, 13, 16, 0, 0],
-            filling,
-            filling,
-        ]
-    }
-
-    // What they should sum to.
-    pub fn targets() -> Targets
-        ensures { λ r. ⌜ r ≡ paddedTargets Figure.CentralHexagon ⌝ }
-    {
-        let half = Target::HalfTurn;
-        let none = Target::NoCondition;
-        [
-            half,
-            half,
-            half,
-            half,
-            half,
-            half,
-            Target::FullTurn,
-            none,
-            none,
-        ]
-    }
-
-    // The sine sign of each angle, filled with 0.
-    pub fn signs() -> Signs
-        ensures { λ r. ⌜ r ≡ paddedSigns Figure.CentralHexagon ⌝ }
-    {
-        let c = 0;
-        let l = 1;
-        let r = -1;
-        [
-            c,
-            l,
-            r,
-            c,
-            l,
-            r,
-            c,
-            l,
-            r,
-            c,
-            l,
-            r,
-            c,
-            l,
-            r,
-            c,
-            l,
-            r,
-            0,
-            0,
-            0,
-            0,
-            0,
-            0,
         ]
     }
 }

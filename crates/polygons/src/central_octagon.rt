@@ -1,14 +1,10 @@
 // Code 3, n = 8: the central polygon of document 01 with 8 triangles.
 ghost use mathlib.Core.Path.{_≡_};
 ghost use Rattle.figures.specs.Figure.{countsOf};
-ghost use Rattle.figures.specs.Numerators.{paddedRows, paddedMembers, paddedTargets, paddedSigns};
+ghost use Rattle.figures.specs.Numerators.{paddedRows};
 use figures::Counts;
 use figures::Figure;
-use figures::Target;
-use rows::Members;
-use rows::Rows;
-use rows::Signs;
-use rows::Targets;
+use figures::Rows;
 
 pub struct CentralOctagon;
 
@@ -69,76 +65,6 @@ impl CentralOctagon {
             [2, 2, 2, 2, 2, 2, 2, -14, -6],
             outer_8,
             outer_8,
-        ]
-    }
-
-    // The angles of each condition by their numbers, filled with 0.
-    pub fn members() -> Members
-        ensures { λ r. ⌜ r ≡ paddedMembers Figure.CentralOctagon ⌝ }
-    {
-        [
-            [1, 2, 3, 0, 0, 0, 0, 0],
-            [4, 5, 6, 0, 0, 0, 0, 0],
-            [7, 8, 9, 0, 0, 0, 0, 0],
-            [10, 11, 12, 0, 0, 0, 0, 0],
-            [13, 14, 15, 0, 0, 0, 0, 0],
-            [16, 17, 18, 0, 0, 0, 0, 0],
-            [19, 20, 21, 0, 0, 0, 0, 0],
-            [22, 23, 24, 0, 0, 0, 0, 0],
-            [1, 4, 7, 10, 13, 16, 19, 22],
-        ]
-    }
-
-    // What they should sum to.
-    pub fn targets() -> Targets
-        ensures { λ r. ⌜ r ≡ paddedTargets Figure.CentralOctagon ⌝ }
-    {
-        let half = Target::HalfTurn;
-        [
-            half,
-            half,
-            half,
-            half,
-            half,
-            half,
-            half,
-            half,
-            Target::FullTurn,
-        ]
-    }
-
-    // The sine sign of each angle, filled with 0.
-    pub fn signs() -> Signs
-        ensures { λ r. ⌜ r ≡ paddedSigns Figure.CentralOctagon ⌝ }
-    {
-        let c = 0;
-        let l = 1;
-        let r = -1;
-        [
-            c,
-            l,
-            r,
-            c,
-            l,
-            r,
-            c,
-            l,
-            r,
-            c,
-            l,
-            r,
-            c,
-            l,
-            r,
-            c,
-            l,
-            r,
-            c,
-            l,
-            r,
-            c,
-            l,
-            r,
         ]
     }
 }

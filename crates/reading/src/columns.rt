@@ -2,6 +2,7 @@
 use bits::field;
 use complement::signed;
 use figures::Figure;
+use figures::MOST_ANGLES;
 use layout::ANGLE_WIDTH;
 use layout::DIFFERENCE_WIDTH;
 use layout::FIRST_PASS_BODY_AT;
@@ -10,7 +11,6 @@ use layout::Kind;
 use layout::LOG_SINE_WIDTH;
 use layout::SECOND_PASS_BODY_AT;
 use layout::SECOND_PASS_STEP;
-use tables::MOST_ANGLES;
 use tables::counts_of;
 ghost use mathlib.Core.Path.{_≡_};
 ghost use lib.ListN.{take};

@@ -3,4 +3,5 @@ mod columns;
 mod read;
 mod values;
 
+pub use read::read_body;
 pub use read::read_sheet;

@@ -10,6 +10,7 @@ use bits::field;
 use figures::Figure;
 use heads::Look;
 use heads::look_at;
+use judging::lengths_verdict;
 use layout::Kind;
 use layout::bit_count;
 use layout::lengths_of;
@@ -17,7 +18,6 @@ use layout::sheet_size;
 use refusals::Refusal;
 use refusals::Verdict;
 use refusals::first_to_fail;
-use refusals::lengths_verdict;
 use sheets::Reading;
 ghost use mathlib.Core.Path.{_≡_};
 ghost use lib.ListN.{length};
@@ -69,8 +69,8 @@ fn reading_after(verdict: Verdict, kind: Kind, figure: Figure, limit_or_toleranc
     }
 }
 
-// What follows once kind and figure are known.
-fn read_body(
+// Reads the sheet of a kind and a figure that are known: what follows the head.
+pub fn read_body(
     sheet: &[u8],
     kind: Kind,
     figure: Figure,

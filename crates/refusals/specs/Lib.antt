@@ -3,5 +3,4 @@ pub mod Order
 pub mod Promise
 pub mod Questions
 pub mod Ranges
-pub mod Searches
 pub mod Table

@@ -1,18 +1,8 @@
 // The numbers given when a sheet is turned back, with their places, and the order in which an operation's tests are
 // answered (document 01, "Numbers given when a sheet is turned back"). Places are counted from 1, as the paper counts
 // angles, fixed angles and conditions.
-mod search;
-mod tests;
 mod units;
 
-pub use tests::angles_verdict;
-pub use tests::fixed_verdict;
-pub use tests::lengths_verdict;
-pub use tests::limit_or_tolerance_verdict;
-pub use tests::misclosures_verdict;
-pub use tests::results_verdict;
-pub use tests::sine_entries_verdict;
-pub use tests::squares_verdict;
 pub use units::LEAST_ANGLE;
 pub use units::LEAST_DIFFERENCE;
 pub use units::LEAST_LOG_SINE;

@@ -7,9 +7,11 @@ use Prim.Native.Nat.{ℕ, _*_, _^_, _≤_, _<_}
 use native.Mathlib.Nat.{le-refl, le-trans, le-of-lt, lt-of-lt-of-le, lt-of-le-of-lt, mul-le-mul-right}
 use native.Mathlib.Omega.{arith}
 use lib.Dec.{lit<, lit≤}
-use lib.ListN.{length}
+use lib.ListN.{length, getD}
 use lib.IntN.{ℤ, pos, negℤ, natAbs, _*ℤ_}
-use Rattle.whole.specs.Sums.{vector, dot}
+use Rattle.whole.specs.Lists.{listed}
+use Rattle.whole.specs.Sums.{vector, naturals, dot}
+use Rattle.whole.proofs.Lists.{getD-listed}
 use Rattle.whole.proofs.Sums.{sum-magnitude}
 use Rattle.refusals.specs.declared.Refusal.{Refusal}
 use Rattle.refusals.specs.declared.Verdict.the-variants.{Passed}
@@ -21,26 +23,22 @@ use Rattle.figures.specs.declared.Figure.{Figure}
 use Rattle.figures.specs.Figure.{denominator, angleCount, conditionCount}
 use Rattle.figures.specs.Numerators.{mostAngles}
 use Rattle.figures.proofs.Figures.{angle-bound, condition-bound}
-use Rattle.worked.specs.declared.WorkedSheet.{WorkedSheet}
-use Rattle.columns.specs.Column.{column}
-use Rattle.method.specs.Pass.{given}
-use Rattle.method.specs.FirstPass.{firstRows}
-use Rattle.method.specs.SecondPass.{sineMisclosure, sumOfSquares, differenceSquares, secondReduced, secondNumerator, secondRounded, secondAdjusted, secondRest}
-use Rattle.work.specs.SecondWork.{mostDenominator, SineEntries, secondWorkOf}
-use Rattle.work.specs.FirstWork.{firstWorkOf}
-use Rattle.work.specs.Premises.{StoreFits}
-use Rattle.worked.specs.Worked.{firstSheetLengths, secondSheetLengths, refusedSheet, firstShown, secondShown, workedOf, sheetRows, outcomeTold}
+use Rattle.method.specs.FirstPass.{misclosure, firstNumerator, firstRounded, corrected, firstRest, misclosuresOf, numeratorsOf, roundedOf, correctedOf, restsOf}
+use Rattle.method.specs.SecondPass.{sineMisclosure, sumOfSquares, differenceSquares, secondReduced, secondNumerator, secondRounded, secondAdjusted, secondRest, reducedOf, secondNumeratorsOf, secondRoundedOf, adjustedOf, secondRestsOf}
+use Rattle.passes.specs.Premises.{Within, mostDenominator, mostMisclosure, mostReduced}
+use Rattle.passes.proofs.Exact.{product-magnitude}
+use Rattle.passes.proofs.FirstBounds.{misclosure-small, first-numerator-small, first-rounded-small, first-rest-small}
+use Rattle.passes.proofs.SineBounds.{denominator-bound, squares-natural, squares-magnitude, reduced-magnitude}
+use Rattle.passes.proofs.Tolerance.{within-tolerance}
+use Rattle.worked.specs.Texts.{textOf}
+use Rattle.worked.specs.Worked.{WorkedSheet, firstSheetLengths, secondSheetLengths, refusedSheet, firstShown, secondShown, workedOf, sheetRows, outcomeTold}
 use Rattle.worked.proofs.Refusals.{sheet-rows-known, worked-told}
 use Rattle.worked.proofs.ShownAs.{FirstShown, SecondShown, RefusedShown, shown-as}
-use Rattle.columns.proofs.ColumnLaws.{column-at}
-use Rattle.work.proofs.SmallEntries.{small-angles, sine-entries, as-many}
-use Rattle.work.proofs.FirstAccepted.{steps-pass, limit-within, given-angles, stores-fit}
-use Rattle.work.proofs.ProductLaws.{product-magnitude}
+use Rattle.method.proofs.FirstAccepted as First
 use Rattle.method.proofs.SecondAccepted.{Accepted, accepted, result-most, rounded-most, rest-most}
-use Rattle.work.proofs.SineLaws.{denominator-bound, coefficient-magnitude}
-use Rattle.work.proofs.ToleranceLaws.{squares-natural, squares-magnitude, within-tolerance}
+use Rattle.method.proofs.WithinRange.{angle-most}
 use Rattle.lines.specs.Lines.{longestText}
-use Rattle.report.specs.Report.{textOf, reportText}
+use Rattle.report.specs.Report.{reportText}
 use Rattle.lines.proofs.Lengths.{Digits, first-length, second-length, refused-length}
 use Rattle.report.proofs.PlaceBounds.{sheet-within}
 
@@ -51,53 +49,52 @@ refused-fits : (refusal : Refusal) → placeOf refusal ≤ mostAngles → Fits (
 unfolding textOf
 refused-fits refusal h = refused-length refusal (omega arith)
 
-column-digits : (k : ℕ) (g : ℕ → ℤ) (count : ℕ) → count ≤ mostAngles → ((i : ℕ) → i < count → natAbs (g i) < 10 ^ k) → Digits k count (vector (column g))
-column-digits k g count few h i b = subst (λ (z : ℤ). natAbs z < 10 ^ k) (sym (column-at g i (lt-of-lt-of-le b few))) (h i b)
+-- the digits of what a rule lists
+listed-digits : (k : ℕ) (g : ℕ → ℤ) (count : ℕ) → ((i : ℕ) → i < count → natAbs (g i) < 10 ^ k) → Digits k count (vector (listed count g))
+listed-digits k g count h i b = subst (λ (z : ℤ). natAbs z < 10 ^ k) (sym (getD-listed count g i (pos 0) b)) (h i b)
+
+-- of results, which are stored as magnitudes
+result-digits : (k : ℕ) (g : ℕ → ℤ) (count : ℕ) → ((i : ℕ) → i < count → natAbs (g i) < 10 ^ k) → Digits k count (naturals (listed count (λ i. natAbs (g i))))
+result-digits k g count h i b = subst (λ (m : ℕ). m < 10 ^ k) (sym (getD-listed count (λ l. natAbs (g l)) i 0 b)) (h i b)
 
 -- ---- kind 1
 
 module _ (f : Figure) (limit : ℕ) (angles fixed : List ℕ) where
-  -- what fits 32 bits has at most ten digits
-  ten-digits : (x : List ℤ) (count : ℕ) → StoreFits x count → Digits 10 count (vector x)
-  ten-digits x count fits i b = omega (arith, fits .1 i b)
-
-  first-fits : judged (firstRows f limit angles fixed (firstSheetLengths f angles fixed)) ≡ Passed → Fits (firstShown f (column (given angles)) (firstWorkOf f angles fixed))
-  unfolding textOf
-  first-fits e =
-      let lent = firstSheetLengths f angles fixed in
-      let steps = steps-pass f limit angles fixed lent e in
-      let stores = stores-fit f limit angles fixed (limit-within f limit angles fixed lent (steps .before-work)) (steps .of-work) in
-      let work = firstWorkOf f angles fixed in
-      let small = given-angles f limit angles fixed lent (steps .before-work) in
-      first-length f (vector (column (given angles))) (vector (work .numerators)) (vector (work .rounded)) (vector (work .corrected)) (vector (work .misclosures)) (vector (work .rests))
-      (column-digits 7 (given angles) (angleCount f) (angle-bound f) (λ i b. omega (arith, small i)))
-      (ten-digits (work .numerators) (angleCount f) (stores .numerators-fit))
-      (ten-digits (work .rounded) (angleCount f) (stores .rounded-fit))
-      (ten-digits (work .corrected) (angleCount f) (stores .corrected-fit))
-      (ten-digits (work .misclosures) (conditionCount f) (stores .misclosures-fit))
-      (ten-digits (work .rests) (conditionCount f) (stores .rests-fit))
+  module _ (ok : First.Accepted f limit angles fixed (firstSheetLengths f angles fixed)) where
+    first-fits : Fits (firstShown f angles fixed)
+    unfolding textOf
+    first-fits =
+        let lent = firstSheetLengths f angles fixed in
+        first-length f (naturals angles) (vector (numeratorsOf f angles fixed)) (vector (roundedOf f angles fixed)) (naturals (correctedOf f angles fixed))
+        (vector (misclosuresOf f angles fixed)) (vector (restsOf f angles fixed))
+        (λ i b. omega (arith, ok .entries .angle-most i))
+        (listed-digits 10 (firstNumerator f angles fixed) (angleCount f) (λ i b. omega (arith, first-numerator-small f limit angles fixed lent ok i)))
+        (listed-digits 10 (firstRounded f angles fixed) (angleCount f) (λ i b. omega (arith, first-rounded-small f limit angles fixed lent ok i)))
+        (result-digits 10 (corrected f angles fixed) (angleCount f) (λ i b. omega (arith, angle-most (corrected f angles fixed i) (ok .result-within i b .0) (ok .result-within i b .1))))
+        (listed-digits 10 (misclosure f angles fixed) (conditionCount f) (λ j b. omega (arith, misclosure-small f limit angles fixed lent ok j b)))
+        (listed-digits 10 (firstRest f angles fixed) (conditionCount f) (λ j b. omega (arith, first-rest-small f limit angles fixed lent ok j b)))
 
 -- ---- kind 2
 
 module _ (f : Figure) (tolerance : ℕ) (angles logSines : List ℕ) (differences : List ℤ) where
   module _ (ok : Accepted f tolerance angles logSines differences (secondSheetLengths f angles logSines differences)) where
-    in-range : SineEntries logSines differences
-    in-range =
-        sine-entries f tolerance angles logSines differences (secondSheetLengths f angles logSines differences) (ok .entries)
-        (as-many f tolerance angles logSines differences _ (ok .entries))
+    differences-small : Within mostDifference differences
+    differences-small =
+        ok .entries .difference-most
+        (ap (λ (l : List ℕ). getD l 2 0) (ok .entries .lengths) ∙ sym (ap (λ (l : List ℕ). getD l 1 0) (ok .entries .lengths)))
 
-    misclosure-small : natAbs (sineMisclosure f logSines) < 2 ^ 18
-    misclosure-small =
+    misclosure-least : natAbs (sineMisclosure f logSines) ≤ mostMisclosure
+    misclosure-least =
         within-tolerance (sineMisclosure f logSines) tolerance (differenceSquares f differences) (ok .entries .tolerance-range)
-        (squares-natural f differences) (squares-magnitude f differences (in-range .difference)) (ok .within-tolerance)
+        (squares-natural f differences) (squares-magnitude f differences differences-small) (ok .within-tolerance)
 
-    reduced-small : (i : ℕ) → natAbs (secondReduced f differences i) ≤ 7248 * mostDifference
-    reduced-small = coefficient-magnitude f differences (in-range .difference)
+    reduced-small : (i : ℕ) → natAbs (secondReduced f differences i) ≤ mostReduced
+    reduced-small = reduced-magnitude f differences differences-small
 
     squares-small : natAbs (sumOfSquares f differences) < 10 ^ 18
     unfolding sumOfSquares dot
     squares-small =
-        let most = 7248 * mostDifference in
+        let most = mostReduced in
         let term : (i : ℕ) → i < angleCount f → natAbs (secondReduced f differences i *ℤ secondReduced f differences i) ≤ most * most =
         λ i b. product-magnitude (secondReduced f differences i) (secondReduced f differences i) most most (reduced-small i) (reduced-small i) in
         lt-of-le-of-lt
@@ -109,26 +106,25 @@ module _ (f : Figure) (tolerance : ℕ) (angles logSines : List ℕ) (difference
     numerator-small i =
         let factor = negℤ (pos 100) *ℤ pos (denominator f) in
         let scaled = product-magnitude (negℤ (pos 100)) (pos (denominator f)) 100 mostDenominator (le-refl 100) (denominator-bound f) in
-        let reduced = product-magnitude factor (secondReduced f differences i) (100 * mostDenominator) (7248 * mostDifference) scaled (reduced-small i) in
+        let reduced = product-magnitude factor (secondReduced f differences i) (100 * mostDenominator) mostReduced scaled (reduced-small i) in
         lt-of-le-of-lt
-        (product-magnitude (factor *ℤ secondReduced f differences i) (sineMisclosure f logSines) (100 * mostDenominator * (7248 * mostDifference)) (2 ^ 18) reduced (le-of-lt misclosure-small))
+        (product-magnitude (factor *ℤ secondReduced f differences i) (sineMisclosure f logSines) (100 * mostDenominator * mostReduced) mostMisclosure reduced misclosure-least)
         (lit< tt)
 
-    second-fits : Fits (secondShown f (column (given angles)) (secondWorkOf f angles logSines differences))
+    second-fits : Fits (secondShown f angles logSines differences)
     unfolding textOf
     second-fits =
         let lent = secondSheetLengths f angles logSines differences in
-        let few-conditions = le-trans (condition-bound f) (lit≤ tt) in
-        let work = secondWorkOf f angles logSines differences in
         second-length f (sineMisclosure f logSines) (sumOfSquares f differences)
-        (vector (column (given angles))) (vector (work .reduced)) (vector (work .numerators)) (vector (work .rounded)) (vector (work .adjusted)) (vector (work .rests))
-        (omega (arith, misclosure-small)) squares-small
-        (column-digits 7 (given angles) (angleCount f) (angle-bound f) (λ i b. omega (arith, small-angles f tolerance angles logSines differences lent (ok .entries) i)))
-        (column-digits 8 (secondReduced f differences) (angleCount f) (angle-bound f) (λ i b. omega (arith, reduced-small i)))
-        (column-digits 17 (secondNumerator f logSines differences) (angleCount f) (angle-bound f) (λ i b. numerator-small i))
-        (column-digits 8 (secondRounded f logSines differences) (angleCount f) (angle-bound f) (λ i b. omega (arith, rounded-most f tolerance angles logSines differences lent ok i b)))
-        (column-digits 7 (secondAdjusted f angles logSines differences) (angleCount f) (angle-bound f) (λ i b. omega (arith, result-most f tolerance angles logSines differences lent ok i b)))
-        (column-digits 1 (secondRest f logSines differences) (conditionCount f) few-conditions (λ j b. omega (arith, rest-most f tolerance angles logSines differences lent ok j b)))
+        (naturals angles) (vector (reducedOf f differences)) (vector (secondNumeratorsOf f logSines differences)) (vector (secondRoundedOf f logSines differences))
+        (naturals (adjustedOf f angles logSines differences)) (vector (secondRestsOf f logSines differences))
+        (omega (arith, misclosure-least)) squares-small
+        (λ i b. omega (arith, ok .entries .angle-most i))
+        (listed-digits 8 (secondReduced f differences) (angleCount f) (λ i b. omega (arith, reduced-small i)))
+        (listed-digits 17 (secondNumerator f logSines differences) (angleCount f) (λ i b. numerator-small i))
+        (listed-digits 8 (secondRounded f logSines differences) (angleCount f) (λ i b. omega (arith, rounded-most f tolerance angles logSines differences lent ok i b)))
+        (result-digits 7 (secondAdjusted f angles logSines differences) (angleCount f) (λ i b. omega (arith, result-most f tolerance angles logSines differences lent ok i b)))
+        (listed-digits 1 (secondRest f logSines differences) (conditionCount f) (λ j b. omega (arith, rest-most f tolerance angles logSines differences lent ok j b)))
 
 -- ---- any bytes
 
@@ -141,7 +137,8 @@ pub text-fits : (sheet : List ℕ) → length (reportText sheet) ≤ longestText
 text-fits sheet =
     ⊎-elim
     (λ (shown : FirstShown (workedOf sheet)).
-    subst Fits (sym (shown .is)) (first-fits (shown .figure) (shown .limit) (shown .angles) (shown .fixed) (shown .passed)))
+    subst Fits (sym (shown .is)) (first-fits (shown .figure) (shown .limit) (shown .angles) (shown .fixed)
+    (First.accepted (shown .figure) (shown .limit) (shown .angles) (shown .fixed) (firstSheetLengths (shown .figure) (shown .angles) (shown .fixed)) (shown .passed))))
     (⊎-elim
     (λ (shown : SecondShown sheet (workedOf sheet)).
     subst Fits (sym (shown .is))

@@ -1,16 +1,11 @@
 // Code 1, n = 0: the geodetic quadrilateral of document 01.
 ghost use mathlib.Core.Path.{_≡_};
 ghost use Rattle.figures.specs.Figure.{countsOf};
-ghost use Rattle.figures.specs.Numerators.{paddedRows, paddedMembers, paddedTargets, paddedSigns};
+ghost use Rattle.figures.specs.Numerators.{paddedRows};
 use figures::Counts;
 use figures::Figure;
-use figures::Target;
-use rows::MOST_CONDITIONS;
-use rows::MOST_MEMBERS;
-use rows::Members;
-use rows::Rows;
-use rows::Signs;
-use rows::Targets;
+use figures::MOST_CONDITIONS;
+use figures::Rows;
 
 pub struct Quadrilateral;
 
@@ -68,67 +63,6 @@ impl Quadrilateral {
             filling,
             filling,
             filling,
-        ]
-    }
-
-    // The angles of each condition by their numbers, filled with 0.
-    pub fn members() -> Members
-        ensures { λ r. ⌜ r ≡ paddedMembers Figure.Quadrilateral ⌝ }
-    {
-        let filling = [0; MOST_MEMBERS];
-        [
-            [1, 2, 3, 4, 0, 0, 0, 0],
-            [3, 4, 5, 6, 0, 0, 0, 0],
-            [5, 6, 7, 8, 0, 0, 0, 0],
-            filling,
-            filling,
-            filling,
-            filling,
-            filling,
-            filling,
-        ]
-    }
-
-    // What they should sum to.
-    pub fn targets() -> Targets
-        ensures { λ r. ⌜ r ≡ paddedTargets Figure.Quadrilateral ⌝ }
-    {
-        let half = Target::HalfTurn;
-        let none = Target::NoCondition;
-        [half, half, half, none, none, none, none, none, none]
-    }
-
-    // The sine sign of each angle, filled with 0.
-    pub fn signs() -> Signs
-        ensures { λ r. ⌜ r ≡ paddedSigns Figure.Quadrilateral ⌝ }
-    {
-        let odd = 1;
-        let even = -1;
-        [
-            odd,
-            even,
-            odd,
-            even,
-            odd,
-            even,
-            odd,
-            even,
-            0,
-            0,
-            0,
-            0,
-            0,
-            0,
-            0,
-            0,
-            0,
-            0,
-            0,
-            0,
-            0,
-            0,
-            0,
-            0,
         ]
     }
 }

@@ -1,16 +1,11 @@
 // Code 2, n = 3: a point in a known triangle, of document 01.
 ghost use mathlib.Core.Path.{_≡_};
 ghost use Rattle.figures.specs.Figure.{countsOf};
-ghost use Rattle.figures.specs.Numerators.{paddedRows, paddedMembers, paddedTargets, paddedSigns};
+ghost use Rattle.figures.specs.Numerators.{paddedRows};
 use figures::Counts;
 use figures::Figure;
-use figures::Target;
-use rows::MOST_CONDITIONS;
-use rows::MOST_MEMBERS;
-use rows::Members;
-use rows::Rows;
-use rows::Signs;
-use rows::Targets;
+use figures::MOST_CONDITIONS;
+use figures::Rows;
 
 pub struct PointInTriangle;
 
@@ -64,78 +59,6 @@ impl PointInTriangle {
             filling,
             filling,
             filling,
-        ]
-    }
-
-    // The angles of each condition by their numbers, filled with 0.
-    pub fn members() -> Members
-        ensures { λ r. ⌜ r ≡ paddedMembers Figure.PointInTriangle ⌝ }
-    {
-        let filling = [0; MOST_MEMBERS];
-        [
-            [1, 2, 3, 0, 0, 0, 0, 0],
-            [4, 5, 6, 0, 0, 0, 0, 0],
-            [7, 8, 9, 0, 0, 0, 0, 0],
-            [9, 2, 0, 0, 0, 0, 0, 0],
-            [3, 5, 0, 0, 0, 0, 0, 0],
-            [6, 8, 0, 0, 0, 0, 0, 0],
-            filling,
-            filling,
-            filling,
-        ]
-    }
-
-    // What they should sum to.
-    pub fn targets() -> Targets
-        ensures { λ r. ⌜ r ≡ paddedTargets Figure.PointInTriangle ⌝ }
-    {
-        let half = Target::HalfTurn;
-        let none = Target::NoCondition;
-        [
-            half,
-            half,
-            half,
-            Target::FixedAngle(1),
-            Target::FixedAngle(2),
-            Target::FixedAngle(3),
-            none,
-            none,
-            none,
-        ]
-    }
-
-    // The sine sign of each angle, filled with 0.
-    pub fn signs() -> Signs
-        ensures { λ r. ⌜ r ≡ paddedSigns Figure.PointInTriangle ⌝ }
-    {
-        let c = 0;
-        let l = 1;
-        let r = -1;
-        [
-            c,
-            l,
-            r,
-            c,
-            l,
-            r,
-            c,
-            l,
-            r,
-            0,
-            0,
-            0,
-            0,
-            0,
-            0,
-            0,
-            0,
-            0,
-            0,
-            0,
-            0,
-            0,
-            0,
-            0,
         ]
     }
 }

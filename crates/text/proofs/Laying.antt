@@ -1,14 +1,15 @@
 -- Laws of laying text in a buffer: where it has room and where not, and several texts laid one after the other. Assumes nothing.
 use mathlib.Core.Path.{_≡_, refl, sym, ap, ap₂, _∙_}
 use mathlib.Core.Bool.{Bool, true, false, cond}
-use mathlib.Core.List.{List, [], _++_, append-assoc, append-nil}
+use mathlib.Core.List.{List, [], _∷_, _++_, append-assoc, append-nil}
 use Prim.Native.Nat.{ℕ, _+_, _-_, _≤_, _<_}
 use native.Mathlib.Nat.{zero-add}
+use native.Mathlib.Numerals.{add-one}
 use native.Mathlib.Omega.{arith}
 use borrow.Author.Tests.{le-leb, lt-leb, leb-true, leb-false}
 use lib.Dec.{leb}
-use lib.ListN.{length, take, drop, length-append, length-take, length-drop, drop-of-length-le}
-use lib.Seq.{take-all, take-append-seam, take-append-le, take-append-add, take-at, drop-at, drop-drop, length-take-le, paste, take-length}
+use lib.ListN.{length, take, drop, set, length-append, length-take, length-drop, length-set, drop-of-length-le}
+use lib.Seq.{take-all, take-append-seam, take-append-le, take-append-add, take-at, drop-at, drop-drop, length-take-le, paste, take-length, append-snoc, set-split, take-set-le}
 use Rattle.text.specs.Text.{laid, after}
 use Rattle.text.specs.Holds.{Holds}
 
@@ -65,7 +66,37 @@ module _ (buffer : List ℕ) (at : ℕ) (t : List ℕ) where
       let none : length buffer - at ≡ 0 = omega arith in
       rw (take-all at buffer h, none, drop-of-length-le buffer {i = at + length t} (omega arith)) (append-nil (buffer ++ []) ∙ append-nil buffer)
 
+-- one byte
+module _ (buffer : List ℕ) (at b : ℕ) (h : at < length buffer) where
+  stored : set buffer at b ≡ take at buffer ++ (b ∷ drop (at + 1) buffer)
+  stored = set-split buffer at b h ∙ ap (λ (k : ℕ). take at buffer ++ (b ∷ drop k buffer)) (sym (add-one at))
+
+  pub laid-byte : laid buffer at (b ∷ []) ≡ set buffer at b
+  laid-byte = laid-room buffer at (b ∷ []) (omega arith) ∙ append-snoc (take at buffer) b (drop (at + 1) buffer) ∙ sym stored
+
+  drop-stored : drop at (set buffer at b) ≡ b ∷ drop (at + 1) buffer
+  drop-stored = ap (drop at) stored ∙ drop-at (take at buffer) (b ∷ drop (at + 1) buffer) at (length-take-le at buffer (omega arith))
+
+-- the last byte of a text may be stored before the others are laid
+pub laid-last : (buffer : List ℕ) (at : ℕ) (t : List ℕ) (b : ℕ) → at + length t < length buffer
+    → laid buffer at (t ++ (b ∷ [])) ≡ laid (set buffer (at + length t) b) at t
+laid-last buffer at t b h =
+    let place = at + length t in
+    let next : at + length (t ++ (b ∷ [])) ≡ at + length t + 1 = omega (arith, length-append t (b ∷ [])) in
+    laid-room buffer at (t ++ (b ∷ [])) (omega arith)
+    ∙ ap₂ (λ (l : List ℕ) (k : ℕ). l ++ drop k buffer) (sym (append-assoc (take at buffer) t (b ∷ []))) next
+    ∙ append-snoc (take at buffer ++ t) b (drop (place + 1) buffer)
+    ∙ ap₂ (λ (l m : List ℕ). l ++ t ++ m) (sym (take-set-le at buffer place b (omega arith))) (sym (drop-stored buffer place b h))
+    ∙ sym (laid-room (set buffer place b) at t (omega (arith, length-set buffer place b)))
+
 -- ---- One after the other
+
+after-then : (size at : ℕ) (t s : List ℕ) → after size (after size at t) s ≡ after size at (t ++ s)
+after-then size at t s =
+    room-or-none (after size (after size at t) s ≡ after size at (t ++ s)) (at + length t) size
+    (λ room. ap (λ (k : ℕ). after size k s) (after-room size at t room) ∙ after-same size (at + length t) at s (t ++ s) (omega (arith, length-append t s)))
+    (λ none. ap (λ (k : ℕ). after size k s) (after-none size at t none)
+    ∙ after-none size (size + 1) s (omega arith) ∙ sym (after-none size at (t ++ s) (omega (arith, length-append t s))))
 
 -- the second text at the position that the first one gave: it is as if both had been laid at once
 module _ (buffer : List ℕ) (at : ℕ) (t s : List ℕ) where
@@ -107,21 +138,26 @@ module _ (buffer : List ℕ) (at : ℕ) (t s : List ℕ) where
       ap₂ (λ (l m : List ℕ). take at buffer ++ l ++ m) (sym (take-append-le (length buffer - at) t s (omega arith)))
       (drop-past buffer (at + length t) (at + length (t ++ s)) (omega arith) (omega (arith, length-append t s)))
 
-  pub laid-then : laid (laid buffer at t) (after (length buffer) at t) s ≡ laid buffer at (t ++ s)
+  laid-then : laid (laid buffer at t) (after (length buffer) at t) s ≡ laid buffer at (t ++ s)
   laid-then =
       room-or-none (laid (laid buffer at t) (after (length buffer) at t) s ≡ laid buffer at (t ++ s)) (at + length t) (length buffer)
       (λ room. ap (λ (k : ℕ). laid (laid buffer at t) k s) (after-room (length buffer) at t room) ∙ then-room room)
       (λ none. ap (λ (k : ℕ). laid (laid buffer at t) k s) (after-none (length buffer) at t none)
       ∙ laid-past (laid buffer at t) (length buffer + 1) s (omega (arith, length-laid buffer at t)) ∙ then-none none)
 
-pub after-then : (size at : ℕ) (t s : List ℕ) → after size (after size at t) s ≡ after size at (t ++ s)
-after-then size at t s =
-    room-or-none (after size (after size at t) s ≡ after size at (t ++ s)) (at + length t) size
-    (λ room. ap (λ (k : ℕ). after size k s) (after-room size at t room) ∙ after-same size (at + length t) at s (t ++ s) (omega (arith, length-append t s)))
-    (λ none. ap (λ (k : ℕ). after size k s) (after-none size at t none)
-    ∙ after-none size (size + 1) s (omega arith) ∙ sym (after-none size at (t ++ s) (omega (arith, length-append t s))))
+  -- as a caller has it, who knows what each of the two gave
+  pub laid-more : {buffer′ buffer″ : List ℕ} {at′ at″ : ℕ} → buffer′ ≡ laid buffer at t → at′ ≡ after (length buffer) at t
+      → buffer″ ≡ laid buffer′ at′ s → at″ ≡ after (length buffer′) at′ s → (buffer″ ≡ laid buffer at (t ++ s)) × (at″ ≡ after (length buffer) at (t ++ s))
+  laid-more e p e′ p′ = (
+    e′ ∙ ap₂ (λ (l : List ℕ) (k : ℕ). laid l k s) e p ∙ laid-then,
+    p′ ∙ ap₂ (λ (size k : ℕ). after size k s) (ap length e ∙ length-laid buffer at t) p ∙ after-then (length buffer) at t s,
+  )
 
 -- ---- From the start
+
+-- what was laid where it has room, read off the buffer
+pub laid-taken : (start t : List ℕ) → length t ≤ length start → take (length t) (laid start 0 t) ≡ t
+laid-taken start t room = ap (take (length t)) (laid-room start 0 t (omega arith)) ∙ take-append-seam t (drop (0 + length t) start)
 
 pub holds-none : (start : List ℕ) → Holds start [] start 0
 holds-none start = record { bytes = sym (laid-room start 0 [] (omega arith)); position = sym (after-room (length start) 0 [] (omega arith)) }
@@ -132,16 +168,12 @@ module _ {start t buffer : List ℕ} {at : ℕ} (held : Holds start t buffer at)
 
   -- the next text is laid at the position that the last one gave
   pub holds-more : (s : List ℕ) {buffer′ : List ℕ} {at′ : ℕ} → buffer′ ≡ laid buffer at s → at′ ≡ after (length buffer) at s → Holds start (t ++ s) buffer′ at′
-  holds-more s e p = record {
-    bytes = e ∙ ap₂ (λ (l : List ℕ) (k : ℕ). laid l k s) (held .bytes) (held .position) ∙ laid-then start 0 t s;
-    position = p ∙ ap₂ (λ (size k : ℕ). after size k s) holds-size (held .position) ∙ after-then (length start) 0 t s;
-  }
+  holds-more s e p = let more = laid-more start 0 t s (held .bytes) (held .position) e p in record { bytes = more .0; position = more .1 }
 
   -- where all of it has room
   module _ (room : length t ≤ length start) where
     pub holds-length : at ≡ length t
     holds-length = held .position ∙ after-room (length start) 0 t (omega arith) ∙ zero-add (length t)
 
-    -- what was laid, read off the buffer
     pub holds-taken : take at buffer ≡ t
-    holds-taken = ap₂ take holds-length (held .bytes ∙ laid-room start 0 t (omega arith)) ∙ take-append-seam t (drop (0 + length t) start)
+    holds-taken = ap₂ take holds-length (held .bytes) ∙ laid-taken start t room

@@ -32,6 +32,10 @@ pub fn put_byte(buffer: &mut [u8], at: usize, byte: u8) -> usize
     ensures { λ _. ⌜ now (buffer .exit) ≡ laid (now (buffer .entry)) at (byte ∷ []) ⌝ }
     ensures { λ r. ⌜ r ≡ after (length (now (buffer .entry))) at (byte ∷ []) ⌝ }
 {
-    let word = [byte];
-    put_word(buffer, at, &word)
+    let size = buffer.len();
+    if at >= size {
+        return size + 1;
+    }
+    buffer[at] = byte;
+    at + 1
 }

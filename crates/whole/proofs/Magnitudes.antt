@@ -80,6 +80,9 @@ magnitude-read w z h = toZ-ofZ (magnitude-fits w z h)
 pub widened : (w w′ : Width) (z : ℤ) → T (leb (hbits w) (hbits w′)) → SFits w z → toZ w′ (ofZ w′ (toZ w (ofZ w z))) ≡ z
 widened w w′ z wider f = ap (λ (t : ℤ). toZ w′ (ofZ w′ t)) (toZ-ofZ f) ∙ toZ-ofZ (sfits-widen wider f)
 
+pub widens : (w w′ : Width) (z : ℤ) → T (leb (hbits w) (hbits w′)) → SFits w z → SFits w′ (toZ w (ofZ w z))
+widens w w′ z wider f = rw (toZ-ofZ f) (sfits-widen wider f)
+
 -- the product of two numbers fits a width more than twice theirs
 pub product-fits : (w w′ : Width) (a b : ℤ) → T (ltb (hbits w + hbits w) (hbits w′)) → SFits w a → SFits w b → SFits w′ (a *ℤ b)
 product-fits w w′ a b wide f g =

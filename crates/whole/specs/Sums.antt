@@ -37,9 +37,12 @@ identity zero (suc j) = pos 0
 identity (suc i) zero = pos 0
 identity (suc i) (suc j) = identity i j
 
--- a list of numbers, and a list of rows, as functions of the index
+-- a list of numbers, one of numbers from 0 up, and a list of rows, as functions of the index
 abbrev pub vector : List ℤ → ℕ → ℤ
 vector xs i = getD xs i (pos 0)
+
+abbrev pub naturals : List ℕ → ℕ → ℤ
+naturals xs i = pos (getD xs i 0)
 
 abbrev pub table : List (List ℤ) → ℕ → ℕ → ℤ
 table rows i j = vector (getD rows i []) j

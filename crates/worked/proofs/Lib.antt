@@ -1,3 +1,4 @@
 pub mod Refusals
 pub mod SheetBounds
+mod Sheets
 pub mod ShownAs

@@ -21,8 +21,7 @@ use Rattle.sheets.specs.Judging.{ownLengths, bodyRows, readingAfter}
 use Rattle.sheets.proofs.Accepted.{head-found}
 use Rattle.method.specs.FirstPass.{firstRows}
 use Rattle.method.specs.SecondPass.{secondRows}
-use Rattle.worked.specs.declared.WorkedSheet.{WorkedSheet}
-use Rattle.worked.specs.Worked.{shownIf, firstSheet, secondSheet, workedKind, workedRead, workedLook, workedOf, passRows, sheetRows, outcomeTold}
+use Rattle.worked.specs.Worked.{WorkedSheet, shownIf, firstSheet, secondSheet, workedKind, workedRead, workedLook, workedOf, passRows, sheetRows, outcomeTold}
 
 -- every row is in the table
 pass-known : (kind : Kind) (f : Figure) (v : Values) → T (allInTable (passRows kind f v))

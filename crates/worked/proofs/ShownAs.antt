@@ -18,14 +18,9 @@ use Rattle.sheets.specs.declared.Reading.{Reading}
 use Rattle.sheets.specs.Sheet.{valuesRead}
 use Rattle.sheets.specs.Judging.{ownLengths, bodyRows, readingAfter}
 use Rattle.sheets.proofs.Accepted.{head-found}
-use Rattle.columns.specs.Column.{column}
-use Rattle.method.specs.Pass.{given}
 use Rattle.method.specs.FirstPass.{firstRows}
 use Rattle.method.specs.SecondPass.{secondRows}
-use Rattle.work.specs.FirstWork.{firstWorkOf}
-use Rattle.work.specs.SecondWork.{secondWorkOf}
-use Rattle.worked.specs.declared.WorkedSheet.{WorkedSheet}
-use Rattle.worked.specs.Worked.{firstSheetLengths, secondSheetLengths, refusedSheet, shownIf, firstShown, firstSheet, secondShown, secondSheet, workedRead, workedLook, workedOf, differencesIn}
+use Rattle.worked.specs.Worked.{WorkedSheet, firstSheetLengths, secondSheetLengths, refusedSheet, shownIf, firstShown, firstSheet, secondShown, secondSheet, workedRead, workedLook, workedOf, differencesIn}
 
 pub record FirstShown (worked : WorkedSheet) : Type 0 where
   pub figure : Figure
@@ -33,7 +28,7 @@ pub record FirstShown (worked : WorkedSheet) : Type 0 where
   pub angles : List ℕ
   pub fixed : List ℕ
   pub passed : judged (firstRows figure limit angles fixed (firstSheetLengths figure angles fixed)) ≡ Passed
-  pub is : worked ≡ firstShown figure (column (given angles)) (firstWorkOf figure angles fixed)
+  pub is : worked ≡ firstShown figure angles fixed
 
 pub record SecondShown (sheet : List ℕ) (worked : WorkedSheet) : Type 0 where
   pub figure : Figure
@@ -43,7 +38,7 @@ pub record SecondShown (sheet : List ℕ) (worked : WorkedSheet) : Type 0 where
   pub differences : List ℤ
   pub held : differencesIn sheet ≡ differences
   pub passed : judged (secondRows figure tolerance angles logSines differences (secondSheetLengths figure angles logSines differences)) ≡ Passed
-  pub is : worked ≡ secondShown figure (column (given angles)) (secondWorkOf figure angles logSines differences)
+  pub is : worked ≡ secondShown figure angles logSines differences
 
 pub record RefusedShown (worked : WorkedSheet) : Type 0 where
   pub refusal : Refusal
@@ -61,7 +56,7 @@ module _ (sheet : List ℕ) where
   first-shown f limit angles fixed = go (judged (firstRows f limit angles fixed (firstSheetLengths f angles fixed))) refl
     where
       go : (v : Verdict) → judged (firstRows f limit angles fixed (firstSheetLengths f angles fixed)) ≡ v
-          → ShownAs sheet (shownIf v (firstShown f (column (given angles)) (firstWorkOf f angles fixed)))
+          → ShownAs sheet (shownIf v (firstShown f angles fixed))
       go Passed e = inl (record { figure = f; limit = limit; angles = angles; fixed = fixed; passed = e; is = refl })
       go (Failed refusal) e = refused-shown refusal
 
@@ -71,7 +66,7 @@ module _ (sheet : List ℕ) where
   second-shown f tolerance angles logSines differences held = go (judged (secondRows f tolerance angles logSines differences (secondSheetLengths f angles logSines differences))) refl
     where
       go : (v : Verdict) → judged (secondRows f tolerance angles logSines differences (secondSheetLengths f angles logSines differences)) ≡ v
-          → ShownAs sheet (shownIf v (secondShown f (column (given angles)) (secondWorkOf f angles logSines differences)))
+          → ShownAs sheet (shownIf v (secondShown f angles logSines differences))
       go Passed e = inr (inl (record {
         figure = f;
         tolerance = tolerance;

@@ -2,8 +2,8 @@
 use Prim.Native.Nat.{ℕ}
 use mathlib.Core.Path.{_≡_}
 use mathlib.Core.List.{List, [], _∷_, _++_}
-use lib.IntN.{ℤ, pos}
-use lib.ListN.{length, take, replicate}
+use lib.IntN.{ℤ}
+use lib.ListN.{length, take}
 use Rattle.refusals.specs.declared.Refusal.{Refusal}
 use Rattle.refusals.specs.declared.Verdict.{Verdict}
 use Rattle.refusals.specs.declared.Verdict.the-variants.{Passed, Failed}
@@ -20,20 +20,11 @@ use Rattle.heads.specs.Head.{headRows, lookOf, ofHead}
 use Rattle.layout.specs.Layout.{fixedIn, sineEntriesIn}
 use Rattle.sheets.specs.declared.Reading.{Reading}
 use Rattle.sheets.specs.declared.Reading.the-variants.{Read}
-use Rattle.sheets.specs.Judging.{ownLengths, bodyRows, readingOf, afterReading}
+use Rattle.sheets.specs.Judging.{ownLengths, bodyRows, readingOf, readingAfter, afterReading}
 use Rattle.sheets.specs.Sheet.{Values, valuesRead}
-use Rattle.work.specs.declared.first.FirstWork.{FirstWork}
-use Rattle.work.specs.declared.second.SecondWork.{SecondWork}
-use Rattle.worked.specs.declared.Outcome.{Outcome}
-use Rattle.worked.specs.declared.Outcome.the-variants.{First, Second}
 use Rattle.worked.specs.declared.SheetValues.{SheetValues}
-use Rattle.worked.specs.declared.WorkedSheet.{WorkedSheet}
-use Rattle.columns.specs.Column.{column}
-use Rattle.method.specs.FirstPass.{firstResultLengths, firstRows}
-use Rattle.method.specs.Pass.{given}
-use Rattle.method.specs.SecondPass.{secondResultLengths, secondRows}
-use Rattle.work.specs.SecondWork.{secondWorkOf}
-use Rattle.work.specs.FirstWork.{firstWorkOf}
+use Rattle.method.specs.FirstPass.{firstResultLengths, firstRows, misclosuresOf, numeratorsOf, roundedOf, correctedOf, restsOf}
+use Rattle.method.specs.SecondPass.{sineMisclosure, sumOfSquares, secondResultLengths, secondRows, reducedOf, secondNumeratorsOf, secondRoundedOf, adjustedOf, secondRestsOf}
 
 -- no figure has more fixed angles
 abbrev pub mostFixed : ℕ
@@ -49,7 +40,7 @@ pub record FullArrays (r : SheetValues) : Type 0 where
 -- the reader's answer, and its values at the start of each array
 pub record ReadInto (sheet : List ℕ) (kind : Kind) (f : Figure) (r : SheetValues) : Type 0 where
   pub full : FullArrays r
-  pub reading-is : r .reading ≡ readingOf sheet (ownLengths kind f)
+  pub reading-is : r .reading ≡ readingAfter (judged (bodyRows kind f sheet (ownLengths kind f))) kind f sheet
   pub angles-are : take (angleCount f) (r .angles) ≡ afterReading (r .reading) (λ k g. valuesRead k g sheet .angles) (take (angleCount f) (r .angles))
   pub fixed-are : take (fixedIn kind f) (r .fixed) ≡ afterReading (r .reading) (λ k g. valuesRead k g sheet .fixed) (take (fixedIn kind f) (r .fixed))
   pub log-sines-are : take (sineEntriesIn kind f) (r .«log_sines») ≡ afterReading (r .reading) (λ k g. valuesRead k g sheet .logSines) (take (sineEntriesIn kind f) (r .«log_sines»))
@@ -58,31 +49,45 @@ pub record ReadInto (sheet : List ℕ) (kind : Kind) (f : Figure) (r : SheetValu
 
 -- ---- what is shown of a sheet
 
-abbrev pub nothing : List ℤ
-nothing = replicate mostAngles (pos 0)
+-- what became of it
+pub data Outcome : Type 0 where
+  First : Figure → Outcome
+  Second : Figure → (w s : ℤ) → Outcome
+  Refused : Refusal → Outcome
+
+-- and a list for each thing that its lines show, in the order of the numbers of angles or conditions; none where a kind has none
+pub record WorkedSheet : Type 0 where
+  pub outcome : Outcome
+  pub given : List ℕ
+  pub misclosures : List ℤ
+  pub reduced : List ℤ
+  pub numerators : List ℤ
+  pub rounded : List ℤ
+  pub results : List ℕ
+  pub rests : List ℤ
 
 abbrev pub refusedSheet : Refusal → WorkedSheet
 refusedSheet r = record {
   outcome = Outcome.Refused r;
-  given = nothing;
-  misclosures = nothing;
-  reduced = nothing;
-  numerators = nothing;
-  rounded = nothing;
-  results = nothing;
-  rests = nothing;
+  given = [];
+  misclosures = [];
+  reduced = [];
+  numerators = [];
+  rounded = [];
+  results = [];
+  rests = [];
 }
 
-abbrev pub firstShown : Figure → (given : List ℤ) → FirstWork → WorkedSheet
-firstShown f given work = record {
+abbrev pub firstShown : Figure → (angles fixed : List ℕ) → WorkedSheet
+firstShown f angles fixed = record {
   outcome = First f;
-  given = given;
-  misclosures = work .misclosures;
-  reduced = nothing;
-  numerators = work .numerators;
-  rounded = work .rounded;
-  results = work .corrected;
-  rests = work .rests;
+  given = angles;
+  misclosures = misclosuresOf f angles fixed;
+  reduced = [];
+  numerators = numeratorsOf f angles fixed;
+  rounded = roundedOf f angles fixed;
+  results = correctedOf f angles fixed;
+  rests = restsOf f angles fixed;
 }
 
 abbrev pub shownIf : Verdict → WorkedSheet → WorkedSheet
@@ -95,18 +100,18 @@ firstSheetLengths f angles fixed = length angles ∷ length fixed ∷ firstResul
 
 unfoldable pub firstSheet : Figure → (limit : ℕ) → (angles fixed : List ℕ) → WorkedSheet
 firstSheet f limit angles fixed =
-    shownIf (judged (firstRows f limit angles fixed (firstSheetLengths f angles fixed))) (firstShown f (column (given angles)) (firstWorkOf f angles fixed))
+    shownIf (judged (firstRows f limit angles fixed (firstSheetLengths f angles fixed))) (firstShown f angles fixed)
 
-abbrev pub secondShown : Figure → (given : List ℤ) → SecondWork → WorkedSheet
-secondShown f given work = record {
-  outcome = Second f (work .misclosure) (work .squares);
-  given = given;
-  misclosures = nothing;
-  reduced = work .reduced;
-  numerators = work .numerators;
-  rounded = work .rounded;
-  results = work .adjusted;
-  rests = work .rests;
+abbrev pub secondShown : Figure → (angles logSines : List ℕ) → (differences : List ℤ) → WorkedSheet
+secondShown f angles logSines differences = record {
+  outcome = Second f (sineMisclosure f logSines) (sumOfSquares f differences);
+  given = angles;
+  misclosures = [];
+  reduced = reducedOf f differences;
+  numerators = secondNumeratorsOf f logSines differences;
+  rounded = secondRoundedOf f logSines differences;
+  results = adjustedOf f angles logSines differences;
+  rests = secondRestsOf f logSines differences;
 }
 
 -- kind 2: the second pass of the figure, with slices of the right lengths lent for the results
@@ -116,7 +121,7 @@ secondSheetLengths f angles logSines differences = length angles ∷ length logS
 unfoldable pub secondSheet : Figure → (tolerance : ℕ) → (angles logSines : List ℕ) → (differences : List ℤ) → WorkedSheet
 secondSheet f tolerance angles logSines differences =
     shownIf (judged (secondRows f tolerance angles logSines differences (secondSheetLengths f angles logSines differences)))
-    (secondShown f (column (given angles)) (secondWorkOf f angles logSines differences))
+    (secondShown f angles logSines differences)
 
 -- ---- from what the reader answered
 

@@ -1,40 +1,22 @@
-// A sheet worked through, by value: document 01, "Sheets worked through". Read by the reader's promise, and then its pass.
+// A sheet worked through, straight to its lines: document 01, "Sheets worked through". Looked at and read once, then worked by the pass of its kind, and
+// its lines laid from what was read and worked.
 ghost use mathlib.Core.Path.{_≡_};
-ghost use Rattle.worked.specs.Worked.{ReadInto, FullArrays, refusedSheet, firstShown, firstSheet, secondShown, secondSheet, workedFrom, workedOf};
-use columns::column_of;
+ghost use Rattle.text.specs.Holds.{Holds};
+ghost use Rattle.worked.specs.Texts.{textOf, workedText};
+ghost use Rattle.worked.specs.Worked.{ReadInto, FullArrays, firstSheet, secondSheet, workedFrom};
 use figures::Figure;
-use method::Column;
-use method::first_result_lengths;
-use method::second_result_lengths;
-use refusals::Refusal;
+use figures::MOST_ANGLES;
+use figures::MOST_CONDITIONS;
+use lines::first_lines;
+use lines::refused_lines;
+use lines::second_lines;
+use method::SecondAnswer;
+use passes::first_pass_of;
+use passes::second_pass_of;
 use refusals::Verdict;
 use sheets::Kind;
 use sheets::Look;
 use sheets::Reading;
-use tables::MOST_ANGLES;
-use work::FirstWork;
-use work::SecondWork;
-use work::first_judged;
-use work::second_judged;
-
-// What became of a sheet.
-pub enum Outcome {
-    First(Figure),
-    Second(Figure, i64, i64),
-    Refused(Refusal),
-}
-
-// A sheet worked through: a column for each thing that its lines show, and 0 where a kind has none.
-pub struct WorkedSheet {
-    pub outcome: Outcome,
-    pub given: Column,
-    pub misclosures: Column,
-    pub reduced: Column,
-    pub numerators: Column,
-    pub rounded: Column,
-    pub results: Column,
-    pub rests: Column,
-}
 
 // No figure has more fixed angles.
 const MOST_FIXED: usize = 3;
@@ -59,8 +41,10 @@ fn values_of(sheet: &[u8], kind: Kind, figure: Figure) -> SheetValues
     let mut fixed = [0u32; MOST_FIXED];
     let mut log_sines = [0u32; MOST_ANGLES];
     let mut differences = [0i32; MOST_ANGLES];
-    let reading = reading::read_sheet(
+    let reading = reading::read_body(
         sheet,
+        kind,
+        figure,
         &mut angles[..n],
         &mut fixed[..k],
         &mut log_sines[..m],
@@ -75,105 +59,99 @@ fn values_of(sheet: &[u8], kind: Kind, figure: Figure) -> SheetValues
     }
 }
 
-fn refused(refusal: Refusal) -> WorkedSheet
-    ensures { λ r. ⌜ r ≡ refusedSheet refusal ⌝ }
-{
-    let outcome = Outcome::Refused(refusal);
-    WorkedSheet {
-        outcome,
-        given: [0i64; MOST_ANGLES],
-        misclosures: [0i64; MOST_ANGLES],
-        reduced: [0i64; MOST_ANGLES],
-        numerators: [0i64; MOST_ANGLES],
-        rounded: [0i64; MOST_ANGLES],
-        results: [0i64; MOST_ANGLES],
-        rests: [0i64; MOST_ANGLES],
-    }
-}
-
 // A sheet of kind 1.
-fn first_sheet(f: Figure, limit: u32, angles: &[u32], fixed: &[u32]) -> WorkedSheet
-    ensures { λ r. ⌜ r ≡ firstSheet f limit (now (angles .entry)) (now (fixed .entry)) ⌝ }
+fn first_sheet(buffer: &mut [u8], f: Figure, limit: u32, angles: &[u32], fixed: &[u32]) -> usize
+    ensures { λ r. ⌜ Holds (now (buffer .entry)) (textOf (firstSheet f limit (now (angles .entry)) (now (fixed .entry))))
+        (now (buffer .exit)) r ⌝ }
 {
-    let judged = first_judged(f, limit, angles, fixed, first_result_lengths(f));
-    let verdict = judged.verdict;
+    let counts = tables::counts_of(f);
+    let n = counts.angles;
+    let m = counts.conditions;
+    let mut misclosures = [0i32; MOST_CONDITIONS];
+    let mut numerators = [0i32; MOST_ANGLES];
+    let mut rounded = [0i32; MOST_ANGLES];
+    let mut corrected = [0u32; MOST_ANGLES];
+    let mut rests = [0i32; MOST_CONDITIONS];
+    let verdict = first_pass_of(
+        f,
+        limit,
+        angles,
+        fixed,
+        &mut misclosures[..m],
+        &mut numerators[..n],
+        &mut rounded[..n],
+        &mut corrected[..n],
+        &mut rests[..m],
+    );
     match verdict {
-        Verdict::Failed(refusal) => refused(refusal),
-        Verdict::Passed => first_shown(f, column_of(angles), judged.work),
-    }
-}
-
-fn first_shown(f: Figure, given: Column, work: FirstWork) -> WorkedSheet
-    ensures { λ r. ⌜ r ≡ firstShown f given work ⌝ }
-{
-    let outcome = Outcome::First(f);
-    let misclosures = work.misclosures;
-    let numerators = work.numerators;
-    let rounded = work.rounded;
-    let results = work.corrected;
-    let rests = work.rests;
-    WorkedSheet {
-        outcome,
-        given,
-        misclosures,
-        reduced: [0i64; MOST_ANGLES],
-        numerators,
-        rounded,
-        results,
-        rests,
+        Verdict::Failed(refusal) => refused_lines(buffer, refusal),
+        Verdict::Passed => first_lines(
+            buffer,
+            f,
+            angles,
+            &numerators[..n],
+            &rounded[..n],
+            &corrected[..n],
+            &misclosures[..m],
+            &rests[..m],
+        ),
     }
 }
 
 // A sheet of kind 2.
 fn second_sheet(
+    buffer: &mut [u8],
     f: Figure,
     tolerance: u32,
     angles: &[u32],
     log_sines: &[u32],
     differences: &[i32],
-) -> WorkedSheet
-    ensures { λ r. ⌜ r ≡ secondSheet f tolerance (now (angles .entry)) (now («log_sines» .entry)) (now (differences .entry)) ⌝ }
+) -> usize
+    ensures { λ r. ⌜ Holds (now (buffer .entry))
+        (textOf (secondSheet f tolerance (now (angles .entry)) (now («log_sines» .entry)) (now (differences .entry))))
+        (now (buffer .exit)) r ⌝ }
 {
-    let judged = second_judged(
+    let counts = tables::counts_of(f);
+    let n = counts.angles;
+    let m = counts.conditions;
+    let mut reduced = [0i64; MOST_ANGLES];
+    let mut numerators = [0i64; MOST_ANGLES];
+    let mut rounded = [0i32; MOST_ANGLES];
+    let mut adjusted = [0u32; MOST_ANGLES];
+    let mut rests = [0i32; MOST_CONDITIONS];
+    let answer = second_pass_of(
         f,
         tolerance,
         angles,
         log_sines,
         differences,
-        second_result_lengths(f),
+        &mut reduced[..n],
+        &mut numerators[..n],
+        &mut rounded[..n],
+        &mut adjusted[..n],
+        &mut rests[..m],
     );
-    let verdict = judged.verdict;
-    match verdict {
-        Verdict::Failed(refusal) => refused(refusal),
-        Verdict::Passed => second_shown(f, column_of(angles), judged.work),
-    }
-}
-
-fn second_shown(f: Figure, given: Column, work: SecondWork) -> WorkedSheet
-    ensures { λ r. ⌜ r ≡ secondShown f given work ⌝ }
-{
-    let outcome = Outcome::Second(f, work.misclosure, work.squares);
-    let reduced = work.reduced;
-    let numerators = work.numerators;
-    let rounded = work.rounded;
-    let results = work.adjusted;
-    let rests = work.rests;
-    WorkedSheet {
-        outcome,
-        given,
-        misclosures: [0i64; MOST_ANGLES],
-        reduced,
-        numerators,
-        rounded,
-        results,
-        rests,
+    match answer {
+        SecondAnswer::Refused(refusal) => refused_lines(buffer, refusal),
+        SecondAnswer::Done(w, s) => second_lines(
+            buffer,
+            f,
+            w,
+            s,
+            angles,
+            &reduced[..n],
+            &numerators[..n],
+            &rounded[..n],
+            &adjusted[..n],
+            &rests[..m],
+        ),
     }
 }
 
 // What the reader stored, worked by the pass of the kind that it read.
-fn worked_values(kind: Kind, figure: Figure, values: SheetValues) -> WorkedSheet
+fn values_lines(buffer: &mut [u8], kind: Kind, figure: Figure, values: SheetValues) -> usize
     requires { ⌜ FullArrays values ⌝ }
-    ensures { λ r. ⌜ r ≡ workedFrom kind figure values ⌝ }
+    ensures { λ r. ⌜ Holds (now (buffer .entry)) (textOf (workedFrom kind figure values)) (now (buffer .exit)) r ⌝ }
 {
     let lengths = sheets::lengths_of(kind, figure);
     let n = lengths.angles;
@@ -185,14 +163,21 @@ fn worked_values(kind: Kind, figure: Figure, values: SheetValues) -> WorkedSheet
     let differences = values.differences;
     let reading = values.reading;
     match reading {
-        Reading::Refused(refusal) => refused(refusal),
+        Reading::Refused(refusal) => refused_lines(buffer, refusal),
         Reading::Read {
             kind: read,
             figure: f,
             limit_or_tolerance,
         } => match read {
-            Kind::FirstPass => first_sheet(f, limit_or_tolerance, &angles[..n], &fixed[..k]),
+            Kind::FirstPass => first_sheet(
+                buffer,
+                f,
+                limit_or_tolerance,
+                &angles[..n],
+                &fixed[..k],
+            ),
             Kind::SecondPass => second_sheet(
+                buffer,
                 f,
                 limit_or_tolerance,
                 &angles[..n],
@@ -203,12 +188,14 @@ fn worked_values(kind: Kind, figure: Figure, values: SheetValues) -> WorkedSheet
     }
 }
 
-// From any bytes: the reader's refusal, the pass's refusal, or the worked figure.
-pub fn worked_sheet(sheet: &[u8]) -> WorkedSheet
-    ensures { λ r. ⌜ r ≡ workedOf (now (sheet .entry)) ⌝ }
+// The text of any bytes, from the start of a lent slice: the reader's refusal, the pass's refusal, or the lines of the worked figure. It answers as `lines` does.
+pub fn worked_lines(buffer: &mut [u8], sheet: &[u8]) -> usize
+    ensures { λ r. ⌜ Holds (now (buffer .entry)) (workedText (now (sheet .entry))) (now (buffer .exit)) r ⌝ }
 {
     match sheets::look_at(sheet) {
-        Look::Refused(refusal) => refused(refusal),
-        Look::Head(kind, figure) => worked_values(kind, figure, values_of(sheet, kind, figure)),
+        Look::Refused(refusal) => refused_lines(buffer, refusal),
+        Look::Head(kind, figure) => {
+            values_lines(buffer, kind, figure, values_of(sheet, kind, figure))
+        }
     }
 }

@@ -1,58 +1,42 @@
--- `numerals::put_number` meets its contract: the part of the room that is laid, from the first byte spelled to the end, is the number's text.
-use mathlib.Core.Path.{_≡_, ap, _∙_}
-use Prim.Native.Nat.{_-_}
-use native.Mathlib.Omega.{arith}
+-- `numerals::put_number` meets its contract: the digits of the magnitude, and below zero a minus sign before them.
+use mathlib.Core.Path.{_≡_, sym, ap, _∙_}
+use mathlib.Core.List.{[], _∷_}
 use borrow.Author.Needs.{needs}
-use lib.ListN.{length, take, drop, length-drop}
-use lib.Seq.{take-all}
+use lib.IntN.{natAbs}
+use mir.Syntax.{w64}
 use mir.Facts.{toZ-ofZ}
-use Rattle.text.specs.Text.{decimal, laid, after}
+use Rattle.whole.proofs.Magnitudes.{below-zero, not-below-zero}
+use Rattle.text.specs.Text.{minus, decimal, natural}
+use Rattle.text.proofs.Laying.{laid-more}
+use Rattle.text.proofs.Numbers.{decimal-negative, decimal-other}
 use Rattle.numerals.proofs.put_number.Statement.{statement}
 use Rattle.numerals.proofs.put_number.Tie as tie
 
-decimal-requires : tie.Need-decimal-requires
-decimal-requires c κs = search needs
+size : (c : tie.After-magnitude) → natural (c .magnitude .result) ≡ natural (natAbs (c .before .before .args .value))
+size c = ap natural (c .magnitude .ensures ∙ ap natAbs (toZ-ofZ (c .before .before .fits .value)))
 
-sub-put-word : tie.Need-sub-put-word
-sub-put-word c = search needs
+below : (c : tie.Then1) → minus ∷ natural (c .before .magnitude .result) ≡ decimal (c .before .before .before .args .value)
+below c =
+    let start = c .before .before .before in
+    ap (λ l. minus ∷ l) (size (c .before)) ∙ sym (decimal-negative (start .args .value) (below-zero w64 (start .args .value) (start .fits .value) (c .if1 .taken)))
 
-part-put-word-start : tie.Need-part-put-word-start
-part-put-word-start c = search needs
-
-part-put-word-end : tie.Need-part-put-word-end
-part-put-word-end c = search needs
-
-put-word-requires : tie.Need-put-word-requires
-put-word-requires c κs = search needs
-
-same-length : tie.Need-same-length
-same-length c = search needs
-
-laid-part : (c : tie.After-decimal) → take (21 - c .decimal .result .first) (drop (c .decimal .result .first) (c .decimal .result .room)) ≡ decimal (c .before .before .args .value)
-laid-part c =
-    let spelled = c .decimal in
-    take-all (21 - spelled .result .first) (drop (spelled .result .first) (spelled .result .room))
-    (omega (arith, length-drop (spelled .result .first) (spelled .result .room)))
-    ∙ spelled .ensures .2
-    ∙ ap decimal (toZ-ofZ (c .before .before .fits .value))
+other : (c : tie.Else1) → natural (c .before .magnitude .result) ≡ decimal (c .before .before .before .args .value)
+other c =
+    let start = c .before .before .before in
+    size (c .before) ∙ sym (decimal-other (start .args .value) (not-below-zero w64 (start .args .value) (start .fits .value) (c .if1 .left)))
 
 returns : tie.Need-returns
+unfolding decimal
 returns c =
-    let spelled = c .before .before .before .before .before .before .before in
-    let start = spelled .before .before in
-    let put = c .before .before .put-word in (
-      put .ensures .0 ∙ ap (laid (start .args .buffer .now) (start .args .at)) (laid-part spelled),
-      put .ensures .1 ∙ ap (after (length (start .args .buffer .now)) (start .args .at)) (laid-part spelled),
-    )
+    let byte = c .before .before .before .before .before .before in
+    let put = c .before .before .put-natural in
+    rw (← below (byte .before .before)) (laid-more _ _ (minus ∷ []) _ (byte .put-byte .ensures .0) (byte .put-byte .ensures .1) (put .ensures .0) (put .ensures .1))
+
+returns-2 : tie.Need-returns-2
+unfolding decimal
+returns-2 c = rw (← other (c .before .before .before .before)) (c .before .before .put-natural2 .ensures)
 
 pub put-number-spec : {M : Type 1} → statement M
 put-number-spec =
     tie.close
-    (tie.spec
-    decimal-requires
-    sub-put-word
-    part-put-word-start
-    part-put-word-end
-    put-word-requires
-    same-length
-    returns)
+    (tie.spec (λ c κs. search needs) (λ c κs. search needs) (λ c κs. search needs) (λ c κs. search needs) (λ c. search needs) returns (λ c. search needs) returns-2)

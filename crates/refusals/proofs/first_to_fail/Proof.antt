@@ -6,12 +6,6 @@ use Rattle.refusals.proofs.Answers.{answer-of-one}
 use Rattle.refusals.proofs.first_to_fail.Statement.{statement}
 use Rattle.refusals.proofs.first_to_fail.Tie as tie
 
-enum-told : tie.Need-enum-told
-enum-told c = search needs
-
-enum-told-2 : tie.Need-enum-told-2
-enum-told-2 c = search needs
-
 returns : tie.Need-returns
 unfolding answerOf
 returns c = search needs
@@ -21,4 +15,4 @@ unfolding answerOf
 returns-2 c = rw (c .enum-told2 .given .1) (sym (answer-of-one (c .before .before .args .later)))
 
 pub first-to-fail-spec : {M : Type 1} → statement M
-first-to-fail-spec = tie.close (tie.spec enum-told enum-told-2 returns returns-2)
+first-to-fail-spec = tie.close (tie.spec (λ c. c .match .keys1) (λ c. c .match .keys2) returns returns-2)

@@ -1,78 +1,158 @@
--- `worked::first_sheet` meets its contract: what the figure's rows say, and its work where they hold nowhere.
-use mathlib.Core.Path.{_≡_, sym, ap, ap₂, _∙_}
-use mathlib.Core.List.{List, _∷_}
-use Prim.Native.Nat.{ℕ}
+-- `worked::first_sheet` meets its contract: the lines of what the pass left, or its refusal.
+use mathlib.Core.Path.{_≡_, sym, ap, _∙_, subst}
+use mathlib.Core.List.{List, [], _∷_, _++_}
+use Prim.Native.Nat.{ℕ, _≤_}
+use native.Mathlib.Omega.{arith}
 use borrow.Author.Needs.{needs}
 use denote.Ref.{now}
-use lib.IntN.{ℤ}
-use lib.ListN.{length}
-use Rattle.refusals.specs.declared.Verdict.{Verdict}
-use Rattle.refusals.specs.Order.{judged}
-use Rattle.work.specs.declared.first.FirstJudged.{FirstJudged}
-use Rattle.work.specs.declared.first.FirstWork.{FirstWork}
-use Rattle.columns.specs.Column.{column}
-use Rattle.method.specs.FirstPass.{firstRows}
-use Rattle.method.specs.Pass.{given}
-use Rattle.work.specs.FirstWork.{firstWorkOf, firstJudgedOf}
-use Rattle.work.proofs.FirstAccepted.{judged-verdict, steps-pass}
-use Rattle.worked.specs.Worked.{firstSheetLengths, firstSheet, firstShown, shownIf}
+use lib.IntN.{ℤ, pos}
+use lib.ListN.{length, take, drop, replicate}
+use Rattle.whole.specs.Sums.{vector, naturals}
+use Rattle.text.specs.Holds.{Holds}
+use Rattle.lines.specs.Lines.{firstText}
+use Rattle.figures.specs.declared.Counts.{Counts}
+use Rattle.figures.specs.Figure.{angleCount, conditionCount}
+use Rattle.figures.proofs.Figures.{angle-bound, condition-bound}
+use Rattle.method.specs.FirstPass.{firstResultLengths}
+use Rattle.passes.specs.Promises.{FirstLent, firstLent, firstResultsLent}
+use Rattle.passes.proofs.Again.{lent-length, Again, again}
+use Rattle.worked.proofs.Sheets.{first-refused, first-worked}
 use Rattle.worked.proofs.first_sheet.Statement.{statement}
 use Rattle.worked.proofs.first_sheet.Tie as tie
 
-module _ (j : tie.After-first-judged) where
+module _ (c : tie.After-counts-of) where
+  abbrev n : ℕ
+  n = c .counts-of .result .angles
+
+  abbrev m : ℕ
+  m = c .counts-of .result .conditions
+
+  n-is : n ≡ angleCount (c .before .before .before .before .args .f)
+  n-is = ap (λ (k : Counts). k .angles) (c .counts-of .ensures)
+
+  m-is : m ≡ conditionCount (c .before .before .before .before .args .f)
+  m-is = ap (λ (k : Counts). k .conditions) (c .counts-of .ensures)
+
+  few-angles : n ≤ 24
+  few-angles = omega (arith, n-is, angle-bound (c .before .before .before .before .args .f))
+
+  few-conditions : m ≤ 9
+  few-conditions = omega (arith, m-is, condition-bound (c .before .before .before .before .args .f))
+
+-- what the pass left, each at the start of its array
+module _ (p : tie.After-first-pass-of) where
+  abbrev counts : tie.After-counts-of
+  counts = p .before .before .before .before .before .before
+
   abbrev start : tie.Start
-  start = j .before .before .before .before
+  start = counts .before .before .before .before
 
-  abbrev angles : List ℕ
-  angles = now (start .args .angles)
+  abbrev misclosures : List ℤ
+  misclosures = p .first-pass-of .last .1 .1 .1 .1 .0
 
-  abbrev fixed : List ℕ
-  fixed = now (start .args .fixed)
+  abbrev numerators : List ℤ
+  numerators = p .first-pass-of .last .1 .1 .1 .1 .1 .0
 
-  abbrev lent : List ℕ
-  lent = firstSheetLengths (start .args .f) angles fixed
+  abbrev rounded : List ℤ
+  rounded = p .first-pass-of .last .1 .1 .1 .1 .1 .1 .0
 
-  judged-is : j .first-judged .result ≡ firstJudgedOf (start .args .f) (start .args .limit) angles fixed lent
-  judged-is =
-      j .first-judged .ensures
-      ∙ ap (λ (results : List ℕ). firstJudgedOf (start .args .f) (start .args .limit) angles fixed (length angles ∷ length fixed ∷ results)) (j .before .first-result-lengths .ensures)
+  abbrev corrected : List ℕ
+  corrected = p .first-pass-of .last .1 .1 .1 .1 .1 .1 .1 .0
 
-  verdict-is : j .first-judged .result .verdict ≡ judged (firstRows (start .args .f) (start .args .limit) angles fixed lent)
-  verdict-is = ap (λ (r : FirstJudged). r .verdict) judged-is ∙ judged-verdict (start .args .f) (start .args .limit) angles fixed lent
+  abbrev rests : List ℤ
+  rests = p .first-pass-of .last .1 .1 .1 .1 .1 .1 .1 .1 .0
 
-  -- what is shown goes by the verdict
-  shown-by : (v : Verdict) → j .first-judged .result .verdict ≡ v
-      → shownIf v (firstShown (start .args .f) (column (given angles)) (firstWorkOf (start .args .f) angles fixed))
-      ≡ firstSheet (start .args .f) (start .args .limit) angles fixed
-  unfolding firstSheet
-  shown-by v told =
-      ap (λ (w : Verdict). shownIf w (firstShown (start .args .f) (column (given angles)) (firstWorkOf (start .args .f) angles fixed))) (sym told ∙ verdict-is)
+  by-angle : {A : Type 0} (zero : A) (part : List A) → length part ≡ length (take (n counts) (replicate 24 zero)) → Again (n counts) (replicate 24 zero) part
+  by-angle zero part kept = again (n counts) (replicate 24 zero) (few-angles counts) part kept
+
+  by-condition : (part : List ℤ) → length part ≡ length (take (m counts) (replicate 9 (pos 0))) → Again (m counts) (replicate 9 (pos 0)) part
+  by-condition part kept = again (m counts) (replicate 9 (pos 0)) (few-conditions counts) part kept
+
+  misclosures-again : Again (m counts) (replicate 9 (pos 0)) misclosures
+  misclosures-again = by-condition misclosures (p .first-pass-of .kept .1 .1 .1 .1 .0)
+
+  numerators-again : Again (n counts) (replicate 24 (pos 0)) numerators
+  numerators-again = by-angle (pos 0) numerators (p .first-pass-of .kept .1 .1 .1 .1 .1 .0)
+
+  rounded-again : Again (n counts) (replicate 24 (pos 0)) rounded
+  rounded-again = by-angle (pos 0) rounded (p .first-pass-of .kept .1 .1 .1 .1 .1 .1 .0)
+
+  corrected-again : Again (n counts) (replicate 24 0) corrected
+  corrected-again = by-angle 0 corrected (p .first-pass-of .kept .1 .1 .1 .1 .1 .1 .1 .0)
+
+  rests-again : Again (m counts) (replicate 9 (pos 0)) rests
+  rests-again = by-condition rests (p .first-pass-of .kept .1 .1 .1 .1 .1 .1 .1 .1 .0)
+
+  abbrev entry : FirstLent
+  entry =
+      firstLent (take (m counts) (replicate 9 (pos 0))) (take (n counts) (replicate 24 (pos 0))) (take (n counts) (replicate 24 (pos 0)))
+      (take (n counts) (replicate 24 0)) (take (m counts) (replicate 9 (pos 0)))
+
+  lengths : firstResultsLent entry ≡ firstResultLengths (start .args .f)
+  lengths =
+      let angles = sym (lent-length (n counts) (replicate 24 (pos 0)) (few-angles counts)) ∙ n-is counts in
+      let naturals = sym (lent-length {A = ℕ} (n counts) (replicate 24 0) (few-angles counts)) ∙ n-is counts in
+      let conditions = sym (lent-length (m counts) (replicate 9 (pos 0)) (few-conditions counts)) ∙ m-is counts in
+      λ i. conditions i ∷ angles i ∷ angles i ∷ naturals i ∷ conditions i ∷ []
 
 returns : tie.Need-returns
 returns c =
-    let j = c .before .before .before .before in
-    c .refused .ensures ∙ shown-by j _ (c .before .before .verdict .given .1)
+    let p = c .before .before .before .before .before .before .before .before .before .before .before .before in
+    let s = start p in
+    let refused = c .before .before in
+    subst (λ (t : List ℕ). Holds (now (s .args .buffer)) t (refused .refused-lines .last .0) (refused .refused-lines .result))
+    (first-refused (s .args .f) (s .args .limit) (now (s .args .angles)) (now (s .args .fixed)) (entry p) _ (p .first-pass-of .result) (p .first-pass-of .ensures) (lengths p) _
+    (c .before .before .before .before .before .verdict .given .1))
+    (refused .refused-lines .ensures)
 
 returns-2 : tie.Need-returns-2
 returns-2 c =
-    let told = c .before .before in
-    let j = told .before .before in
-    let s = start j in
-    let steps = steps-pass (s .args .f) (s .args .limit) (angles j) (fixed j) (lent j) (sym (verdict-is j) ∙ told .enum-told .given .1) in
-    c .first-shown .ensures
-    ∙ ap₂ (λ (g : List ℤ) (w : FirstWork). firstShown (s .args .f) g w) (c .before .column-of .ensures) (ap (λ (r : FirstJudged). r .work) (judged-is j) ∙ steps .work-is)
-    ∙ shown-by j _ (told .enum-told .given .1)
+    let p = c .before .before .before .before .before .before .before .before .before .before .before .before .before .before .before .before in
+    let s = start p in
+    let printed = c .before .before in
+    let read : firstText (s .args .f) (naturals (now (s .args .angles))) (vector (take (n (counts p)) (numerators p ++ drop (n (counts p)) (replicate 24 (pos 0)))))
+    (vector (take (n (counts p)) (rounded p ++ drop (n (counts p)) (replicate 24 (pos 0))))) (naturals (take (n (counts p)) (corrected p ++ drop (n (counts p)) (replicate 24 0))))
+    (vector (take (m (counts p)) (misclosures p ++ drop (m (counts p)) (replicate 9 (pos 0))))) (vector (take (m (counts p)) (rests p ++ drop (m (counts p)) (replicate 9 (pos 0)))))
+    ≡ firstText (s .args .f) (naturals (now (s .args .angles))) (vector (numerators p)) (vector (rounded p)) (naturals (corrected p)) (vector (misclosures p)) (vector (rests p)) =
+    λ i. firstText (s .args .f) (naturals (now (s .args .angles))) (vector (numerators-again p .is i)) (vector (rounded-again p .is i))
+    (naturals (corrected-again p .is i)) (vector (misclosures-again p .is i)) (vector (rests-again p .is i)) in
+    subst (λ (t : List ℕ). Holds (now (s .args .buffer)) t (printed .first-lines .last .0) (printed .first-lines .result))
+    (read ∙ first-worked (s .args .f) (s .args .limit) (now (s .args .angles)) (now (s .args .fixed)) (entry p)
+    (firstLent (misclosures p) (numerators p) (rounded p) (corrected p) (rests p)) (p .first-pass-of .result) (p .first-pass-of .ensures) (lengths p)
+    (c .before .before .before .before .before .before .before .before .before .enum-told .given .1))
+    (printed .first-lines .ensures)
 
 pub first-sheet-spec : {M : Type 1} → statement M
 first-sheet-spec =
     tie.close
     (tie.spec
     (λ c κs. search needs)
+    (λ c. few-conditions c)
+    (λ c. lent-length (m (c .before)) (replicate 9 (pos 0)) (few-conditions (c .before)))
+    (λ c. few-angles (c .before))
+    (λ c. lent-length (n (c .before .before)) (replicate 24 (pos 0)) (few-angles (c .before .before)))
+    (λ c. few-angles (c .before .before))
+    (λ c. lent-length (n (c .before .before .before)) (replicate 24 (pos 0)) (few-angles (c .before .before .before)))
+    (λ c. few-angles (c .before .before .before))
+    (λ c. lent-length (n (c .before .before .before .before)) (replicate 24 0) (few-angles (c .before .before .before .before)))
+    (λ c. few-conditions (c .before .before .before .before))
+    (λ c. lent-length (m (c .before .before .before .before .before)) (replicate 9 (pos 0)) (few-conditions (c .before .before .before .before .before)))
     (λ c κs. search needs)
     (λ c. search needs)
     (λ c κs. search needs)
     (λ c. search needs)
+    (λ c. numerators-again (c .before .before .before .before .before .before .before .before) .few)
+    (λ c. numerators-again (c .before .before .before .before .before .before .before .before .before) .size)
+    (λ c. rounded-again (c .before .before .before .before .before .before .before .before .before) .few)
+    (λ c. rounded-again (c .before .before .before .before .before .before .before .before .before .before) .size)
+    (λ c. corrected-again (c .before .before .before .before .before .before .before .before .before .before) .few)
+    (λ c. corrected-again (c .before .before .before .before .before .before .before .before .before .before .before) .size)
+    (λ c. misclosures-again (c .before .before .before .before .before .before .before .before .before .before .before) .few)
+    (λ c. misclosures-again (c .before .before .before .before .before .before .before .before .before .before .before .before) .size)
+    (λ c. rests-again (c .before .before .before .before .before .before .before .before .before .before .before .before) .few)
+    (λ c. rests-again (c .before .before .before .before .before .before .before .before .before .before .before .before .before) .size)
     (λ c κs. search needs)
-    (λ c κs. search needs)
+    (λ c. search needs)
     returns
+    (λ c. search needs)
     returns-2)

@@ -14,8 +14,10 @@ use Rattle.layout.specs.declared.Kind.{Kind}
 use Rattle.layout.specs.Layout.{fixedIn, sineEntriesIn}
 use Rattle.sheets.specs.declared.Reading.{Reading}
 use Rattle.sheets.specs.declared.Reading.the-variants.{Read}
-use Rattle.sheets.specs.Judging.{readingOf, afterReading}
-use Rattle.sheets.specs.Promises.{Slices, slices, slicesOf, ReaderPromise}
+use Rattle.refusals.specs.Order.{judged}
+use Rattle.sheets.specs.Judging.{bodyRows, readingAfter, afterReading}
+use Rattle.reading.specs.Parts.{BodyPromise}
+use Rattle.sheets.specs.Promises.{Slices, slices, slicesOf}
 use Rattle.sheets.specs.Sheet.{valuesRead}
 use Rattle.worked.proofs.SheetBounds.{angles-few, fixed-few, log-sines-few}
 use Rattle.worked.proofs.values_of.Statement.{statement}
@@ -34,17 +36,17 @@ module _ (c : tie.After-lengths-of) where
   few-log-sines : lengths .«log_sines» ≤ 24
   few-log-sines = subst (λ (l : Lengths). l .«log_sines» ≤ 24) (sym (c .lengths-of .ensures)) (log-sines-few (c .before .before .args .kind) (c .before .before .args .figure))
 
-slice-aggregate-read-sheet : tie.Need-slice-aggregate-read-sheet
-slice-aggregate-read-sheet c = sym (length-take-le _ _ (few-angles (c .before)))
+slice-aggregate-read-body : tie.Need-slice-aggregate-read-body
+slice-aggregate-read-body c = sym (length-take-le _ _ (few-angles (c .before)))
 
-slice-aggregate-read-sheet-2 : tie.Need-slice-aggregate-read-sheet-2
-slice-aggregate-read-sheet-2 c = sym (length-take-le _ _ (few-fixed (c .before .before)))
+slice-aggregate-read-body-2 : tie.Need-slice-aggregate-read-body-2
+slice-aggregate-read-body-2 c = sym (length-take-le _ _ (few-fixed (c .before .before)))
 
-slice-aggregate-read-sheet-3 : tie.Need-slice-aggregate-read-sheet-3
-slice-aggregate-read-sheet-3 c = sym (length-take-le _ _ (few-log-sines (c .before .before .before)))
+slice-aggregate-read-body-3 : tie.Need-slice-aggregate-read-body-3
+slice-aggregate-read-body-3 c = sym (length-take-le _ _ (few-log-sines (c .before .before .before)))
 
-slice-aggregate-read-sheet-4 : tie.Need-slice-aggregate-read-sheet-4
-slice-aggregate-read-sheet-4 c = sym (length-take-le _ _ (few-log-sines (c .before .before .before .before)))
+slice-aggregate-read-body-4 : tie.Need-slice-aggregate-read-body-4
+slice-aggregate-read-body-4 c = sym (length-take-le _ _ (few-log-sines (c .before .before .before .before)))
 
 -- what the reader left in a part is what stands at the start of the whole
 at-start : {A : Type 0} (reading : Reading) (values : Kind → Figure → List A) (n : ℕ) (part old rest : List A) {m : ℕ} → m ≡ n → length part ≡ m
@@ -58,9 +60,9 @@ put-back n part whole size =
     length-append part (drop n whole) ∙ ap (λ (m : ℕ). m + length (drop n whole)) size ∙ sym (length-append (take n whole) (drop n whole)) ∙ ap length (take-append-drop n whole)
 
 -- what the reader leaves in one of the slices
-left-of : {A : Type 0} (pick : Slices → List A) (sheet : List ℕ) (lent left : Slices) (reading : Reading) → ReaderPromise sheet lent reading left
-    → pick left ≡ afterReading reading (λ k g. pick (slicesOf (valuesRead k g sheet))) (pick lent)
-left-of pick sheet lent left reading promise =
+left-of : {A : Type 0} (pick : Slices → List A) (kind : Kind) (f : Figure) (sheet : List ℕ) (lent left : Slices) (reading : Reading)
+    → BodyPromise kind f sheet lent reading left → pick left ≡ afterReading reading (λ k g. pick (slicesOf (valuesRead k g sheet))) (pick lent)
+left-of pick kind f sheet lent left reading promise =
     ap pick (promise .leaves ∙ ap (λ (r : Reading). afterReading r (λ k g. slicesOf (valuesRead k g sheet)) lent) (sym (promise .answered))) ∙ picked reading
   where
     picked : (r : Reading)
@@ -74,13 +76,13 @@ returns c =
     let called = call .before .before .before .before .before in
     let start = called .before .before in
     let same = called .lengths-of .ensures in
-    let promise = call .read-sheet .ensures in
-    let size = call .read-sheet .kept in
+    let promise = call .read-body .ensures in
+    let size = call .read-body .kept in
     let sheet = now (start .args .sheet) in
     let kind = start .args .kind in
     let f = start .args .figure in
-    let reading = call .read-sheet .result in
-    let last = call .read-sheet .last in
+    let reading = call .read-body .result in
+    let last = call .read-body .last in
     let n = ap (λ (l : Lengths). l .angles) same in
     let k = ap (λ (l : Lengths). l .fixed) same in
     let m = ap (λ (l : Lengths). l .«log_sines») same in
@@ -91,27 +93,29 @@ returns c =
     let entry : Slices =
     slices (take (lengths called .angles) (replicate 24 0)) (take (lengths called .fixed) (replicate 3 0)) (take (lengths called .«log_sines») (replicate 24 0))
     (take (lengths called .«log_sines») (replicate 24 (pos 0))) in
-    let left : Slices = slices (last .1 .0) (last .1 .1 .0) (last .1 .1 .1 .0) (last .1 .1 .1 .1 .0) in
+    let left : Slices = slices (last .1 .1 .1 .0) (last .1 .1 .1 .1 .0) (last .1 .1 .1 .1 .1 .0) (last .1 .1 .1 .1 .1 .1 .0) in
     record {
       full = record {
-        angles-full = put-back (lengths called .angles) (last .1 .0) (replicate 24 0) (size .1 .0);
-        fixed-full = put-back (lengths called .fixed) (last .1 .1 .0) (replicate 3 0) (size .1 .1 .0);
-        log-sines-full = put-back (lengths called .«log_sines») (last .1 .1 .1 .0) (replicate 24 0) (size .1 .1 .1 .0);
-        differences-full = put-back (lengths called .«log_sines») (last .1 .1 .1 .1 .0) (replicate 24 (pos 0)) (size .1 .1 .1 .1 .0);
+        angles-full = put-back (lengths called .angles) (last .1 .1 .1 .0) (replicate 24 0) (size .1 .1 .1 .0);
+        fixed-full = put-back (lengths called .fixed) (last .1 .1 .1 .1 .0) (replicate 3 0) (size .1 .1 .1 .1 .0);
+        log-sines-full = put-back (lengths called .«log_sines») (last .1 .1 .1 .1 .1 .0) (replicate 24 0) (size .1 .1 .1 .1 .1 .0);
+        differences-full = put-back (lengths called .«log_sines») (last .1 .1 .1 .1 .1 .1 .0) (replicate 24 (pos 0)) (size .1 .1 .1 .1 .1 .1 .0);
       };
-      reading-is = promise .answered ∙ λ i. readingOf sheet ((angles ∙ n) i ∷ (fixed ∙ k) i ∷ (log-sines ∙ m) i ∷ (differences ∙ m) i ∷ []);
+      reading-is =
+          promise .answered
+          ∙ λ i. readingAfter (judged (bodyRows kind f sheet ((angles ∙ n) i ∷ (fixed ∙ k) i ∷ (log-sines ∙ m) i ∷ (differences ∙ m) i ∷ []))) kind f sheet;
       angles-are =
-          at-start reading (λ κ g. valuesRead κ g sheet .angles) (angleCount f) (last .1 .0) (entry .angles) _ n (size .1 .0 ∙ angles)
-          (left-of (λ (s : Slices). s .angles) sheet entry left reading promise);
+          at-start reading (λ κ g. valuesRead κ g sheet .angles) (angleCount f) (last .1 .1 .1 .0) (entry .angles) _ n (size .1 .1 .1 .0 ∙ angles)
+          (left-of (λ (s : Slices). s .angles) kind f sheet entry left reading promise);
       fixed-are =
-          at-start reading (λ κ g. valuesRead κ g sheet .fixed) (fixedIn kind f) (last .1 .1 .0) (entry .fixed) _ k (size .1 .1 .0 ∙ fixed)
-          (left-of (λ (s : Slices). s .fixed) sheet entry left reading promise);
+          at-start reading (λ κ g. valuesRead κ g sheet .fixed) (fixedIn kind f) (last .1 .1 .1 .1 .0) (entry .fixed) _ k (size .1 .1 .1 .1 .0 ∙ fixed)
+          (left-of (λ (s : Slices). s .fixed) kind f sheet entry left reading promise);
       log-sines-are =
-          at-start reading (λ κ g. valuesRead κ g sheet .logSines) (sineEntriesIn kind f) (last .1 .1 .1 .0) (entry .logSines) _ m (size .1 .1 .1 .0 ∙ log-sines)
-          (left-of (λ (s : Slices). s .logSines) sheet entry left reading promise);
+          at-start reading (λ κ g. valuesRead κ g sheet .logSines) (sineEntriesIn kind f) (last .1 .1 .1 .1 .1 .0) (entry .logSines) _ m (size .1 .1 .1 .1 .1 .0 ∙ log-sines)
+          (left-of (λ (s : Slices). s .logSines) kind f sheet entry left reading promise);
       differences-are =
-          at-start reading (λ κ g. valuesRead κ g sheet .differences) (sineEntriesIn kind f) (last .1 .1 .1 .1 .0) (entry .differences) _ m (size .1 .1 .1 .1 .0 ∙ differences)
-          (left-of (λ (s : Slices). s .differences) sheet entry left reading promise);
+          at-start reading (λ κ g. valuesRead κ g sheet .differences) (sineEntriesIn kind f) (last .1 .1 .1 .1 .1 .1 .0) (entry .differences) _ m (size .1 .1 .1 .1 .1 .1 .0 ∙ differences)
+          (left-of (λ (s : Slices). s .differences) kind f sheet entry left reading promise);
     }
 
 pub values-of-spec : {M : Type 1} → statement M
@@ -120,12 +124,12 @@ values-of-spec =
     (tie.spec
     (λ c κs. search needs)
     (λ c. few-angles c)
-    slice-aggregate-read-sheet
+    slice-aggregate-read-body
     (λ c. few-fixed (c .before))
-    slice-aggregate-read-sheet-2
+    slice-aggregate-read-body-2
     (λ c. few-log-sines (c .before .before))
-    slice-aggregate-read-sheet-3
+    slice-aggregate-read-body-3
     (λ c. few-log-sines (c .before .before .before))
-    slice-aggregate-read-sheet-4
+    slice-aggregate-read-body-4
     (λ c κs. search needs)
     returns)

@@ -3,7 +3,7 @@ use mathlib.Core.Path.{sym, ap, _∙_}
 use borrow.Author.Needs.{needs}
 use denote.Ref.{now}
 use lib.ListN.{length}
-use Rattle.sheets.specs.Promises.{slices}
+use Rattle.sheets.specs.Promises.{Slices, slices}
 use Rattle.controller.specs.Promises.{ReadLent, readLent}
 use Rattle.controller.proofs.SheetsRead.{wrong-head-small, wrong-head, right-refusal-small, right-refused, right-read}
 use Rattle.controller.proofs.read.bienguloc_read.Statement.{statement}
@@ -23,6 +23,12 @@ start c = c .before .before .before .before .before .before
 abbrev lent : tie.Start → ReadLent
 lent s = readLent (now (s .args .head)) (slices (now (s .args .angles)) (now (s .args .fixed)) (now (s .args .log-sines)) (now (s .args .differences)))
 
+-- what the reader left
+abbrev left : tie.After-read-sheet → Slices
+left c =
+    let z = c .read-sheet .last .1 in
+    slices (z .0) (z .1 .0) (z .1 .1 .0) (z .1 .1 .1 .0)
+
 refused-requires : tie.Need-refused-requires
 refused-requires c κs =
     let s = c .before .before .before .before .before .before .before in
@@ -40,7 +46,7 @@ refused-requires-2 c κs =
     let read = called (found .before .before) in
     let test = tested read in
     let s = start test in
-    right-refusal-small (now (s .args .sheet)) (lent s) (test .if1 .left) (read .read-sheet .ensures) (found .refusal .given .0 .0) (found .refusal .given .1)
+    right-refusal-small (now (s .args .sheet)) (lent s) (test .if1 .left) {left = left read} (read .read-sheet .ensures) (found .refusal .given .0 .0) (found .refusal .given .1)
 
 returns-2 : tie.Need-returns-2
 returns-2 c =
@@ -48,7 +54,7 @@ returns-2 c =
     let read = called (found .before .before) in
     let test = tested read in
     let s = start test in
-    right-refused (now (s .args .sheet)) (lent s) (test .if1 .left) (read .read-sheet .ensures) (found .refusal .given .0 .0) (found .refusal .given .1) (c .refused2 .ensures)
+    right-refused (now (s .args .sheet)) (lent s) (test .if1 .left) {left = left read} (read .read-sheet .ensures) (found .refusal .given .0 .0) (found .refusal .given .1) (c .refused2 .ensures)
 
 store-requires : tie.Need-store-requires
 store-requires c κs =
@@ -63,7 +69,7 @@ returns-3 c =
     let read = called (found .before .before) in
     let test = tested read in
     let s = start test in
-    right-read (now (s .args .sheet)) (lent s) (test .if1 .left) (read .read-sheet .ensures) _ _ _ (found .kind .given .1) (stored .store .ensures ∙ made .head-of .ensures)
+    right-read (now (s .args .sheet)) (lent s) (test .if1 .left) {left = left read} (read .read-sheet .ensures) _ _ _ (found .kind .given .1) (stored .store .ensures ∙ made .head-of .ensures)
 
 pub bienguloc-read-spec : {M : Type 1} → statement M
 bienguloc-read-spec =
@@ -79,14 +85,14 @@ bienguloc-read-spec =
     (λ c κs. search needs)
     (λ c. search needs)
     store-requires
-    (λ c. search needs)
-    (λ c. search needs)
-    (λ c. search needs)
-    (λ c. search needs)
+    (λ c. called (c .before .before .before .before) .read-sheet .kept .1 .0)
+    (λ c. called (c .before .before .before .before) .read-sheet .kept .1 .1 .0)
+    (λ c. called (c .before .before .before .before) .read-sheet .kept .1 .1 .1 .0)
+    (λ c. called (c .before .before .before .before) .read-sheet .kept .1 .1 .1 .1 .0)
     returns-2
     (λ c. search needs)
-    (λ c. search needs)
-    (λ c. search needs)
-    (λ c. search needs)
-    (λ c. search needs)
+    (λ c. called (c .before .before .before .before .before .before .before .before .before) .read-sheet .kept .1 .0)
+    (λ c. called (c .before .before .before .before .before .before .before .before .before) .read-sheet .kept .1 .1 .0)
+    (λ c. called (c .before .before .before .before .before .before .before .before .before) .read-sheet .kept .1 .1 .1 .0)
+    (λ c. called (c .before .before .before .before .before .before .before .before .before) .read-sheet .kept .1 .1 .1 .1 .0)
     returns-3)

@@ -36,15 +36,20 @@ sheet s = firstGiven (s .args .code) (s .args .n) (s .args .limit) (now (s .args
 abbrev lent : tie.Start → FirstLent
 lent s = firstLent (now (s .args .misclosures)) (now (s .args .numerators)) (now (s .args .rounded)) (now (s .args .corrected)) (now (s .args .rests))
 
+abbrev left : tie.After-first-pass → FirstLent
+left c =
+    let z = c .first-pass .last .1 .1 .1 .1 .1 in
+    firstLent (z .0) (z .1 .0) (z .1 .1 .0) (z .1 .1 .1 .0) (z .1 .1 .1 .1 .0)
+
 answered-requires : tie.Need-answered-requires
 answered-requires c κs =
     let called = c .before .before .before .before .before .before in
-    small (sheet (start called)) (lent (start called)) (called .first-pass .ensures)
+    small (sheet (start called)) (lent (start called)) {exit = left called} (called .first-pass .ensures)
 
 returns : tie.Need-returns
 returns c =
     let called = c .before .before .before .before .before .before .before in
-    answered (sheet (start called)) (lent (start called)) (called .first-pass .ensures) (c .answered .ensures)
+    answered (sheet (start called)) (lent (start called)) {exit = left called} (called .first-pass .ensures) (c .answered .ensures)
 
 pub bienguloc-first-pass-spec : {M : Type 1} → statement M
 bienguloc-first-pass-spec =
@@ -52,9 +57,9 @@ bienguloc-first-pass-spec =
     (tie.spec
     (λ c κs. search needs)
     answered-requires
-    (λ c. search needs)
-    (λ c. search needs)
-    (λ c. search needs)
-    (λ c. search needs)
-    (λ c. search needs)
+    (λ c. c .before .before .before .before .before .before .before .first-pass .kept .1 .1 .1 .1 .1 .0)
+    (λ c. c .before .before .before .before .before .before .before .first-pass .kept .1 .1 .1 .1 .1 .1 .0)
+    (λ c. c .before .before .before .before .before .before .before .first-pass .kept .1 .1 .1 .1 .1 .1 .1 .0)
+    (λ c. c .before .before .before .before .before .before .before .first-pass .kept .1 .1 .1 .1 .1 .1 .1 .1 .0)
+    (λ c. c .before .before .before .before .before .before .before .first-pass .kept .1 .1 .1 .1 .1 .1 .1 .1 .1 .0)
     returns)

@@ -10,7 +10,7 @@ use lib.ListN.{length-set}
 use mir.Facts.{toZ-ofZ}
 use Rattle.refusals.specs.declared.Refusal.{Refusal}
 use Rattle.refusals.specs.Numbers.{placeOf, refusalTold}
-use Rattle.passes.specs.Promises.{SecondGiven, secondGiven, secondLent}
+use Rattle.passes.specs.Promises.{SecondGiven, secondGiven, SecondLent, secondLent}
 use Rattle.controller.specs.Answer.{placeStep, answerNumber}
 use Rattle.controller.specs.Promises.{SumsLent, sumsLent}
 use Rattle.controller.proofs.Lists.{stored-2}
@@ -36,6 +36,12 @@ lent s =
     sumsLent (now (s .args .sums))
     (secondLent (now (s .args .reduced)) (now (s .args .numerators)) (now (s .args .rounded)) (now (s .args .adjusted)) (now (s .args .rests)))
 
+-- what the pass left
+abbrev left : tie.After-second-pass → SecondLent
+left w =
+    let z = w .second-pass .last .1 .1 .1 .1 .1 .1 in
+    secondLent (z .0) (z .1 .0) (z .1 .1 .0) (z .1 .1 .1 .0) (z .1 .1 .1 .1 .0)
+
 refused-requires : tie.Need-refused-requires
 refused-requires c κs =
     let test = c .before in
@@ -54,7 +60,7 @@ refused-requires-2 c κs =
     let worked = called (found .before .before) in
     let test = tested worked in
     let s = start test in
-    right-refusal-small (sheet s) (lent s) (test .if1 .left) (worked .second-pass .ensures) (found .refusal .given .0 .0) (found .refusal .given .1)
+    right-refusal-small (sheet s) (lent s) (test .if1 .left) {left = left worked} (worked .second-pass .ensures) (found .refusal .given .0 .0) (found .refusal .given .1)
 
 slice-set-from-squares : tie.Need-slice-set-from-squares
 slice-set-from-squares c =
@@ -67,7 +73,7 @@ returns-2 c =
     let worked = called (found .before .before) in
     let test = tested worked in
     let s = start test in
-    right-refused (sheet s) (lent s) (test .if1 .left) (worked .second-pass .ensures) (found .refusal .given .0 .0) (found .refusal .given .1) (c .refused2 .ensures)
+    right-refused (sheet s) (lent s) (test .if1 .left) {left = left worked} (worked .second-pass .ensures) (found .refusal .given .0 .0) (found .refusal .given .1) (c .refused2 .ensures)
 
 returns-3 : tie.Need-returns-3
 returns-3 c =
@@ -76,7 +82,7 @@ returns-3 c =
     let test = tested worked in
     let s = start test in
     let facts = c .known-told2 .given in
-    right-done (sheet s) (lent s) (test .if1 .left) (worked .second-pass .ensures) _ _ (found .misclosure .given .1)
+    right-done (sheet s) (lent s) (test .if1 .left) {left = left worked} (worked .second-pass .ensures) _ _ (found .misclosure .given .1)
     (stored-2 (now (s .args .sums)) _ _ (test .if1 .left)
     ∙ ap₂ (λ (w s : ℤ). w ∷ s ∷ []) (toZ-ofZ (record { sfits = facts .0 .1 })) (toZ-ofZ (record { sfits = facts .1 .0 .1 })))
 
@@ -93,16 +99,16 @@ bienguloc-second-pass-spec =
     (λ c. search needs)
     (λ c. search needs)
     slice-set-from-squares
-    (λ c. search needs)
-    (λ c. search needs)
-    (λ c. search needs)
-    (λ c. search needs)
-    (λ c. search needs)
+    (λ c. called (c .before .before .before .before) .second-pass .kept .1 .1 .1 .1 .1 .1 .0)
+    (λ c. called (c .before .before .before .before) .second-pass .kept .1 .1 .1 .1 .1 .1 .1 .0)
+    (λ c. called (c .before .before .before .before) .second-pass .kept .1 .1 .1 .1 .1 .1 .1 .1 .0)
+    (λ c. called (c .before .before .before .before) .second-pass .kept .1 .1 .1 .1 .1 .1 .1 .1 .1 .0)
+    (λ c. called (c .before .before .before .before) .second-pass .kept .1 .1 .1 .1 .1 .1 .1 .1 .1 .1 .0)
     returns-2
     (λ c. search needs)
-    (λ c. search needs)
-    (λ c. search needs)
-    (λ c. search needs)
-    (λ c. search needs)
-    (λ c. search needs)
+    (λ c. called (c .before .before .before) .second-pass .kept .1 .1 .1 .1 .1 .1 .0)
+    (λ c. called (c .before .before .before) .second-pass .kept .1 .1 .1 .1 .1 .1 .1 .0)
+    (λ c. called (c .before .before .before) .second-pass .kept .1 .1 .1 .1 .1 .1 .1 .1 .0)
+    (λ c. called (c .before .before .before) .second-pass .kept .1 .1 .1 .1 .1 .1 .1 .1 .1 .0)
+    (λ c. called (c .before .before .before) .second-pass .kept .1 .1 .1 .1 .1 .1 .1 .1 .1 .1 .0)
     returns-3)

@@ -9,15 +9,6 @@ use Rattle.lines.proofs.Laid.{lays-laid, lays-then, lays-as}
 use Rattle.lines.proofs.put.put_part.Statement.{statement}
 use Rattle.lines.proofs.put.put_part.Tie as tie
 
-put-number-requires : tie.Need-put-number-requires
-put-number-requires c κs = search needs
-
-put-byte-requires : tie.Need-put-byte-requires
-put-byte-requires c κs = search needs
-
-same-length : tie.Need-same-length
-same-length c = search needs
-
 returns : tie.Need-returns
 returns c =
     let byte = c .before .before .put-byte in
@@ -27,4 +18,4 @@ returns c =
     (lays-then (lays-laid (number .ensures .0) (number .ensures .1)) (lays-laid (byte .ensures .0) (byte .ensures .1)))
 
 pub put-part-spec : {M : Type 1} → statement M
-put-part-spec = tie.close (tie.spec put-number-requires put-byte-requires same-length returns)
+put-part-spec = tie.close (tie.spec (λ c κs. search needs) (λ c κs. search needs) (λ c. search needs) returns)

@@ -4,14 +4,8 @@ use Rattle.lines.proofs.Laid.{lays-laid}
 use Rattle.lines.proofs.put.put_word.Statement.{statement}
 use Rattle.lines.proofs.put.put_word.Tie as tie
 
-put-word-requires : tie.Need-put-word-requires
-put-word-requires c κs = search needs
-
-same-length : tie.Need-same-length
-same-length c = search needs
-
 returns : tie.Need-returns
 returns c = let put = c .before .before .put-word in lays-laid (put .ensures .0) (put .ensures .1)
 
 pub put-word-spec : {M : Type 1} → statement M
-put-word-spec = tie.close (tie.spec put-word-requires same-length returns)
+put-word-spec = tie.close (tie.spec (λ c κs. search needs) (λ c. search needs) returns)

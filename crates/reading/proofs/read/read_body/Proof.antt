@@ -1,5 +1,5 @@
 -- `reading::read::read_body` meets its contract: the shape is judged first, then what was taken, and only what passed is stored.
-use borrow.Author.Needs.{needs}
+use mathlib.Core.Path.{refl}
 use Rattle.sheets.specs.Promises.{slices}
 use Rattle.reading.proofs.BodyLaws.{TakenOff, shape-refused, short-enough, values-refused, values-read}
 use Rattle.reading.proofs.read.read_body.Statement.{statement}
@@ -18,47 +18,11 @@ taken c = record {
   each-difference = c .differences-in .ensures;
 }
 
-slice-aggregate-shape-verdict : tie.Need-slice-aggregate-shape-verdict
-slice-aggregate-shape-verdict c = search needs
-
-shape-verdict-requires : tie.Need-shape-verdict-requires
-shape-verdict-requires c κs = search needs
-
-enum-known-shape : tie.Need-enum-known-shape
-enum-known-shape c = search needs
-
 returns : tie.Need-returns
 returns c =
     let found = c .before .before .before in
     let a = found .before .before .before .before .before .before .args in
     shape-refused (a .kind) (a .figure) (a .sheet .now) (slices (a .angles .now) (a .fixed .now) (a .log-sines .now) (a .differences .now)) _ (found .shape-verdict .ensures) (c .before .shape .given .1)
-
-enum-told : tie.Need-enum-told
-enum-told c = search needs
-
-limit-or-tolerance-in-requires : tie.Need-limit-or-tolerance-in-requires
-limit-or-tolerance-in-requires c κs = search needs
-
-angles-in-requires : tie.Need-angles-in-requires
-angles-in-requires c κs = search needs
-
-fixed-in-requires : tie.Need-fixed-in-requires
-fixed-in-requires c κs = search needs
-
-log-sines-in-requires : tie.Need-log-sines-in-requires
-log-sines-in-requires c κs = search needs
-
-differences-in-requires : tie.Need-differences-in-requires
-differences-in-requires c κs = search needs
-
-taken-verdict-requires : tie.Need-taken-verdict-requires
-taken-verdict-requires c κs = search needs
-
-reading-after-requires : tie.Need-reading-after-requires
-reading-after-requires c κs = search needs
-
-enum-told-2 : tie.Need-enum-told-2
-enum-told-2 c = search needs
 
 store-requires : tie.Need-store-requires
 store-requires c κs =
@@ -67,21 +31,6 @@ store-requires c κs =
     let found = told .before .before in
     let a = found .before .before .before .before .before .before .args in
     short-enough (a .kind) (a .figure) (a .sheet .now) (slices (a .angles .now) (a .fixed .now) (a .log-sines .now) (a .differences .now)) (found .shape-verdict .ensures) (told .enum-told .given .1)
-
-enum-told-3 : tie.Need-enum-told-3
-enum-told-3 c = search needs
-
-same-length : tie.Need-same-length
-same-length c = search needs
-
-same-length-2 : tie.Need-same-length-2
-same-length-2 c = search needs
-
-same-length-3 : tie.Need-same-length-3
-same-length-3 c = search needs
-
-same-length-4 : tie.Need-same-length-4
-same-length-4 c = search needs
 
 returns-2 : tie.Need-returns-2
 returns-2 c =
@@ -109,24 +58,24 @@ pub read-body-spec : {M : Type 1} → statement M
 read-body-spec =
     tie.close
     (tie.spec
-    slice-aggregate-shape-verdict
-    shape-verdict-requires
-    enum-known-shape
+    (λ c. refl)
+    (λ c κs. tt)
+    (λ c. c .match .keys1)
     returns
-    enum-told
-    limit-or-tolerance-in-requires
-    angles-in-requires
-    fixed-in-requires
-    log-sines-in-requires
-    differences-in-requires
-    taken-verdict-requires
-    reading-after-requires
-    enum-told-2
+    (λ c. c .match .keys2)
+    (λ c κs. tt)
+    (λ c κs. tt)
+    (λ c κs. tt)
+    (λ c κs. tt)
+    (λ c κs. tt)
+    (λ c κs. tt)
+    (λ c κs. tt)
+    (λ c. c .match2 .keys1)
     store-requires
-    enum-told-3
-    same-length
-    same-length-2
-    same-length-3
-    same-length-4
+    (λ c. c .match2 .keys2)
+    (λ c. c .before .before .before .before .before .before .before .store .kept .1 .1 .1 .1 .0)
+    (λ c. c .before .before .before .before .before .before .before .store .kept .1 .1 .1 .1 .1 .0)
+    (λ c. c .before .before .before .before .before .before .before .store .kept .1 .1 .1 .1 .1 .1 .0)
+    (λ c. c .before .before .before .before .before .before .before .store .kept .1 .1 .1 .1 .1 .1 .1 .0)
     returns-2
     returns-3)

@@ -11,30 +11,6 @@ use Rattle.reading.proofs.values.store.Tie as tie
 same-slices : {a b c d e f : List ℕ} {x y : List ℤ} → a ≡ b → c ≡ d → e ≡ f → x ≡ y → slices a c e x ≡ slices b d f y
 same-slices p q r s = rw (p, q, r, s)
 
-copy-requires : tie.Need-copy-requires
-copy-requires c κs = search needs
-
-copy-requires-2 : tie.Need-copy-requires-2
-copy-requires-2 c κs = search needs
-
-copy-requires-3 : tie.Need-copy-requires-3
-copy-requires-3 c κs = search needs
-
-copy-signed-requires : tie.Need-copy-signed-requires
-copy-signed-requires c κs = search needs
-
-same-length : tie.Need-same-length
-same-length c = search needs
-
-same-length-2 : tie.Need-same-length-2
-same-length-2 c = search needs
-
-same-length-3 : tie.Need-same-length-3
-same-length-3 c = search needs
-
-same-length-4 : tie.Need-same-length-4
-same-length-4 c = search needs
-
 returns : tie.Need-returns
 returns c =
     let log-sines = c .before .before .before .before in
@@ -46,12 +22,12 @@ pub store-spec : {M : Type 1} → statement M
 store-spec =
     tie.close
     (tie.spec
-    copy-requires
-    copy-requires-2
-    copy-requires-3
-    copy-signed-requires
-    same-length
-    same-length-2
-    same-length-3
-    same-length-4
+    (λ c κs. search needs)
+    (λ c κs. search needs)
+    (λ c κs. search needs)
+    (λ c κs. search needs)
+    (λ c. c .before .before .before .before .before .before .before .before .before .before .before .before .before .copy .kept .1 .0)
+    (λ c. c .before .before .before .before .before .before .before .before .before .copy2 .kept .1 .0)
+    (λ c. c .before .before .before .before .before .copy3 .kept .1 .0)
+    (λ c. c .before .copy-signed .kept .1 .0)
     returns)

@@ -1,5 +1,5 @@
 -- `report::reporting::report` meets its contract: the text laid by itself, and then where it has room.
-use mathlib.Core.Path.{sym, ap, _∙_, subst}
+use mathlib.Core.Path.{sym, ap, _∙_}
 use mathlib.Core.Bool.{Bool}
 use mathlib.Core.List.{List}
 use Prim.Native.Nat.{ℕ, _≤_}
@@ -8,10 +8,9 @@ use denote.Ref.{now}
 use lib.ListN.{length, replicate}
 use lib.Seq.{length-take-le}
 use Rattle.text.specs.Holds.{Holds}
-use Rattle.worked.specs.declared.WorkedSheet.{WorkedSheet}
 use Rattle.report.specs.declared.reporting.Reported.the-variants.{Written}
 use Rattle.lines.specs.Lines.{longestText}
-use Rattle.report.specs.Report.{textOf, reportText, reportedOf, afterReport}
+use Rattle.report.specs.Report.{reportText, reportedOf, afterReport}
 use Rattle.report.proofs.Longest.{text-fits}
 use Rattle.report.proofs.Reports.{length-told, end-within, past-lent, room-there, laid-there}
 use Rattle.report.proofs.reporting.report.Statement.{statement}
@@ -19,7 +18,7 @@ use Rattle.report.proofs.reporting.report.Tie as tie
 
 module _ (j : tie.After-worked-lines) where
   abbrev start : tie.Start
-  start = j .before .before .before .before .before
+  start = j .before .before .before .before
 
   abbrev text : List ℕ
   text = reportText (now (start .args .sheet))
@@ -34,7 +33,7 @@ module _ (j : tie.After-worked-lines) where
   end = j .worked-lines .result
 
   held : Holds (replicate longestText 0) text buffer end
-  held = subst (λ (s : WorkedSheet). Holds (replicate longestText 0) (textOf s) buffer end) (j .before .worked-sheet .ensures) (j .worked-lines .ensures)
+  held = j .worked-lines .ensures
 
   fits : length text ≤ longestText
   fits = text-fits (now (start .args .sheet))
@@ -76,7 +75,6 @@ report-spec =
     tie.close
     (tie.spec
     (λ c. search needs)
-    (λ c κs. search needs)
     (λ c κs. search needs)
     returns
     array-share-prefix-buffer

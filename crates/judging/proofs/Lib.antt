@@ -1,0 +1,2 @@
+-- The steps of a search in a loop, for the proofs of `search`.
+mod Asking

@@ -1,0 +1,71 @@
+-- `judging::search::lowest_entry_outside` meets its contract as `lowest_outside` does; a difference is read back from its bits.
+use Prim.Native.Nat.{ℕ, suc, _≤_, _-_}
+use mathlib.Core.Bool.{Bool}
+use mathlib.Core.List.{List}
+use mathlib.Core.Path.{_≡_, sym, ap, _∙_}
+use native.Mathlib.Omega.{arith}
+use borrow.Author.Needs.{needs}
+use lib.IntN.{ℤ, pos}
+use lib.ListN.{length, getD}
+use mir.Syntax.{w32}
+use mir.ValLaws.{toZ-ofZ}
+use Rattle.refusals.specs.declared.Lowest.the-variants.{Nowhere}
+use Rattle.refusals.specs.Numbers.{numbered}
+use Rattle.refusals.specs.Order.{lowestPlace}
+use Rattle.refusals.specs.Questions.{asked}
+use Rattle.refusals.specs.Table.{sineEntryOutside}
+use Rattle.judging.proofs.Asking.{none-asked, one-passes, one-fails, all-asked}
+use Rattle.judging.proofs.search.lowest_entry_outside.Statement.{statement}
+use Rattle.judging.proofs.search.lowest_entry_outside.Tie as tie
+
+abbrev fails : List ℕ → List ℤ → ℕ → Bool
+fails logSines differences place = asked (sineEntryOutside (numbered logSines place 0) (numbered differences place (pos 0)))
+
+abbrev Inv-loop : tie.InvT-loop
+Inv-loop logSines differences passed₀ passed = (passed ≤ length logSines) × (lowestPlace (fails logSines differences) passed ≡ Nowhere)
+
+abbrev μ-loop : tie.MeasureT-loop
+μ-loop logSines differences passed₀ passed = length logSines - passed
+
+-- the call has tested the next place
+tested : (c : tie.After-is-entry-outside Inv-loop μ-loop)
+    → let start = c .before .before .before .before .before .before in
+    fails (start .args .log-sines .now) (start .args .differences .now) (suc (c .before .before .before .before .loop .passed)) ≡ c .is-entry-outside .result
+tested c =
+    let start = c .before .before .before .before .before .before in
+    let logSine = getD (start .args .log-sines .now) (c .before .before .before .before .loop .passed) 0 in
+    let difference = c .before .before .difference-at in
+    ap (λ (z : ℤ). asked (sineEntryOutside logSine z))
+    (sym (toZ-ofZ w32 (difference .result) (record { sfits = difference .ok }) ∙ difference .ensures))
+    ∙ sym (c .is-entry-outside .ensures)
+
+returns : tie.Need-returns Inv-loop μ-loop
+returns c =
+    let at = c .before .before .before .before .before .loop in
+    one-fails _ (at .passed) _ (at .inv .1) (tested (c .before) ∙ c .if1 .taken) (omega arith)
+
+loop-again : tie.Need-loop-again Inv-loop μ-loop
+loop-again c =
+    let at = c .before .before .before .before .before .loop in
+    (omega arith, one-passes _ (at .passed) (at .inv .1) (tested (c .before) ∙ c .if1 .left))
+
+returns-2 : tie.Need-returns-2 Inv-loop μ-loop
+returns-2 c = all-asked _ (c .before .loop .passed) _ (c .before .loop .inv .1) (omega arith) (omega arith)
+
+pub lowest-entry-outside-spec : {M : Type 1} → statement M
+lowest-entry-outside-spec =
+    tie.close
+    (tie.spec
+    Inv-loop
+    μ-loop
+    (λ c. (omega arith, none-asked _))
+    (λ c κs. tt)
+    (λ c. search needs)
+    (λ c. omega arith)
+    (λ c κs. tt)
+    (λ c. omega arith)
+    returns
+    (λ c. omega arith)
+    (λ c. omega arith)
+    loop-again
+    returns-2)

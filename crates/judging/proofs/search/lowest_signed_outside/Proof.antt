@@ -1,0 +1,111 @@
+-- `judging::search::lowest_signed_outside` meets its contract as `lowest_outside` does; each value is read back from its bits.
+use Prim.Native.Nat.{ℕ, suc, _≤_, _-_}
+use mathlib.Core.Bool.{Bool}
+use mathlib.Core.List.{List}
+use mathlib.Core.Path.{_≡_, sym, ap, ap₂, _∙_}
+use native.Mathlib.Omega.{arith}
+use borrow.Author.Needs.{needs}
+use lib.IntN.{ℤ, pos}
+use lib.ListN.{length, getD}
+use mir.Syntax.{w32, w64}
+use mir.Val.{toZ, ofZ, SFits}
+use mir.ValLaws.{toZ-ofZ}
+use Rattle.whole.proofs.Magnitudes.{widened, widens}
+use Rattle.refusals.specs.declared.Lowest.the-variants.{Nowhere}
+use Rattle.refusals.specs.Order.{lowestPlace}
+use Rattle.refusals.specs.Numbers.{numbered}
+use Rattle.refusals.specs.Questions.{asked, outsideSigned}
+use Rattle.judging.proofs.Asking.{none-asked, one-passes, one-fails, all-asked}
+use Rattle.judging.proofs.search.lowest_signed_outside.Statement.{statement}
+use Rattle.judging.proofs.search.lowest_signed_outside.Tie as tie
+
+abbrev fails : List ℤ → ℤ → ℤ → ℕ → Bool
+fails values least most place = asked (outsideSigned least most (numbered values place (pos 0)))
+
+-- the bounds are read back from their bits
+read-back : (values : List ℤ) (least most : ℤ) (count : ℕ) → SFits w64 least → SFits w64 most
+    → lowestPlace (fails values (toZ w64 (ofZ w64 least)) (toZ w64 (ofZ w64 most))) count ≡ lowestPlace (fails values least most) count
+read-back values least most count l m =
+    ap₂ (λ (a b : ℤ). lowestPlace (fails values a b) count) (toZ-ofZ w64 least l) (toZ-ofZ w64 most m)
+
+abbrev Inv-loop : tie.InvT-loop
+Inv-loop values least most passed₀ passed =
+    (passed ≤ length values) × (lowestPlace (fails values (toZ w64 least) (toZ w64 most)) passed ≡ Nowhere)
+
+abbrev μ-loop : tie.MeasureT-loop
+μ-loop values least most passed₀ passed = length values - passed
+
+-- the call has tested the next place
+tested : (c : tie.After-is-signed-outside Inv-loop μ-loop)
+    → let args = c .before .before .before .before .args in
+    fails (args .values .now) (toZ w64 (ofZ w64 (args .least))) (toZ w64 (ofZ w64 (args .most))) (suc (c .before .before .before .loop .passed))
+    ≡ c .is-signed-outside .result
+tested c =
+    let args = c .before .before .before .before .args in
+    let value = getD (args .values .now) (c .before .before .before .loop .passed) (pos 0) in
+    ap (λ (z : ℤ). asked (outsideSigned (toZ w64 (ofZ w64 (args .least))) (toZ w64 (ofZ w64 (args .most))) z))
+    (sym (widened w32 w64 value tt (record { sfits = c .before .is-signed-outside-arg .given })))
+    ∙ sym (c .is-signed-outside .ensures)
+
+loop-holds : tie.Need-loop-holds Inv-loop μ-loop
+loop-holds c = (omega arith, none-asked _)
+
+mul-is-signed-outside : tie.Need-mul-is-signed-outside Inv-loop μ-loop
+mul-is-signed-outside c = search needs
+
+shared-slice-copy-out-is-signed-outside :
+    tie.Need-shared-slice-copy-out-is-signed-outside Inv-loop μ-loop
+shared-slice-copy-out-is-signed-outside c = omega arith
+
+cast-is-signed-outside : tie.Need-cast-is-signed-outside Inv-loop μ-loop
+cast-is-signed-outside c =
+    widens w32 w64 (getD (c .before .before .before .args .values .now) (c .before .before .loop .passed) (pos 0)) tt
+    (record { sfits = c .is-signed-outside-arg .given })
+
+is-signed-outside-requires : tie.Need-is-signed-outside-requires Inv-loop μ-loop
+is-signed-outside-requires c κs = search needs
+
+add-t11 : tie.Need-add-t11 Inv-loop μ-loop
+add-t11 c = omega arith
+
+returns : tie.Need-returns Inv-loop μ-loop
+returns c =
+    let at = c .before .before .before .before .loop in
+    let start = c .before .before .before .before .before in
+    one-fails _ (at .passed) _ (at .inv .1) (tested (c .before) ∙ c .if1 .taken) (omega arith)
+    ∙ read-back _ _ _ _ (start .fits .least) (start .fits .most)
+
+add-passed : tie.Need-add-passed Inv-loop μ-loop
+add-passed c = omega arith
+
+loop-less : tie.Need-loop-less Inv-loop μ-loop
+loop-less c = omega arith
+
+loop-again : tie.Need-loop-again Inv-loop μ-loop
+loop-again c =
+    let at = c .before .before .before .before .loop in
+    (omega arith, one-passes _ (at .passed) (at .inv .1) (tested (c .before) ∙ c .if1 .left))
+
+returns-2 : tie.Need-returns-2 Inv-loop μ-loop
+returns-2 c =
+    let start = c .before .before in
+    all-asked _ (c .before .loop .passed) _ (c .before .loop .inv .1) (omega arith) (omega arith)
+    ∙ read-back _ _ _ _ (start .fits .least) (start .fits .most)
+
+pub lowest-signed-outside-spec : {M : Type 1} → statement M
+lowest-signed-outside-spec =
+    tie.close
+    (tie.spec
+    Inv-loop
+    μ-loop
+    loop-holds
+    mul-is-signed-outside
+    shared-slice-copy-out-is-signed-outside
+    cast-is-signed-outside
+    is-signed-outside-requires
+    add-t11
+    returns
+    add-passed
+    loop-less
+    loop-again
+    returns-2)

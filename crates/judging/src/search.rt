@@ -1,0 +1,89 @@
+// The lowest place at which a value lies outside its range: document 01, "The lowest place is named".
+use refusals::LEAST_DIFFERENCE;
+use refusals::LEAST_LOG_SINE;
+use refusals::Lowest;
+use refusals::MOST_DIFFERENCE;
+use refusals::MOST_LOG_SINE;
+ghost use mathlib.Core.Path.{_≡_};
+ghost use lib.IntN.{pos};
+ghost use lib.ListN.{getD};
+ghost use Rattle.refusals.specs.Questions.{asked, outside, outsideSigned};
+ghost use Rattle.judging.specs.Searches.{lowestOutside, lowestSignedOutside, lowestEntryOutside};
+ghost use Rattle.refusals.specs.Table.{sineEntryOutside};
+
+fn is_outside(value: u32, least: u32, most: u32) -> bool
+    ensures { λ fails. ⌜ fails ≡ asked (outside least most value) ⌝ }
+{
+    value < least || most < value
+}
+
+fn is_signed_outside(value: i64, least: i64, most: i64) -> bool
+    ensures { λ fails. ⌜ fails ≡ asked (outsideSigned least most value) ⌝ }
+{
+    value < least || most < value
+}
+
+pub(crate) fn lowest_outside(values: &[u32], least: u32, most: u32) -> Lowest
+    ensures { λ lowest. ⌜ lowest ≡ lowestOutside (now (values .entry)) least most ⌝ }
+{
+    let mut passed = 0;
+    while passed < values.len() {
+        if is_outside(values[passed], least, most) {
+            return Lowest::At(passed + 1);
+        }
+        passed += 1;
+    }
+    Lowest::Nowhere
+}
+
+pub(crate) fn lowest_signed_outside(values: &[i32], least: i64, most: i64) -> Lowest
+    ensures { λ lowest. ⌜ lowest ≡ lowestSignedOutside (now (values .entry)) least most ⌝ }
+{
+    let mut passed = 0;
+    while passed < values.len() {
+        if is_signed_outside(values[passed] as i64, least, most) {
+            return Lowest::At(passed + 1);
+        }
+        passed += 1;
+    }
+    Lowest::Nowhere
+}
+
+fn is_difference_outside(value: i32, least: i32, most: i32) -> bool
+    ensures { λ fails. ⌜ fails ≡ asked (outsideSigned least most value) ⌝ }
+{
+    value < least || most < value
+}
+
+// The difference of an angle, and 0 past the end.
+fn difference_at(differences: &[i32], i: usize) -> i32
+    ensures { λ difference. ⌜ difference ≡ getD (now (differences .entry)) i (pos 0) ⌝ }
+{
+    if i < differences.len() {
+        differences[i]
+    } else {
+        0
+    }
+}
+
+// Whether the log-sine or the difference of an angle lies outside its range.
+fn is_entry_outside(log_sine: u32, difference: i32) -> bool
+    ensures { λ fails. ⌜ fails ≡ asked (sineEntryOutside «log_sine» difference) ⌝ }
+{
+    is_outside(log_sine, LEAST_LOG_SINE, MOST_LOG_SINE)
+        || is_difference_outside(difference, LEAST_DIFFERENCE, MOST_DIFFERENCE)
+}
+
+pub(crate) fn lowest_entry_outside(log_sines: &[u32], differences: &[i32]) -> Lowest
+    ensures { λ lowest. ⌜ lowest ≡ lowestEntryOutside (now («log_sines» .entry)) (now (differences .entry)) ⌝ }
+{
+    let mut passed = 0;
+    while passed < log_sines.len() {
+        let difference = difference_at(differences, passed);
+        if is_entry_outside(log_sines[passed], difference) {
+            return Lowest::At(passed + 1);
+        }
+        passed += 1;
+    }
+    Lowest::Nowhere
+}

@@ -1,0 +1,113 @@
+// The tests of the table, each once: what a row says of the values that are given. refusals/specs/Table.antt has the
+// rows.
+use crate::search::lowest_entry_outside;
+use crate::search::lowest_outside;
+use crate::search::lowest_signed_outside;
+use refusals::LEAST_ANGLE;
+use refusals::Lowest;
+use refusals::MOST_ANGLE;
+use refusals::Refusal;
+use refusals::Verdict;
+ghost use mathlib.Core.Path.{_≡_};
+ghost use Rattle.refusals.specs.Order.{verdictOf};
+ghost use Rattle.refusals.specs.Questions.{sameNumbers};
+ghost use Rattle.refusals.specs.Table.{lengthsRow, limitOrToleranceRow, anglesRow, fixedRow, misclosuresRow, resultsRow, sineEntriesRow, sumOfSquaresRow};
+
+fn same_numbers(lent: &[usize], own: &[usize]) -> bool
+    ensures { λ same. ⌜ same ≡ sameNumbers (now (lent .entry)) (now (own .entry)) ⌝ }
+{
+    if lent.len() != own.len() {
+        return false;
+    }
+    let mut i = 0;
+    while i < lent.len() {
+        if lent[i] != own[i] {
+            return false;
+        }
+        i += 1;
+    }
+    true
+}
+
+// Number 2.
+pub fn lengths_verdict(lent: &[usize], own: &[usize]) -> Verdict
+    ensures { λ verdict. ⌜ verdict ≡ verdictOf (lengthsRow (now (lent .entry)) (now (own .entry))) ⌝ }
+{
+    if same_numbers(lent, own) {
+        Verdict::Passed
+    } else {
+        Verdict::Failed(Refusal::WrongLength)
+    }
+}
+
+// Number 3.
+pub fn limit_or_tolerance_verdict(value: u32, most: u32) -> Verdict
+    ensures { λ verdict. ⌜ verdict ≡ verdictOf (limitOrToleranceRow most value) ⌝ }
+{
+    if most < value {
+        Verdict::Failed(Refusal::LimitOrToleranceOutOfRange)
+    } else {
+        Verdict::Passed
+    }
+}
+
+// Number 4.
+pub fn angles_verdict(angles: &[u32]) -> Verdict
+    ensures { λ verdict. ⌜ verdict ≡ verdictOf (anglesRow (now (angles .entry))) ⌝ }
+{
+    match lowest_outside(angles, LEAST_ANGLE, MOST_ANGLE) {
+        Lowest::Nowhere => Verdict::Passed,
+        Lowest::At(place) => Verdict::Failed(Refusal::AngleOutOfRange(place)),
+    }
+}
+
+// Number 5.
+pub fn fixed_verdict(fixed: &[u32]) -> Verdict
+    ensures { λ verdict. ⌜ verdict ≡ verdictOf (fixedRow (now (fixed .entry))) ⌝ }
+{
+    match lowest_outside(fixed, LEAST_ANGLE, MOST_ANGLE) {
+        Lowest::Nowhere => Verdict::Passed,
+        Lowest::At(place) => Verdict::Failed(Refusal::FixedAngleOutOfRange(place)),
+    }
+}
+
+// Number 6.
+pub fn misclosures_verdict(misclosures: &[i32], limit: u32) -> Verdict
+    ensures { λ verdict. ⌜ verdict ≡ verdictOf (misclosuresRow limit (now (misclosures .entry))) ⌝ }
+{
+    match lowest_signed_outside(misclosures, -(limit as i64), limit as i64) {
+        Lowest::Nowhere => Verdict::Passed,
+        Lowest::At(place) => Verdict::Failed(Refusal::MisclosureBeyondLimit(place)),
+    }
+}
+
+// Number 7.
+pub fn results_verdict(results: &[i32]) -> Verdict
+    ensures { λ verdict. ⌜ verdict ≡ verdictOf (resultsRow (now (results .entry))) ⌝ }
+{
+    match lowest_signed_outside(results, LEAST_ANGLE as i64, MOST_ANGLE as i64) {
+        Lowest::Nowhere => Verdict::Passed,
+        Lowest::At(place) => Verdict::Failed(Refusal::ResultOutOfRange(place)),
+    }
+}
+
+// Number 8.
+pub fn sine_entries_verdict(log_sines: &[u32], differences: &[i32]) -> Verdict
+    ensures { λ verdict. ⌜ verdict ≡ verdictOf (sineEntriesRow (now («log_sines» .entry)) (now (differences .entry))) ⌝ }
+{
+    match lowest_entry_outside(log_sines, differences) {
+        Lowest::Nowhere => Verdict::Passed,
+        Lowest::At(place) => Verdict::Failed(Refusal::SineEntryOutOfRange(place)),
+    }
+}
+
+// Number 10.
+pub fn squares_verdict(squares: i64) -> Verdict
+    ensures { λ verdict. ⌜ verdict ≡ verdictOf (sumOfSquaresRow squares) ⌝ }
+{
+    if squares == 0 {
+        Verdict::Failed(Refusal::SumOfSquaresIsZero)
+    } else {
+        Verdict::Passed
+    }
+}

@@ -1,0 +1,148 @@
+// The lines of a worked sheet of kind 1: document 01, "Sheets worked through".
+ghost use Prim.Native.Nat.{_≤_, _<_};
+ghost use Rattle.whole.specs.Lists.{listed};
+ghost use Rattle.whole.specs.Sums.{naturals, vector};
+ghost use Rattle.text.specs.Text.{line, lines};
+ghost use Rattle.text.specs.Holds.{Holds};
+ghost use Rattle.lines.specs.Lays.{Lays};
+ghost use Rattle.lines.specs.Lines.{firstFigure, firstAngle, firstCondition, firstText};
+use crate::put::put_figure_start;
+use crate::put::put_line;
+use crate::put::put_numbers;
+use crate::values::natural_at;
+use crate::values::signed_at;
+use figures::Figure;
+
+pub fn first_lines(
+    buffer: &mut [u8],
+    f: Figure,
+    given: &[u32],
+    numerators: &[i32],
+    rounded: &[i32],
+    results: &[u32],
+    misclosures: &[i32],
+    rests: &[i32],
+) -> usize
+    ensures { λ r. ⌜ Holds (now (buffer .entry))
+        (firstText f (naturals (now (given .entry))) (vector (now (numerators .entry))) (vector (now (rounded .entry)))
+        (naturals (now (results .entry))) (vector (now (misclosures .entry))) (vector (now (rests .entry))))
+        (now (buffer .exit)) r ⌝ }
+{
+    let counts = tables::counts_of(f);
+    let after_figure = put_figure_line(buffer, f);
+    let after_angles = put_angles(
+        buffer,
+        after_figure,
+        counts.angles,
+        given,
+        numerators,
+        rounded,
+        results,
+    );
+    put_conditions(buffer, after_angles, counts.conditions, misclosures, rests)
+}
+
+fn put_figure_line(buffer: &mut [u8], f: Figure) -> usize
+    ensures { λ r. ⌜ Lays (line (firstFigure f)) (now (buffer .entry)) 0 (now (buffer .exit)) r ⌝ }
+{
+    let counts = tables::counts_of(f);
+    let denominator = counts.denominator as i64;
+    let after_start = put_figure_start(buffer, f);
+    put_line(
+        buffer,
+        after_start,
+        b"denominator ",
+        [denominator, 0, 0, 0, 0, 0],
+        1,
+    )
+}
+
+fn put_angles(
+    buffer: &mut [u8],
+    at: usize,
+    count: usize,
+    given: &[u32],
+    numerators: &[i32],
+    rounded: &[i32],
+    results: &[u32],
+) -> usize
+    requires { ⌜ count ≤ 24 ⌝ }
+    ensures { λ r. ⌜ Lays (lines (listed count (firstAngle (naturals (now (given .entry))) (vector (now (numerators .entry)))
+        (vector (now (rounded .entry))) (naturals (now (results .entry)))))) (now (buffer .entry)) at (now (buffer .exit)) r ⌝ }
+{
+    let mut position = at;
+    let mut i = 0;
+    while i < count {
+        position = put_angle(buffer, position, i, given, numerators, rounded, results);
+        i += 1;
+    }
+    position
+}
+
+fn put_angle(
+    buffer: &mut [u8],
+    at: usize,
+    i: usize,
+    given: &[u32],
+    numerators: &[i32],
+    rounded: &[i32],
+    results: &[u32],
+) -> usize
+    requires { ⌜ i < 24 ⌝ }
+    ensures { λ r. ⌜ Lays (line (firstAngle (naturals (now (given .entry))) (vector (now (numerators .entry)))
+        (vector (now (rounded .entry))) (naturals (now (results .entry))) i)) (now (buffer .entry)) at (now (buffer .exit)) r ⌝ }
+{
+    let number = (i + 1) as i64;
+    let numbers = [
+        number,
+        natural_at(given, i),
+        signed_at(numerators, i),
+        signed_at(rounded, i),
+        natural_at(results, i),
+        0,
+    ];
+    put_numbers(buffer, at, numbers, 5)
+}
+
+fn put_conditions(
+    buffer: &mut [u8],
+    at: usize,
+    count: usize,
+    misclosures: &[i32],
+    rests: &[i32],
+) -> usize
+    requires { ⌜ count ≤ 24 ⌝ }
+    ensures { λ r. ⌜ Lays (lines (listed count (firstCondition (vector (now (misclosures .entry))) (vector (now (rests .entry))))))
+        (now (buffer .entry)) at (now (buffer .exit)) r ⌝ }
+{
+    let mut position = at;
+    let mut j = 0;
+    while j < count {
+        position = put_condition(buffer, position, j, misclosures, rests);
+        j += 1;
+    }
+    position
+}
+
+fn put_condition(
+    buffer: &mut [u8],
+    at: usize,
+    j: usize,
+    misclosures: &[i32],
+    rests: &[i32],
+) -> usize
+    requires { ⌜ j < 24 ⌝ }
+    ensures { λ r. ⌜ Lays (line (firstCondition (vector (now (misclosures .entry))) (vector (now (rests .entry))) j))
+        (now (buffer .entry)) at (now (buffer .exit)) r ⌝ }
+{
+    let number = (j + 1) as i64;
+    let numbers = [
+        number,
+        signed_at(misclosures, j),
+        signed_at(rests, j),
+        0,
+        0,
+        0,
+    ];
+    put_line(buffer, at, b"condition ", numbers, 3)
+}

@@ -1,2 +1,0 @@
-pub mod Padding
-pub mod Small

@@ -1,3 +1,0 @@
-pub mod FirstWork
-pub mod Premises
-pub mod SecondWork

@@ -43,8 +43,8 @@ static void find_sheets(struct figure *figure, const struct task *tasks, size_t 
         fprintf(stderr, "the bench has no sheet of the %s\n", figure->name);
         exit(2);
     }
-    figure->angles = (int)figure->tasks->head[BIENGULOC_HEAD_ANGLES];
-    figure->conditions = (int)figure->tasks->head[BIENGULOC_HEAD_CONDITIONS];
+    figure->angles = (int)figure->tasks->head[BIENGULOC_LOOK_ANGLES];
+    figure->conditions = (int)figure->tasks->head[BIENGULOC_LOOK_CONDITIONS];
 }
 
 static bool is_in(const struct figure *figure, int condition, int angle)

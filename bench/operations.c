@@ -28,32 +28,32 @@ static uint32_t look(const struct library *library, const struct task *task, uin
 
 static uint32_t read_values(const struct library *library, const struct task *task, const uint32_t *head, struct values *values)
 {
-    const size_t sines = head[BIENGULOC_HEAD_LOG_SINES];
-    return library->read(task->sheet, task->size, values->head, BIENGULOC_READ_HEAD, values->angles, head[BIENGULOC_HEAD_ANGLES],
-        values->fixed, head[BIENGULOC_HEAD_FIXED], values->log_sines, sines, values->differences, sines);
+    const size_t sines = head[BIENGULOC_LOOK_LOG_SINES];
+    return library->read(task->sheet, task->size, values->head, BIENGULOC_READ_HEAD, values->angles, head[BIENGULOC_LOOK_ANGLES],
+        values->fixed, head[BIENGULOC_LOOK_FIXED], values->log_sines, sines, values->differences, sines);
 }
 
 static uint32_t write_values(const struct library *library, const struct task *task, struct desk *desk)
 {
     const struct values *v = &task->values;
-    const size_t sines = task->head[BIENGULOC_HEAD_LOG_SINES];
-    return library->write(v->head[0], v->head[1], v->head[2], v->head[3], v->angles, task->head[BIENGULOC_HEAD_ANGLES], v->fixed,
-        task->head[BIENGULOC_HEAD_FIXED], v->log_sines, sines, v->differences, sines, desk->sheet, task->size);
+    const size_t sines = task->head[BIENGULOC_LOOK_LOG_SINES];
+    return library->write(v->head[0], v->head[1], v->head[2], v->head[3], v->angles, task->head[BIENGULOC_LOOK_ANGLES], v->fixed,
+        task->head[BIENGULOC_LOOK_FIXED], v->log_sines, sines, v->differences, sines, desk->sheet, task->size);
 }
 
 static uint32_t first_pass(const struct library *library, const uint32_t *head, const struct values *v, struct desk *desk)
 {
-    const size_t angles = head[BIENGULOC_HEAD_ANGLES], conditions = head[BIENGULOC_HEAD_CONDITIONS];
-    return library->first_pass(v->head[1], v->head[2], v->head[3], v->angles, angles, v->fixed, head[BIENGULOC_HEAD_FIXED],
+    const size_t angles = head[BIENGULOC_LOOK_ANGLES], conditions = head[BIENGULOC_LOOK_CONDITIONS];
+    return library->first_pass(v->head[1], v->head[2], v->head[3], v->angles, angles, v->fixed, head[BIENGULOC_LOOK_FIXED],
         desk->misclosures, conditions, desk->numerators, angles, desk->rounded, angles, desk->results, angles, desk->rests, conditions);
 }
 
 static uint32_t second_pass(const struct library *library, const uint32_t *head, const struct values *v, struct desk *desk)
 {
-    const size_t angles = head[BIENGULOC_HEAD_ANGLES];
+    const size_t angles = head[BIENGULOC_LOOK_ANGLES];
     return library->second_pass(v->head[1], v->head[2], v->head[3], v->angles, angles, v->log_sines, angles, v->differences, angles,
         desk->sums, 2, desk->reduced, angles, desk->wide_numerators, angles, desk->rounded, angles, desk->results, angles, desk->rests,
-        head[BIENGULOC_HEAD_CONDITIONS]);
+        head[BIENGULOC_LOOK_CONDITIONS]);
 }
 
 /* As a controller does: a look for the counts, the values, the pass of the sheet's kind. */

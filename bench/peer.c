@@ -32,7 +32,7 @@ enum refusal_number {
     RESULT_RANGE,
     SINE_RANGE,
     TOLERANCE,
-    NO_SINE_PART,
+    SUM_OF_SQUARES_IS_ZERO,
     NO_KIND,
     SHEET_LENGTH,
     FILLING
@@ -330,7 +330,7 @@ static uint32_t work_second(const struct figure *f, uint32_t tolerance, const ui
 {
     const int64_t squares = reduce_sines(f, log_sines, differences, out);
     if (out->square_sum == 0)
-        return refused(NO_SINE_PART, 0);
+        return refused(SUM_OF_SQUARES_IS_ZERO, 0);
     if (beyond_tolerance(out->sine_misclosure, tolerance ? tolerance : DEFAULT_TOLERANCE, squares))
         return refused(TOLERANCE, 0);
     const int64_t factor = -100 * (int64_t)f->denominator * out->sine_misclosure, square_sum = out->square_sum;

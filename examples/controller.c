@@ -2,7 +2,8 @@
  *
  *     controller [SHEET]
  *
- * or, of a sheet that is turned back, the refusal's number and place. */
+ * or, of a sheet that is turned back, the refusal's number and place. It ends with status 0 when the sheet was worked, 1 when it
+ * was refused, and 2 when it could not be read or the angles were not all written. */
 #include <inttypes.h>
 #include <stdio.h>
 
@@ -22,15 +23,15 @@ struct desk {
 static uint32_t first_pass(struct desk *d, size_t angles, size_t conditions)
 {
     const uint32_t *h = d->read_head;
-    return bienguloc_first_pass(h[BIENGULOC_HEAD_CODE], h[BIENGULOC_HEAD_N], h[BIENGULOC_HEAD_LIMIT_OR_TOLERANCE],
-        d->angles, angles, d->fixed, d->head[BIENGULOC_HEAD_FIXED],
+    return bienguloc_first_pass(h[BIENGULOC_HEAD_CODE], h[BIENGULOC_HEAD_N], h[BIENGULOC_READ_LIMIT_OR_TOLERANCE],
+        d->angles, angles, d->fixed, d->head[BIENGULOC_LOOK_FIXED],
         d->misclosures, conditions, d->numerators, angles, d->rounded, angles, d->results, angles, d->rests, conditions);
 }
 
 static uint32_t second_pass(struct desk *d, size_t angles, size_t conditions)
 {
     const uint32_t *h = d->read_head;
-    return bienguloc_second_pass(h[BIENGULOC_HEAD_CODE], h[BIENGULOC_HEAD_N], h[BIENGULOC_HEAD_LIMIT_OR_TOLERANCE],
+    return bienguloc_second_pass(h[BIENGULOC_HEAD_CODE], h[BIENGULOC_HEAD_N], h[BIENGULOC_READ_LIMIT_OR_TOLERANCE],
         d->angles, angles, d->log_sines, angles, d->differences, angles,
         d->sums, 2, d->reduced, angles, d->wide_numerators, angles, d->rounded, angles, d->results, angles, d->rests, conditions);
 }
@@ -41,12 +42,12 @@ static uint32_t work(const uint8_t *sheet, size_t size, struct desk *d)
     uint32_t answer = bienguloc_look(sheet, size, d->head, BIENGULOC_LOOK_HEAD);
     if (answer != BIENGULOC_DONE)
         return answer;
-    const size_t angles = d->head[BIENGULOC_HEAD_ANGLES], sines = d->head[BIENGULOC_HEAD_LOG_SINES];
+    const size_t angles = d->head[BIENGULOC_LOOK_ANGLES], sines = d->head[BIENGULOC_LOOK_LOG_SINES];
     answer = bienguloc_read(sheet, size, d->read_head, BIENGULOC_READ_HEAD, d->angles, angles,
-        d->fixed, d->head[BIENGULOC_HEAD_FIXED], d->log_sines, sines, d->differences, sines);
+        d->fixed, d->head[BIENGULOC_LOOK_FIXED], d->log_sines, sines, d->differences, sines);
     if (answer != BIENGULOC_DONE)
         return answer;
-    const size_t conditions = d->head[BIENGULOC_HEAD_CONDITIONS];
+    const size_t conditions = d->head[BIENGULOC_LOOK_CONDITIONS];
     return d->head[BIENGULOC_HEAD_KIND] == 1 ? first_pass(d, angles, conditions) : second_pass(d, angles, conditions);
 }
 
@@ -56,21 +57,34 @@ static void print_angle(uint32_t number, uint32_t tenths)
         tenths / 10 % 60, tenths % 10);
 }
 
+static void print_answer(uint32_t answer, const struct desk *d)
+{
+    if (answer != BIENGULOC_DONE)
+        printf("refused %" PRIu32 " %" PRIu32 "\n", BIENGULOC_NUMBER(answer), BIENGULOC_PLACE(answer));
+    for (uint32_t i = 0; answer == BIENGULOC_DONE && i < d->head[BIENGULOC_LOOK_ANGLES]; i++)
+        print_angle(i + 1, d->results[i]);
+}
+
 int main(int argc, char **argv)
 {
     /* One byte more than the longest sheet, so that a sheet that is too long is seen. */
     uint8_t sheet[BIENGULOC_LONGEST_SHEET + 1];
     static struct desk desk;
-    FILE *file = argc > 1 ? fopen(argv[1], "rb") : stdin;
-    if (!file) {
-        perror(argv[1]);
+    const char *name = argc > 1 ? argv[1] : "standard input";
+    FILE *file = argc > 1 ? fopen(name, "rb") : stdin;
+    const size_t size = file ? fread(sheet, 1, sizeof sheet, file) : 0;
+    /* Bytes that an error cut off are no sheet. */
+    if (!file || ferror(file)) {
+        perror(name);
         return 2;
     }
-    const size_t size = fread(sheet, 1, sizeof sheet, file);
     const uint32_t answer = work(sheet, size, &desk);
-    if (answer != BIENGULOC_DONE)
-        printf("refused %" PRIu32 " %" PRIu32 "\n", BIENGULOC_NUMBER(answer), BIENGULOC_PLACE(answer));
-    for (uint32_t i = 0; answer == BIENGULOC_DONE && i < desk.head[BIENGULOC_HEAD_ANGLES]; i++)
-        print_angle(i + 1, desk.results[i]);
-    return ferror(file) ? 2 : 0;
+    print_answer(answer, &desk);
+    /* What is printed waits in a buffer: only closing it tells whether all of it was taken. */
+    const int is_lost = ferror(stdout);
+    if (fclose(stdout) || is_lost) {
+        perror("the angles were not all written");
+        return 2;
+    }
+    return answer == BIENGULOC_DONE ? 0 : 1;
 }

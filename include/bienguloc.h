@@ -1,8 +1,9 @@
 /* Bienguloc: the adjustment of survey angles. The C side of the static library `controller`.
  *
  * A slice is a pointer and a count of values, one after the other in every list below. A slice has exactly the count that the
- * figure and the kind of sheet or pass give it: 0 where there are no such values, and then its pointer must still not be null.
- * What is lent must not overlap. docs/EMBEDDING.md says the rest.
+ * figure and the kind of sheet or pass give it: 0 where there are no such values. No pointer is null, not even one with a count
+ * of 0. Every value that is lent has been written, those that a call stores too: fill an output first, with anything. What is
+ * lent must not overlap. docs/EMBEDDING.md says the rest.
  *
  * Every function answers 0 when it is done, else the refusal: number * 256 + place. A refusal has changed nothing that was lent.
  *
@@ -17,6 +18,13 @@
 
 #ifdef __cplusplus
 extern "C" {
+#endif
+
+/* No pointer among the parameters is null: a compiler that can tell says so of a call. */
+#if defined(__GNUC__)
+#define BIENGULOC_NOT_NULL __attribute__((nonnull))
+#else
+#define BIENGULOC_NOT_NULL
 #endif
 
 /* The two parts of an answer; both are 0 of an answer that says done. */
@@ -34,7 +42,7 @@ extern "C" {
 #define BIENGULOC_RESULT_OUT_OF_RANGE 7u
 #define BIENGULOC_SINE_ENTRY_OUT_OF_RANGE 8u
 #define BIENGULOC_SINE_MISCLOSURE_BEYOND_TOLERANCE 9u
-#define BIENGULOC_NO_SINE_PART 10u
+#define BIENGULOC_SUM_OF_SQUARES_IS_ZERO 10u
 #define BIENGULOC_NO_SUCH_KIND 11u
 #define BIENGULOC_WRONG_SHEET_LENGTH 12u
 #define BIENGULOC_FILLING_BIT_SET 13u
@@ -46,50 +54,52 @@ extern "C" {
 #define BIENGULOC_LONGEST_SHEET 198
 #define BIENGULOC_ROOM_FOR_TEXT 2048
 
-/* The places of `head`, and how many values it has for a look and for the reader, which gives L or e at the fourth. */
+/* The places of `head`, and how many values it has: the first three are the same for a look and for the reader. */
 enum {
     BIENGULOC_HEAD_KIND = 0,
     BIENGULOC_HEAD_CODE = 1,
     BIENGULOC_HEAD_N = 2,
-    BIENGULOC_HEAD_ANGLES = 3,
-    BIENGULOC_HEAD_FIXED = 4,
-    BIENGULOC_HEAD_LOG_SINES = 5,
-    BIENGULOC_HEAD_CONDITIONS = 6,
+
+    BIENGULOC_LOOK_ANGLES = 3,
+    BIENGULOC_LOOK_FIXED = 4,
+    BIENGULOC_LOOK_LOG_SINES = 5,
+    BIENGULOC_LOOK_CONDITIONS = 6,
     BIENGULOC_LOOK_HEAD = 7,
-    BIENGULOC_HEAD_LIMIT_OR_TOLERANCE = 3,
+
+    BIENGULOC_READ_LIMIT_OR_TOLERANCE = 3,
     BIENGULOC_READ_HEAD = 4
 };
 
 /* What the head of a sheet says, and so how long the slices are that the reader and the pass are lent. There are as many
  * differences as log-sines. Only the first two bytes are judged: 12 if there are fewer, then 11, 1, 2. */
-uint32_t bienguloc_look(const uint8_t *sheet, size_t, uint32_t *head, size_t /* 7: kind, code, n, angles, fixed, log-sines, conditions */);
+BIENGULOC_NOT_NULL uint32_t bienguloc_look(const uint8_t *sheet, size_t, uint32_t *head, size_t /* 7: kind, code, n, angles, fixed, log-sines, conditions */);
 
 /* The values of a packed sheet. L or e is given as packed, so that 0 stays 0. In order: 12 if under two bytes, 11, 1, 12, 2, 13,
  * 3, 4, 5, 8. */
-uint32_t bienguloc_read(const uint8_t *sheet, size_t, uint32_t *head, size_t /* 4: kind, code, n, L or e */,
+BIENGULOC_NOT_NULL uint32_t bienguloc_read(const uint8_t *sheet, size_t, uint32_t *head, size_t /* 4: kind, code, n, L or e */,
     uint32_t *angles, size_t, uint32_t *fixed, size_t, uint32_t *log_sines, size_t, int32_t *differences, size_t);
 
 /* The packed sheet of these values, into a slice of exactly its size. In order: 11, 1, 2, 3, 4, 5, 8. */
-uint32_t bienguloc_write(uint32_t kind, uint32_t code, uint32_t n, uint32_t limit_or_tolerance,
+BIENGULOC_NOT_NULL uint32_t bienguloc_write(uint32_t kind, uint32_t code, uint32_t n, uint32_t limit_or_tolerance,
     const uint32_t *angles, size_t, const uint32_t *fixed, size_t, const uint32_t *log_sines, size_t, const int32_t *differences, size_t,
     uint8_t *sheet, size_t);
 
 /* The first corrections. By condition: misclosures and rests; by angle: the numerators of the exact corrections (over D), the
  * rounded corrections and the corrected angles. A limit of 0 stands for the default. In order: 1, 2, 3, 4, 5, 6, 7. */
-uint32_t bienguloc_first_pass(uint32_t code, uint32_t n, uint32_t limit, const uint32_t *angles, size_t, const uint32_t *fixed, size_t,
+BIENGULOC_NOT_NULL uint32_t bienguloc_first_pass(uint32_t code, uint32_t n, uint32_t limit, const uint32_t *angles, size_t, const uint32_t *fixed, size_t,
     int32_t *misclosures, size_t, int32_t *numerators, size_t, int32_t *rounded, size_t, uint32_t *corrected, size_t, int32_t *rests, size_t);
 
 /* The second corrections, of first-corrected angles. By angle: the reduced coefficients A, the numerators of the exact corrections
  * (over S), the rounded corrections and the adjusted angles; by condition: the rests. A tolerance of 0 stands for the default.
  * In order: 1, 2, 3, 4, 8, 10, 9, 7. */
-uint32_t bienguloc_second_pass(uint32_t code, uint32_t n, uint32_t tolerance, const uint32_t *angles, size_t, const uint32_t *log_sines, size_t,
+BIENGULOC_NOT_NULL uint32_t bienguloc_second_pass(uint32_t code, uint32_t n, uint32_t tolerance, const uint32_t *angles, size_t, const uint32_t *log_sines, size_t,
     const int32_t *differences, size_t, int64_t *sums, size_t /* 2: W, S */, int64_t *reduced, size_t, int64_t *numerators, size_t,
     int32_t *rounded, size_t, uint32_t *adjusted, size_t, int32_t *rests, size_t);
 
 /* The lines that the program prints for these bytes, whatever they are: a sheet that is turned back has the line `refused`, and
  * the answer is 0. `text` may be longer than its lines, and is left as it was past them; `written` gets their count of bytes.
  * 2 if the lines do not fit `text` or `written` has not exactly 1 value. No more than BIENGULOC_ROOM_FOR_TEXT bytes are written. */
-uint32_t bienguloc_report(const uint8_t *sheet, size_t, uint8_t *text, size_t, uint64_t *written, size_t /* 1 */);
+BIENGULOC_NOT_NULL uint32_t bienguloc_report(const uint8_t *sheet, size_t, uint8_t *text, size_t, uint64_t *written, size_t /* 1 */);
 
 #ifdef __cplusplus
 }

@@ -4,7 +4,8 @@ independent computation.
 
     tests/compare.py [COMMAND ...]
 
-The command reads one sheet from standard input and writes the text; it is bin/adjust if none is given.
+The command reads one sheet from standard input and writes the text; it is bin/adjust if none is given, which must end with
+status 1 on a refused sheet. Another command may end with 0 on it.
 """
 
 import subprocess
@@ -19,6 +20,7 @@ from made_sheets import made_sheets, print_reached, reached
 from packed import Refused, read_sheet, write_sheet
 
 ROOT = Path(__file__).resolve().parent.parent
+OWN = [str(ROOT / "bin" / "adjust")]
 WORKERS = 2
 PATIENCE = 60  # seconds for one sheet
 PATIENCE_FOR_BUILDING = 900  # the first run may have to build the program
@@ -69,13 +71,19 @@ def fed_at_once(command, sheet, patience=PATIENCE):
     return done.returncode, done.stdout
 
 
+def right_statuses(command, check):
+    if not check.expected.startswith("refused "):
+        return [0]
+    return [1] if command == OWN else [0, 1]
+
+
 def complaint(command, check):
     """What is wrong, or None."""
     try:
         status, written = (fed_in_pieces if check.in_pieces else fed_at_once)(command, check.sheet)
     except subprocess.TimeoutExpired:
         return "does not end"
-    if status != 0:
+    if status not in right_statuses(command, check):
         return f"ends with status {status} and writes\n{written.decode(errors='replace')}"
     if written != check.expected.encode("ascii"):
         return f"writes\n{written.decode(errors='replace')}"
@@ -99,7 +107,7 @@ def independent_complaint(check):
 
 
 def main():
-    command = sys.argv[1:] or [str(ROOT / "bin" / "adjust")]
+    command = sys.argv[1:] or OWN
     started = time.monotonic()
     checks = [*sample_checks(), *made_checks()]
     complete = print_reached(reached((check.name, check.expected) for check in checks))

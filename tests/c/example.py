@@ -4,6 +4,7 @@
     tests/c/example.py COMMAND ..      the command reads one sheet from standard input, or from a file named after it
 """
 
+import os
 import subprocess
 import sys
 from itertools import islice
@@ -35,8 +36,26 @@ def expected(sheet):
 
 
 def printed(command, sheet=b""):
+    """What is printed, if the status agrees with it."""
     done = subprocess.run(command, input=sheet, stdout=subprocess.PIPE, timeout=60, check=False)
-    return done.stdout.decode(errors="replace") if done.returncode == 0 else f"status {done.returncode}"
+    text = done.stdout.decode(errors="replace")
+    return text if done.returncode == text.startswith("refused ") else f"status {done.returncode}\n{text}"
+
+
+def lost(command):
+    """Status and message where something cannot be read or written."""
+
+    def told(words, **how):
+        done = subprocess.run(words, stderr=subprocess.PIPE, timeout=60, check=False, **how)
+        return f"{done.returncode} {done.stderr.decode().rpartition(': ')[2]}"
+
+    sheet = ROOT / "sheets" / "document-01-first.sheet"
+    with open("/dev/full", "wb") as full:
+        yield "a full device", told([*command, str(sheet)], stdout=full), "2 No space left on device\n"
+    yield "a closed output", told([*command, str(sheet)], preexec_fn=lambda: os.close(1)), "2 Bad file descriptor\n"
+    yield "a closed input", told(command, stdout=subprocess.DEVNULL, preexec_fn=lambda: os.close(0)), "2 Bad file descriptor\n"
+    yield "a folder", told([*command, str(ROOT)], stdout=subprocess.DEVNULL), "2 Is a directory\n"
+    yield "a missing file", told([*command, "no such file"], stdout=subprocess.DEVNULL), "2 No such file or directory\n"
 
 
 def checks(command):
@@ -45,6 +64,7 @@ def checks(command):
         yield path.name, printed([*command, str(path)]), expected(path.read_bytes())
     for name, sheet in islice(made_sheets(), 0, None, EVERY):
         yield name, printed(command, sheet), expected(sheet)
+    yield from lost(command)
 
 
 def main():

@@ -3,6 +3,8 @@
 # shellcheck shell=bash disable=SC2034
 
 root=$(cd "$(dirname "${BASH_SOURCE[0]}")/../.." && pwd)
+# shellcheck source=bin/alone.sh
+. "$root/bin/alone.sh"
 made=$root/target/c
 library=${BIENGULOC_LIBRARY:-$root/target/staticlib/libcontroller.a}
 flags="-std=c11 -O2 -g -Wall -Wextra -Wpedantic -Werror -I$root/include"
@@ -14,7 +16,7 @@ install() {
     local as_root=""
     [ "$(id -u)" -eq 0 ] || as_root="sudo"
     echo "installing $*"
-    $as_root apt-get update -qq && $as_root apt-get install -y -qq --no-install-recommends "$@"
+    { $as_root apt-get update -qq && $as_root apt-get install -y -qq --no-install-recommends "$@"; } || { echo "not installed: $*"; return 1; }
 }
 
 # Sets cc, link (what every link command ends with) and emulator (empty where programs run by themselves).
@@ -49,5 +51,5 @@ find_library() {
         return
     fi
     echo "building the static library, which proves what it rests on"
-    (cd "$root" && rt staticlib controller) && [ -f "$library" ]
+    (cd "$root" && alone rt staticlib controller) && [ -f "$library" ]
 }

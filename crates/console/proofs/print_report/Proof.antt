@@ -37,7 +37,7 @@ slice-aggregate-write-all c = sym (length-take-le _ _ (within (c .before)))
 
 returns : tie.Need-returns
 returns c =
-    let told = c .before .before .before in
+    let told = c .before .before .before .before in
     let called = told .before .before .before in
     count-told (now (called .before .before .before .args .sheet)) _ (sym (called .report .ensures .answered) ∙ told .end .given .1)
 
@@ -55,6 +55,7 @@ print-report-spec =
     (λ c. search needs)
     within
     slice-aggregate-write-all
+    (λ c κs. search needs)
     (λ c κs. search needs)
     (λ c. search needs)
     returns

@@ -100,7 +100,7 @@ def try_lost_bytes(folder):
         expect(f"a reader that has gone {words[1]}", call(words, stdout=writing), (2, "", lost + "Broken pipe\n"))
         os.close(writing)
         with open(folder / "cut", "wb") as cut:
-            expect(f"a limit on the file's size {words[1]}", call(words, stdout=cut, preexec_fn=limited(40)), (2, "", lost + "File too large\n"))
+            expect(f"a limit on the file's size {words[1]}", call(words, stdout=cut, preexec_fn=limited(20)), (2, "", lost + "File too large\n"))
     with open("/dev/full", "wb") as full:
         expect("a full device, from standard input", call([ADJUST], input=WORKED.read_bytes(), stdout=full), (2, "", lost + "No space left on device\n"))
         expect("a full device, a refused sheet", call([ADJUST], input=REFUSED, stdout=full), (2, "", lost + "No space left on device\n"))

@@ -4,7 +4,7 @@ pub mod Exact
 pub mod FirstBounds
 mod FirstPromised
 mod FirstSteps
-mod Lending
+pub mod Lending
 mod Narrowing
 mod Polygons
 mod Reach

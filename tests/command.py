@@ -322,11 +322,12 @@ def try_giving_up(folder):
             time.sleep(0.2)
             tests.terminate()
         expect(f"tests/c/run {name}", tests.wait(timeout=PATIENCE), status)
-        left = [entry.name for entry in Path("/proc").iterdir() if entry.name.isdigit() and session(entry) == tests.pid]
+        left = [entry.name for entry in Path("/proc").iterdir() if entry.name.isdigit() and started_by(entry) == tests.pid]
         expect(f"tests/c/run {name}, and leaves no process behind", left, [])
 
 
-def session(process):
+def started_by(process):
+    """The process at the head of all that were started with it, by its number."""
     try:
         return int((process / "stat").read_text().rpartition(")")[2].split()[3])
     except OSError:

@@ -9,10 +9,11 @@ use report::LONGEST_TEXT;
 use report::Reported;
 use report::report;
 
-// Works what standard input holds. `io::read_full` answers the same for a failed read and for the end of the input, and bytes that an error cut off are no
-// sheet: so the C library's read is asked itself, until it gives no more.
+// Works what standard input holds. `io::read_full` answers the same for a failed read and for the end of the input,
+// and bytes that an error cut off are no sheet: so the C library's read is asked itself, until it gives no more.
 pub fn work_input() {
-    // One byte more than the longest sheet, so that a sheet that is too long is seen. When it is full, the next read has no room and ends the loop.
+    // One byte more than the longest sheet, so that a sheet that is too long is seen. When it is full, the next read has
+    // no room and ends the loop.
     let mut sheet = [0u8; 199];
     let mut size = 0;
     let mut more = 1;
@@ -30,8 +31,9 @@ pub fn work_input() {
     print_report(&sheet[..size]);
 }
 
-// Writes the lines of a worked sheet, or its refusal, and answers how many bytes they have. What becomes of them is the operating system's part;
-// a program has no status of its own, so that bytes which it did not take are told on standard error.
+// Writes the lines of a worked sheet, or its refusal, and answers how many bytes they have. What becomes of them is the
+// operating system's part; a program has no status of its own, so that bytes which it did not take are told on standard
+// error.
 pub fn print_report(sheet: &[u8]) -> usize
     ensures { λ r. ⌜ r ≡ length (reportText (now (sheet .entry))) ⌝ }
 {

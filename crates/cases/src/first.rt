@@ -1,7 +1,7 @@
 // The cases of the first pass. All are of code 1.
 use crate::same::same_angles;
 use crate::same::same_values;
-use passes::first_pass;
+use pass_first::first_pass;
 use refusals::Verdict;
 
 // What is given, and what the pass must answer: the number and place of a refusal, or 0 and 0, and what it is lent for the results. After a refusal

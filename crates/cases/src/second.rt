@@ -2,8 +2,8 @@
 use crate::same::same_angles;
 use crate::same::same_values;
 use crate::same::same_wide_values;
-use passes::SecondAnswer;
-use passes::second_pass;
+use method::SecondAnswer;
+use pass_second::second_pass;
 
 // What is given, and what the pass must answer: the number of a refusal, or 0 with W and S, and what it is lent for the results. After a refusal that
 // is as it was, all 0.

@@ -29,7 +29,7 @@ use Rattle.sheets.proofs.Refusals.{reader-in-table}
 use Rattle.method.specs.FirstPass.{firstLengths, firstRows, firstPassRows}
 use Rattle.method.specs.SecondPass.{secondLengths, secondRows, secondPassRows}
 use Rattle.method.proofs.Refusals.{second-in-table}
-use Rattle.passes.specs.Promises.{FirstGiven, FirstLent, firstLengthsLent, firstRowsOf, SecondGiven, secondLengthsLent}
+use Rattle.method.specs.Promises.{FirstGiven, FirstLent, firstLengthsLent, firstRowsOf, SecondGiven, secondLengthsLent}
 use Rattle.report.proofs.PlaceBounds as pages
 use Rattle.controller.specs.Answer.{lengthsWith}
 use Rattle.controller.specs.Promises.{lookRows, ReadLent, readRows, SumsLent, sumsRows, TextLent, reportRows}

@@ -20,7 +20,7 @@ use Rattle.method.specs.declared.second.SecondAnswer.{SecondAnswer}
 use Rattle.method.specs.declared.second.SecondAnswer.the-variants.{Done, Refused}
 use Rattle.method.specs.SecondPass.{sineMisclosure, sumOfSquares, secondRows, secondPassRows, secondPassVerdict, secondAnswerOf, secondPassAnswer, secondTold}
 use Rattle.method.proofs.Refusals.{second-tells}
-use Rattle.passes.specs.Promises.{SecondGiven, SecondLent, secondLengthsLent, secondValues, secondVerdict, SecondPromise}
+use Rattle.method.specs.Promises.{SecondGiven, SecondLent, secondLengthsLent, secondValues, secondVerdict, SecondPromise}
 use Rattle.controller.specs.Answer.{placeStep, answerNumber, lengthsWith}
 use Rattle.controller.specs.Promises.{SumsLent, sumsLent, sumsRows, sumsOf, SecondPassPromise}
 use Rattle.controller.proofs.Answers.{done-number, place-small}

@@ -18,7 +18,7 @@ use Rattle.sheets.specs.Sheet.{Values, valuesRead}
 use Rattle.sheets.specs.Judging.{readerRows, writerRows, writtenOf}
 use Rattle.sheets.specs.Promises.{Slices, slicesOf, lengthsLent}
 use Rattle.method.specs.SecondPass.{sineMisclosure, sumOfSquares, secondPassRows}
-use Rattle.passes.specs.Promises.{FirstGiven, FirstLent, firstRowsOf, firstLeft, SecondGiven, SecondLent, secondLengthsLent, secondValues}
+use Rattle.method.specs.Promises.{FirstGiven, FirstLent, firstRowsOf, firstLeft, SecondGiven, SecondLent, secondLengthsLent, secondValues}
 use Rattle.report.specs.Report.{reportText}
 use Rattle.controller.specs.Answer.{answerNumber, lengthsWith}
 

@@ -14,7 +14,7 @@ use Rattle.sheets.proofs.Refusals.{head-in-table, head-tells, reader-in-table, 
 use Rattle.method.specs.FirstPass.{firstPassVerdict}
 use Rattle.method.specs.SecondPass.{secondTold, secondPassVerdict}
 use Rattle.method.proofs.Refusals.{first-in-table, second-in-table, second-tells}
-use Rattle.passes.specs.Promises.{FirstGiven, FirstLent, firstLengthsLent, firstValues, firstLeft, firstRowsOf, secondLengthsLent, secondValues, secondRowsOf}
+use Rattle.method.specs.Promises.{FirstGiven, FirstLent, firstLengthsLent, firstValues, firstLeft, firstRowsOf, secondLengthsLent, secondValues, secondRowsOf}
 use Rattle.controller.specs.Answer.{answerTold}
 use Rattle.controller.specs.Promises.{lookRows, lookHead, readRows, readValues, sumsRows, sumsOf, sumsLent, reportRows, textLent, textLaid}
 use Rattle.controller.proofs.Answers.{answer-tells}

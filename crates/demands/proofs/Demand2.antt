@@ -42,7 +42,7 @@ use Rattle.method.proofs.Rests.{rest-small}
 use Rattle.method.proofs.SecondAccepted.{Accepted, accepted}
 use Rattle.method.proofs.SecondLaws.{squares-sum, rest-half}
 use Rattle.method.proofs.WithinRange.{result-within}
-use Rattle.passes.specs.Promises.{FirstGiven, firstLengthsLent, firstValues, SecondGiven, SecondLent, secondLengthsLent, secondVerdict, secondAnswer, secondValues}
+use Rattle.method.specs.Promises.{FirstGiven, firstLengthsLent, firstValues, SecondGiven, SecondLent, secondLengthsLent, secondVerdict, secondAnswer, secondValues}
 use Rattle.demands.specs.Demand2.{FirstDone, FirstPass, SecondDone, SecondPass, valuesIn, ReadThenWritten, WrittenThenRead}
 
 -- a slice of values by a rule has them by the index

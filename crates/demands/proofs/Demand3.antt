@@ -22,7 +22,7 @@ use Rattle.method.specs.SecondPass.{sineMisclosure, sumOfSquares, secondRows, s
 use Rattle.method.proofs.PassRows.{one-judged}
 use Rattle.method.proofs.Refusals.{first-in-table}
 use Rattle.method.proofs.SecondAccepted.{accepted}
-use Rattle.passes.specs.Promises.{firstLengthsLent, firstRowsOf, SecondGiven, secondLengthsLent, secondValues}
+use Rattle.method.specs.Promises.{firstLengthsLent, firstRowsOf, SecondGiven, secondLengthsLent, secondValues}
 use Rattle.worked.specs.Worked.{Outcome, First, Second, WorkedSheet, workedOf, secondSheetLengths, differencesIn}
 use Rattle.worked.proofs.ShownAs.{FirstShown, SecondShown, RefusedShown, shown-as}
 use Rattle.controller.specs.Answer.{lengthsWith}

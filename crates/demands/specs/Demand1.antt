@@ -20,7 +20,7 @@ use Rattle.sheets.specs.Judging.{readerRows, readingTold, writerRows}
 use Rattle.sheets.specs.Promises.{Slices, lengthsLent, ReaderPromise, WriterPromise}
 use Rattle.method.specs.declared.second.SecondAnswer.{SecondAnswer}
 use Rattle.method.specs.SecondPass.{secondTold}
-use Rattle.passes.specs.Promises.{FirstGiven, FirstLent, firstRowsOf, FirstPromise, SecondGiven, SecondLent, secondRowsOf, SecondPromise}
+use Rattle.method.specs.Promises.{FirstGiven, FirstLent, firstRowsOf, FirstPromise, SecondGiven, SecondLent, secondRowsOf, SecondPromise}
 use Rattle.controller.specs.Answer.{answerTold}
 use Rattle.controller.specs.Promises.{lookRows, LookPromise, ReadLent, readRows, ReadPromise, WritePromise, FirstPassPromise, SumsLent, sumsRows, SecondPassPromise, TextLent, reportRows, ReportPromise}
 

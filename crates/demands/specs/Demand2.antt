@@ -29,7 +29,7 @@ use Rattle.sheets.specs.Promises.{Slices, slicesOf, lengthsLent, ReaderPromise,
 use Rattle.method.specs.declared.second.SecondAnswer.the-variants.{Done}
 use Rattle.method.specs.FirstPass.{shouldBe}
 use Rattle.method.specs.SecondPass.{sineSign}
-use Rattle.passes.specs.Promises.{FirstGiven, FirstLent, FirstPromise, SecondGiven, SecondLent, SecondPromise}
+use Rattle.method.specs.Promises.{FirstGiven, FirstLent, FirstPromise, SecondGiven, SecondLent, SecondPromise}
 
 -- ---- the first pass
 

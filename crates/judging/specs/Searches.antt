@@ -1,8 +1,9 @@
 -- What the searches of the code answer: the lowest place of a value that lies outside its range.
 use Prim.Native.Nat.{ℕ}
 use mathlib.Core.List.{List}
-use lib.IntN.{ℤ, pos}
-use lib.ListN.{length}
+use lib.IntN.{ℤ, pos, _+ℤ_}
+use lib.ListN.{length, getD}
+use Rattle.whole.specs.Lists.{listed}
 use Rattle.refusals.specs.declared.Lowest.{Lowest}
 use Rattle.refusals.specs.Numbers.{numbered}
 use Rattle.refusals.specs.Order.{lowestPlace}
@@ -14,6 +15,10 @@ lowestOutside values least most = lowestPlace (λ p. asked (outside least most (
 
 abbrev pub lowestSignedOutside : (values : List ℤ) (least most : ℤ) → Lowest
 lowestSignedOutside values least most = lowestPlace (λ p. asked (outsideSigned least most (numbered values p (pos 0)))) (length values)
+
+-- each angle with its correction; one that is not there counts as 0
+abbrev pub resultsOf : (angles : List ℕ) (corrections : List ℤ) → List ℤ
+resultsOf angles corrections = listed (length angles) (λ i. pos (getD angles i 0) +ℤ getD corrections i (pos 0))
 
 abbrev pub lowestEntryOutside : (logSines : List ℕ) (differences : List ℤ) → Lowest
 lowestEntryOutside logSines differences =

@@ -1,15 +1,18 @@
 // The lowest place at which a value lies outside its range: document 01, "The lowest place is named".
+use refusals::LEAST_ANGLE;
 use refusals::LEAST_DIFFERENCE;
 use refusals::LEAST_LOG_SINE;
 use refusals::Lowest;
+use refusals::MOST_ANGLE;
 use refusals::MOST_DIFFERENCE;
 use refusals::MOST_LOG_SINE;
 ghost use mathlib.Core.Path.{_≡_};
-ghost use lib.IntN.{pos};
+ghost use lib.IntN.{pos, _+ℤ_};
 ghost use lib.ListN.{getD};
 ghost use Rattle.refusals.specs.Questions.{asked, outside, outsideSigned};
-ghost use Rattle.judging.specs.Searches.{lowestOutside, lowestSignedOutside, lowestEntryOutside};
+ghost use Rattle.refusals.specs.Ranges.{leastAngle, mostAngle};
 ghost use Rattle.refusals.specs.Table.{sineEntryOutside};
+ghost use Rattle.judging.specs.Searches.{lowestOutside, lowestSignedOutside, resultsOf, lowestEntryOutside};
 
 fn is_outside(value: u32, least: u32, most: u32) -> bool
     ensures { λ fails. ⌜ fails ≡ asked (outside least most value) ⌝ }
@@ -55,15 +58,36 @@ fn is_difference_outside(value: i32, least: i32, most: i32) -> bool
     value < least || most < value
 }
 
-// The difference of an angle, and 0 past the end.
-fn difference_at(differences: &[i32], i: usize) -> i32
-    ensures { λ difference. ⌜ difference ≡ getD (now (differences .entry)) i (pos 0) ⌝ }
+// The number of an angle, and 0 past the end.
+fn signed_at(values: &[i32], i: usize) -> i32
+    ensures { λ value. ⌜ value ≡ getD (now (values .entry)) i (pos 0) ⌝ }
 {
-    if i < differences.len() {
-        differences[i]
-    } else {
-        0
+    if i < values.len() { values[i] } else { 0 }
+}
+
+// Whether an angle with its correction lies outside the angles' range.
+fn is_result_outside(angle: u32, correction: i32) -> bool
+    ensures { λ fails. ⌜ fails ≡ asked (outsideSigned (pos leastAngle) (pos mostAngle) (pos angle +ℤ correction)) ⌝ }
+{
+    is_signed_outside(
+        angle as i64 + correction as i64,
+        LEAST_ANGLE as i64,
+        MOST_ANGLE as i64,
+    )
+}
+
+pub(crate) fn lowest_result_outside(angles: &[u32], corrections: &[i32]) -> Lowest
+    ensures { λ lowest. ⌜ lowest ≡ lowestSignedOutside (resultsOf (now (angles .entry)) (now (corrections .entry))) (pos leastAngle) (pos mostAngle) ⌝ }
+{
+    let mut passed = 0;
+    while passed < angles.len() {
+        let correction = signed_at(corrections, passed);
+        if is_result_outside(angles[passed], correction) {
+            return Lowest::At(passed + 1);
+        }
+        passed += 1;
     }
+    Lowest::Nowhere
 }
 
 // Whether the log-sine or the difference of an angle lies outside its range.
@@ -79,7 +103,7 @@ pub(crate) fn lowest_entry_outside(log_sines: &[u32], differences: &[i32]) -> Lo
 {
     let mut passed = 0;
     while passed < log_sines.len() {
-        let difference = difference_at(differences, passed);
+        let difference = signed_at(differences, passed);
         if is_entry_outside(log_sines[passed], difference) {
             return Lowest::At(passed + 1);
         }

@@ -2,6 +2,7 @@
 // rows.
 use crate::search::lowest_entry_outside;
 use crate::search::lowest_outside;
+use crate::search::lowest_result_outside;
 use crate::search::lowest_signed_outside;
 use refusals::LEAST_ANGLE;
 use refusals::Lowest;
@@ -12,6 +13,7 @@ ghost use mathlib.Core.Path.{_≡_};
 ghost use Rattle.refusals.specs.Order.{verdictOf};
 ghost use Rattle.refusals.specs.Questions.{sameNumbers};
 ghost use Rattle.refusals.specs.Table.{lengthsRow, limitOrToleranceRow, anglesRow, fixedRow, misclosuresRow, resultsRow, sineEntriesRow, sumOfSquaresRow};
+ghost use Rattle.judging.specs.Searches.{resultsOf};
 
 fn same_numbers(lent: &[usize], own: &[usize]) -> bool
     ensures { λ same. ⌜ same ≡ sameNumbers (now (lent .entry)) (now (own .entry)) ⌝ }
@@ -81,11 +83,11 @@ pub fn misclosures_verdict(misclosures: &[i32], limit: u32) -> Verdict
     }
 }
 
-// Number 7.
-pub fn results_verdict(results: &[i32]) -> Verdict
-    ensures { λ verdict. ⌜ verdict ≡ verdictOf (resultsRow (now (results .entry))) ⌝ }
+// Number 7, of each angle with its correction.
+pub fn results_verdict(angles: &[u32], corrections: &[i32]) -> Verdict
+    ensures { λ verdict. ⌜ verdict ≡ verdictOf (resultsRow (resultsOf (now (angles .entry)) (now (corrections .entry)))) ⌝ }
 {
-    match lowest_signed_outside(results, LEAST_ANGLE as i64, MOST_ANGLE as i64) {
+    match lowest_result_outside(angles, corrections) {
         Lowest::Nowhere => Verdict::Passed,
         Lowest::At(place) => Verdict::Failed(Refusal::ResultOutOfRange(place)),
     }

@@ -1,3 +1,4 @@
 pub mod FirstPass
 pub mod Pass
+pub mod Promises
 pub mod SecondPass

@@ -3,8 +3,9 @@ ghost use mathlib.Core.Path.{_≡_};
 ghost use mathlib.Core.List.{_∷_};
 ghost use lib.ListN.{length};
 ghost use Rattle.refusals.specs.Order.{judged};
-ghost use Rattle.method.specs.FirstPass.{firstResultLengths, givenRows};
+ghost use Rattle.method.specs.FirstPass.{limitOf, firstResultLengths, givenRows};
 use crate::ResultLengths;
+use crate::in_force;
 use figures::Figure;
 use judging::angles_verdict;
 use judging::fixed_verdict;
@@ -13,6 +14,16 @@ use judging::limit_or_tolerance_verdict;
 use refusals::MOST_LIMIT;
 use refusals::Verdict;
 use refusals::first_to_fail;
+
+// Document 01, "Units and ranges": the misclosure limit, in tenths, that 0 stands for.
+const DEFAULT_LIMIT: u32 = 150;
+
+// L in force.
+pub fn limit_in_force(limit: u32) -> u32
+    ensures { λ force. ⌜ force ≡ limitOf limit ⌝ }
+{
+    in_force(limit, DEFAULT_LIMIT)
+}
 
 // Of misclosures, numerators, rounded corrections, corrected angles and rests.
 pub fn first_result_lengths(f: Figure) -> ResultLengths

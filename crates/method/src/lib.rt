@@ -5,9 +5,11 @@ mod second;
 
 pub use first::first_given_verdict;
 pub use first::first_result_lengths;
+pub use first::limit_in_force;
 pub use second::SecondAnswer;
 pub use second::second_given_verdict;
 pub use second::second_result_lengths;
+pub use second::tolerance_in_force;
 ghost use mathlib.Core.Path.{_≡_};
 ghost use Rattle.method.specs.Pass.{inForce};
 
@@ -15,7 +17,7 @@ ghost use Rattle.method.specs.Pass.{inForce};
 pub type ResultLengths = [usize; 5];
 
 // L or e in force: 0 stands for the default.
-pub fn in_force(value: u32, default: u32) -> u32
+fn in_force(value: u32, default: u32) -> u32
     ensures { λ force. ⌜ force ≡ inForce default value ⌝ }
 {
     if value == 0 { default } else { value }

@@ -4,8 +4,9 @@ ghost use mathlib.Core.Path.{_≡_};
 ghost use mathlib.Core.List.{_∷_};
 ghost use lib.ListN.{length};
 ghost use Rattle.refusals.specs.Order.{judged};
-ghost use Rattle.method.specs.SecondPass.{secondResultLengths, entryRows};
+ghost use Rattle.method.specs.SecondPass.{toleranceOf, secondResultLengths, entryRows};
 use crate::ResultLengths;
+use crate::in_force;
 use figures::Figure;
 use judging::angles_verdict;
 use judging::lengths_verdict;
@@ -20,6 +21,16 @@ use refusals::first_to_fail;
 pub enum SecondAnswer {
     Done(i64, i64),
     Refused(Refusal),
+}
+
+// Document 01, "Units and ranges": the sine tolerance, in seconds, that 0 stands for.
+const DEFAULT_TOLERANCE: u32 = 10;
+
+// e in force.
+pub fn tolerance_in_force(tolerance: u32) -> u32
+    ensures { λ force. ⌜ force ≡ toleranceOf tolerance ⌝ }
+{
+    in_force(tolerance, DEFAULT_TOLERANCE)
 }
 
 // Of reduced coefficients, numerators, rounded corrections, adjusted angles and rests.

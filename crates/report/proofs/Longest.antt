@@ -25,11 +25,11 @@ use Rattle.figures.specs.Numerators.{mostAngles}
 use Rattle.figures.proofs.Figures.{angle-bound, condition-bound}
 use Rattle.method.specs.FirstPass.{misclosure, firstNumerator, firstRounded, corrected, firstRest, misclosuresOf, numeratorsOf, roundedOf, correctedOf, restsOf}
 use Rattle.method.specs.SecondPass.{sineMisclosure, sumOfSquares, differenceSquares, secondReduced, secondNumerator, secondRounded, secondAdjusted, secondRest, reducedOf, secondNumeratorsOf, secondRoundedOf, adjustedOf, secondRestsOf}
-use Rattle.passes.specs.Premises.{Within, mostDenominator, mostMisclosure, mostReduced}
-use Rattle.passes.proofs.Exact.{product-magnitude}
-use Rattle.passes.proofs.FirstBounds.{misclosure-small, first-numerator-small, first-rounded-small, first-rest-small}
-use Rattle.passes.proofs.SineBounds.{denominator-bound, squares-natural, squares-magnitude, reduced-magnitude}
-use Rattle.passes.proofs.Tolerance.{within-tolerance}
+use Rattle.pass_steps.specs.Premises.{Within, mostDenominator, mostMisclosure, mostReduced}
+use Rattle.pass_second.proofs.Exact.{product-magnitude}
+use Rattle.pass_first.proofs.FirstBounds.{misclosure-small, first-numerator-small, first-rounded-small, first-rest-small}
+use Rattle.pass_second.proofs.SineBounds.{denominator-bound, squares-natural, squares-magnitude, reduced-magnitude}
+use Rattle.pass_second.proofs.Tolerance.{within-tolerance}
 use Rattle.worked.specs.Texts.{textOf}
 use Rattle.worked.specs.Worked.{WorkedSheet, firstSheetLengths, secondSheetLengths, refusedSheet, firstShown, secondShown, workedOf, sheetRows, outcomeTold}
 use Rattle.worked.proofs.Refusals.{sheet-rows-known, worked-told}

@@ -6,7 +6,7 @@ use native.Mathlib.Nat.{le-of-suc-le-suc, not-suc-le-zero}
 use native.Mathlib.Numerals.{add-one}
 use native.Mathlib.Omega.{arith}
 use lib.ListN.{length, getD, take, set, length-set}
-use lib.Seq.{take-suc, take-suc-set, take-all}
+use lib.Seq.{take-suc, take-suc-set, take-all, getD-set-other}
 use Rattle.whole.specs.Lists.{listed, padded}
 
 module _ {A : Type 0} where
@@ -71,3 +71,17 @@ module _ {A : Type 0} where
 
   pub filled-all : {n i : ℕ} {f : ℕ → A} {l : List A} → Filled n f i l → n ≤ i → l ≡ listed n f
   filled-all {n} {i} {f} {l} h b = sym (take-all i l (omega (arith, h .size))) ∙ h .done ∙ take-all i (listed n f) (omega (arith, length-listed n f))
+
+  -- the invariant of every loop that works an array over in place: what is not passed yet is as it was
+  pub record Replaced (d : A) (n : ℕ) (f : ℕ → A) (old : List A) (i : ℕ) (l : List A) : Type 0 where
+    pub filled : Filled n f i l
+    pub left : (k : ℕ) → i ≤ k → getD l k d ≡ getD old k d
+
+  pub replaced-none : (d : A) (n : ℕ) (f : ℕ → A) (l : List A) → length l ≡ n → Replaced d n f l 0 l
+  replaced-none d n f l e = record { filled = filled-none n f l e; left = λ k h. refl }
+
+  pub replaced-more : {d : A} {n i : ℕ} {f : ℕ → A} {old l : List A} {v : A} → Replaced d n f old i l → i < n → v ≡ f i → Replaced d n f old (i + 1) (set l i v)
+  replaced-more {d} {n} {i} {f} {old} {l} {v} h b e = record {
+    filled = filled-more (h .filled) b e;
+    left = λ k past. getD-set-other l i k v d (λ (same : k ≡ i). omega arith) ∙ h .left k (omega arith);
+  }

@@ -17,7 +17,7 @@ use Rattle.method.specs.FirstPass.{firstRows, firstResultLengths}
 use Rattle.method.specs.declared.second.SecondAnswer.{SecondAnswer}
 use Rattle.method.specs.declared.second.SecondAnswer.the-variants.{Done, Refused}
 use Rattle.method.specs.SecondPass.{sineMisclosure, sumOfSquares, secondRows, secondResultLengths, secondAnswerOf}
-use Rattle.passes.specs.Promises.{FirstLent, firstResultsLent, firstValuesOf, FirstPromiseOf, SecondLent, secondResultsLent, secondValuesOf, secondVerdictOf, SecondPromiseOf}
+use Rattle.method.specs.Promises.{FirstLent, firstResultsLent, firstValuesOf, FirstPromiseOf, SecondLent, secondResultsLent, secondValuesOf, secondVerdictOf, SecondPromiseOf}
 use Rattle.worked.specs.Texts.{textOf}
 use Rattle.worked.specs.Worked.{shownIf, firstShown, firstSheetLengths, firstSheet, secondShown, secondSheetLengths, secondSheet}
 

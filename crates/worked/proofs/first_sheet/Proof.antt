@@ -14,9 +14,9 @@ use Rattle.figures.specs.declared.Counts.{Counts}
 use Rattle.figures.specs.Figure.{angleCount, conditionCount}
 use Rattle.figures.proofs.Figures.{angle-bound, condition-bound}
 use Rattle.method.specs.FirstPass.{firstResultLengths}
-use Rattle.passes.specs.Promises.{FirstLent, firstLent, firstResultsLent}
-use Rattle.passes.proofs.Again.{Again, again}
-use Rattle.passes.proofs.Lending.{lent-length}
+use Rattle.method.specs.Promises.{FirstLent, firstLent, firstResultsLent}
+use Rattle.pass_steps.proofs.Again.{Again, again}
+use Rattle.pass_steps.proofs.Lending.{lent-length}
 use Rattle.worked.proofs.Sheets.{first-refused, first-worked}
 use Rattle.worked.proofs.first_sheet.Statement.{statement}
 use Rattle.worked.proofs.first_sheet.Tie as tie

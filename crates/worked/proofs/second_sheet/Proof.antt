@@ -16,9 +16,9 @@ use Rattle.figures.specs.declared.Counts.{Counts}
 use Rattle.figures.specs.Figure.{angleCount, conditionCount}
 use Rattle.figures.proofs.Figures.{angle-bound, condition-bound}
 use Rattle.method.specs.SecondPass.{secondResultLengths}
-use Rattle.passes.specs.Promises.{SecondLent, secondLent, secondResultsLent}
-use Rattle.passes.proofs.Again.{Again, again}
-use Rattle.passes.proofs.Lending.{lent-length}
+use Rattle.method.specs.Promises.{SecondLent, secondLent, secondResultsLent}
+use Rattle.pass_steps.proofs.Again.{Again, again}
+use Rattle.pass_steps.proofs.Lending.{lent-length}
 use Rattle.worked.proofs.Sheets.{second-refused, second-worked}
 use Rattle.worked.proofs.second_sheet.Statement.{statement}
 use Rattle.worked.proofs.second_sheet.Tie as tie

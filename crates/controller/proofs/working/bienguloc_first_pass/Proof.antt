@@ -7,7 +7,7 @@ use Rattle.refusals.specs.declared.Verdict.{Verdict}
 use Rattle.refusals.specs.Numbers.{verdictTold}
 use Rattle.method.specs.FirstPass.{firstPassVerdict}
 use Rattle.method.proofs.Refusals.{first-in-table}
-use Rattle.passes.specs.Promises.{FirstGiven, firstGiven, FirstLent, firstLent, firstLengthsLent, firstRowsOf, FirstPromise}
+use Rattle.method.specs.Promises.{FirstGiven, firstGiven, FirstLent, firstLent, firstLengthsLent, firstRowsOf, FirstPromise}
 use Rattle.controller.specs.Answer.{placeStep, answerNumber}
 use Rattle.controller.specs.Promises.{FirstPassPromise}
 use Rattle.controller.proofs.Answers.{place-small}

@@ -34,7 +34,7 @@ tested : (c : tie.After-is-entry-outside Inv-loop μ-loop)
 tested c =
     let start = c .before .before .before .before .before .before in
     let logSine = getD (start .args .log-sines .now) (c .before .before .before .before .loop .passed) 0 in
-    let difference = c .before .before .difference-at in
+    let difference = c .before .before .signed-at in
     ap (λ (z : ℤ). asked (sineEntryOutside logSine z))
     (sym (toZ-ofZ w32 (difference .result) (record { sfits = difference .ok }) ∙ difference .ensures))
     ∙ sym (c .is-entry-outside .ensures)

@@ -1,0 +1,175 @@
+-- From the steps of a first pass to what it promises, of a figure that is named. Assumes nothing.
+use mathlib.Core.Path.{_≡_, refl, sym, ap, ap₂, _∙_, subst}
+use mathlib.Core.List.{List, [], _∷_, _++_}
+use Prim.Native.Nat.{ℕ, suc, _≤_, _<_}
+use native.Mathlib.Nat.{le-trans, lt-of-le-of-lt}
+use lib.Dec.{lit<, lit≤}
+use lib.IntN.{ℤ, natAbs, _+ℤ_}
+use lib.ListN.{length, getD}
+use Rattle.whole.specs.Lists.{listed}
+use Rattle.whole.specs.Quotient.{roundedQuotient}
+use Rattle.whole.specs.Sums.{vector}
+use Rattle.whole.proofs.Lists.{length-listed, listed-ext}
+use Rattle.refusals.specs.declared.Refusal.{Refusal}
+use Rattle.refusals.specs.declared.Verdict.{Verdict}
+use Rattle.refusals.specs.declared.Verdict.the-variants.{Passed, Failed}
+use Rattle.refusals.specs.Order.{Row, verdictOf, judged}
+use Rattle.refusals.specs.Promise.{stored}
+use Rattle.refusals.specs.Ranges.{mostLimit}
+use Rattle.refusals.specs.Table.{misclosuresRow, resultsRow}
+use Rattle.refusals.proofs.Answers.{answer-of-one}
+use Rattle.refusals.proofs.InSteps.{judged-after-pass, judged-after-failure}
+use Rattle.refusals.proofs.Rows.{none-holds}
+use Rattle.judging.specs.Searches.{resultsOf}
+use Rattle.figures.specs.declared.Figure.{Figure}
+use Rattle.figures.specs.declared.Named.{Named}
+use Rattle.figures.specs.declared.Named.the-variants.{As, Nothing}
+use Rattle.figures.specs.Figure.{denominator, angleCount, conditionCount, figureOf, ofNamed}
+use Rattle.figures.specs.Numerators.{conditionSum, numerator}
+use Rattle.method.specs.FirstPass.{limitOf, misclosure, firstNumerator, firstRounded, corrected, firstRest, misclosuresOf, numeratorsOf, roundedOf, restsOf, firstLengths, givenRows, firstRows, firstPassRows, firstPassVerdict}
+use Rattle.method.specs.Pass.{given}
+use Rattle.method.proofs.FirstAccepted.{Entries, entries-passed}
+use Rattle.method.proofs.PassRows.{none-judged, one-judged}
+use Rattle.method.proofs.WithinRange as range
+use Rattle.pass_steps.specs.Premises.{Angles, Within}
+use Rattle.method.specs.Promises.{FirstGiven, FirstLent, firstLent, firstSlices, firstLengthsLent, firstAnswer, firstValuesOf, firstValues, FirstPromise, firstVerdictOf, FirstPromiseOf}
+use Rattle.pass_steps.specs.Steps.{StoredIf, numeratorsFrom, resultsFrom}
+use Rattle.pass_first.specs.Steps.{tenthsFrom, tenthsOf, restsFrom, firstFrom}
+use Rattle.pass_steps.proofs.Judged.{kept}
+use Rattle.pass_steps.proofs.StepLaws.{listed-at, listed-within, listed-after, condition-ext, numerator-ext}
+
+-- ---- what the steps give from the misclosures are the values of the definitions
+
+module _ (f : Figure) (angles fixed : List ℕ) where
+  abbrev pub misclosures : List ℤ
+  misclosures = misclosuresOf f angles fixed
+
+  pub numerator-is : (i : ℕ) → numerator f (vector misclosures) i ≡ firstNumerator f angles fixed i
+  unfolding firstNumerator
+  numerator-is i = numerator-ext f (vector misclosures) (misclosure f angles fixed) (λ j h. listed-at (conditionCount f) (misclosure f angles fixed) j h) i
+
+  pub tenths-is : (i : ℕ) → tenthsFrom f misclosures i ≡ firstRounded f angles fixed i
+  unfolding firstRounded
+  tenths-is i = ap (λ (z : ℤ). roundedQuotient z (denominator f)) (numerator-is i)
+
+  abbrev tenths : List ℤ
+  tenths = tenthsOf f misclosures
+
+  rest-is : (j : ℕ) → j < conditionCount f → vector misclosures j +ℤ conditionSum f (vector tenths) j ≡ firstRest f angles fixed j
+  unfolding firstRest
+  rest-is j h =
+      ap₂ _+ℤ_ (listed-at (conditionCount f) (misclosure f angles fixed) j h)
+      (condition-ext f (vector tenths) (firstRounded f angles fixed) (λ i b. listed-at (angleCount f) (tenthsFrom f misclosures) i b ∙ tenths-is i) j h)
+
+  module _ (as-many : length angles ≡ angleCount f) where
+    results-are : resultsOf angles tenths ≡ listed (angleCount f) (corrected f angles fixed)
+    unfolding corrected
+    results-are =
+        listed-after (angleCount f) (tenthsFrom f misclosures) tenths (λ i z. given angles i +ℤ z) refl as-many
+        ∙ listed-ext (angleCount f) _ _ (λ i h. ap (λ (z : ℤ). given angles i +ℤ z) (tenths-is i))
+
+    values-are : firstFrom f angles misclosures ≡ firstValuesOf f angles fixed
+    values-are =
+        let exact : numeratorsFrom f misclosures ≡ numeratorsOf f angles fixed = listed-ext (angleCount f) _ _ (λ i h. numerator-is i) in
+        let rounded : tenths ≡ roundedOf f angles fixed = listed-ext (angleCount f) _ _ (λ i h. tenths-is i) in
+        let rests : restsFrom f misclosures tenths ≡ restsOf f angles fixed = listed-ext (conditionCount f) _ _ rest-is in
+        λ i. firstLent misclosures (exact i) (rounded i)
+        (listed-after (angleCount f) (corrected f angles fixed) (resultsOf angles tenths) (λ k z. natAbs z) results-are as-many i)
+        (rests i)
+
+-- ---- the rows, step by step
+
+module _ (f : Figure) (limit : ℕ) (angles fixed : List ℕ) (entry : FirstLent) where
+  abbrev before : List Row
+  before = givenRows f limit angles fixed (firstSlices angles fixed entry)
+
+  abbrev limitRow : Row
+  limitRow = misclosuresRow (limitOf limit) (misclosuresOf f angles fixed)
+
+  abbrev resultRow : Row
+  resultRow = resultsRow (listed (angleCount f) (corrected f angles fixed))
+
+  -- a row before the work holds
+  pub refused-before : (v : Verdict) (r : Refusal) → v ≡ judged before → v ≡ Failed r → FirstPromiseOf f limit angles fixed entry v entry
+  unfolding firstRows
+  refused-before v r e refused =
+      let answered : v ≡ firstVerdictOf f limit angles fixed entry =
+      refused ∙ sym (judged-after-failure before (limitRow ∷ resultRow ∷ []) r (sym e ∙ refused)) in
+      record { answered = answered; leaves = kept _ _ _ r (sym answered ∙ refused) }
+
+  module _ (passed : judged before ≡ Passed) where
+    entries : Entries f limit angles fixed (firstSlices angles fixed entry)
+    entries = entries-passed f limit angles fixed (firstSlices angles fixed entry) passed
+
+    -- the length of a slice, by its place in the list
+    pub length-at : (k : ℕ) → getD (firstSlices angles fixed entry) k 0 ≡ getD (firstLengths f) k 0
+    length-at k = ap (λ (l : List ℕ). getD l k 0) (entries .lengths)
+
+    pub small-angles : Angles angles
+    small-angles i = lt-of-le-of-lt (entries .angle-most i) (lit< tt)
+
+    pub small-fixed : Angles fixed
+    small-fixed i = lt-of-le-of-lt (entries .fixed-angle-most i) (lit< tt)
+
+    after : firstVerdictOf f limit angles fixed entry ≡ judged (limitRow ∷ resultRow ∷ [])
+    unfolding firstRows
+    after = judged-after-pass before (limitRow ∷ resultRow ∷ []) passed
+
+    -- number 6 holds
+    pub refused-misclosure : (v : Verdict) (r : Refusal) → v ≡ verdictOf limitRow → v ≡ Failed r → FirstPromiseOf f limit angles fixed entry v entry
+    refused-misclosure v r e refused =
+        let answered : v ≡ firstVerdictOf f limit angles fixed entry =
+        refused ∙ sym (after ∙ judged-after-failure (limitRow ∷ []) (resultRow ∷ []) r (answer-of-one (verdictOf limitRow) ∙ sym e ∙ refused)) in
+        record { answered = answered; leaves = kept _ _ _ r (sym answered ∙ refused) }
+
+    module _ (within : verdictOf limitRow ≡ Passed) where
+      one-passed : judged (limitRow ∷ []) ≡ Passed
+      one-passed = answer-of-one (verdictOf limitRow) ∙ within
+
+      pub small-misclosures : Within mostLimit (misclosuresOf f angles fixed)
+      small-misclosures =
+          listed-within (conditionCount f) (misclosure f angles fixed) mostLimit (λ j h. le-trans
+          (range.misclosure-within (conditionCount f) (misclosure f angles fixed) j h (limitOf limit) (none-holds (limitRow ∷ []) one-passed .0))
+          (range.in-force-within 150 mostLimit limit (lit≤ tt) (entries .limit-range)))
+
+      verdict-is : verdictOf (resultsRow (resultsOf angles (tenthsOf f (misclosuresOf f angles fixed)))) ≡ firstVerdictOf f limit angles fixed entry
+      verdict-is =
+          ap (λ (l : List ℤ). verdictOf (resultsRow l)) (results-are f angles fixed (length-at 0))
+          ∙ sym (after ∙ judged-after-pass (limitRow ∷ []) (resultRow ∷ []) one-passed ∙ answer-of-one (verdictOf resultRow))
+
+      -- number 7 decides
+      pub by-results : (w : List ℤ) → w ≡ misclosuresOf f angles fixed → {answer : Verdict} {exit : FirstLent}
+          → StoredIf (verdictOf (resultsRow (resultsOf angles (tenthsOf f w)))) (firstFrom f angles w) entry answer exit
+          → FirstPromiseOf f limit angles fixed entry answer exit
+      by-results w are promise =
+          let verdict = ap (λ (x : List ℤ). verdictOf (resultsRow (resultsOf angles (tenthsOf f x)))) are ∙ verdict-is in
+          let values = ap (firstFrom f angles) are ∙ values-are f angles fixed (length-at 0) in
+          record {
+            answered = promise .answered ∙ verdict;
+            leaves = promise .leaves ∙ ap₂ (λ (v : Verdict) (new : FirstLent). stored v new entry) verdict values;
+          }
+
+-- ---- and of code and n
+
+module _ (given : FirstGiven) (entry : FirstLent) where
+  abbrev rows : Figure → List Row
+  rows f = firstRows f (given .limit) (given .angles) (given .fixed) (firstLengthsLent given entry)
+
+  pub none-named : figureOf (given .code) (given .n) ≡ Nothing → FirstPromise given entry (Failed Refusal.NoSuchFigure) entry
+  unfolding firstPassVerdict firstPassRows
+  none-named e = record {
+    answered = sym (none-judged (given .code) (given .n) rows e);
+    leaves = sym (ap (λ (m : Named). ofNamed m entry (λ f. stored (firstAnswer given entry) (firstValues f given) entry)) e);
+  }
+
+  pub of-figure : (f : Figure) → figureOf (given .code) (given .n) ≡ As f → {answer : Verdict} {exit : FirstLent}
+      → FirstPromiseOf f (given .limit) (given .angles) (given .fixed) entry answer exit → FirstPromise given entry answer exit
+  unfolding firstPassVerdict firstPassRows
+  of-figure f named promise =
+      let verdict = sym (one-judged (given .code) (given .n) rows named) in
+      record {
+        answered = promise .answered ∙ verdict;
+        leaves =
+            promise .leaves
+            ∙ ap₂ (λ (m : Named) (v : Verdict). ofNamed m entry (λ g. stored v (firstValues g given) entry)) (sym named) verdict;
+      }

@@ -1,0 +1,41 @@
+-- `pass_first::first::first_pass` meets its contract: the pass of the figure that is named.
+use mathlib.Core.Path.{sym, _∙_}
+use borrow.Author.Needs.{needs}
+use denote.Ref.{now}
+use Rattle.method.specs.Promises.{FirstGiven, FirstLent, firstGiven, firstLent}
+use Rattle.pass_first.proofs.FirstPromised.{none-named, of-figure}
+use Rattle.pass_first.proofs.first.first_pass.Statement.{statement}
+use Rattle.pass_first.proofs.first.first_pass.Tie as tie
+
+abbrev given : tie.Start → FirstGiven
+given s = firstGiven (s .args .code) (s .args .n) (s .args .limit) (now (s .args .angles)) (now (s .args .fixed))
+
+abbrev entry : tie.Start → FirstLent
+entry s = firstLent (now (s .args .misclosures)) (now (s .args .numerators)) (now (s .args .rounded)) (now (s .args .corrected)) (now (s .args .rests))
+
+returns : tie.Need-returns
+returns c =
+    let s = c .before .before .before .before .before .before in
+    none-named (given s) (entry s) (sym (c .before .before .figure-of .ensures) ∙ c .enum-told .given .1)
+
+returns-2 : tie.Need-returns-2
+returns-2 c =
+    let s = c .before .before .before .before .before .before .before .before .before .before .before .before .before .before .before .before .before .before .before in
+    let named = c .before .before .before .before .before .before .before .before .before .before .before .before .before in
+    of-figure (given s) (entry s) _ (sym (named .before .before .figure-of .ensures) ∙ named .f .given .1) (c .before .before .before .before .before .before .first-pass-of .ensures)
+
+pub first-pass-spec : {M : Type 1} → statement M
+first-pass-spec =
+    tie.close
+    (tie.spec
+    (λ c κs. search needs)
+    (λ c. search needs)
+    (λ c. search needs)
+    returns
+    (λ c κs. search needs)
+    (λ c. search needs)
+    (λ c. search needs)
+    (λ c. search needs)
+    (λ c. search needs)
+    (λ c. search needs)
+    returns-2)

@@ -1,0 +1,166 @@
+-- `pass_first::first::first_pass_of` meets its contract: each row in its order, and a refusal before any store.
+use mathlib.Core.Path.{_≡_, sym, _∙_}
+use mathlib.Core.List.{List, [], _∷_, _++_}
+use Prim.Native.Nat.{ℕ, _≤_}
+use native.Mathlib.Omega.{arith}
+use borrow.Author.Needs.{needs}
+use denote.Ref.{now}
+use lib.IntN.{ℤ, pos}
+use lib.ListN.{length, take, drop, replicate}
+use Rattle.refusals.specs.declared.Verdict.the-variants.{Passed}
+use Rattle.refusals.specs.declared.Verdict.{Verdict}
+use Rattle.refusals.specs.Order.{verdictOf, judged}
+use Rattle.refusals.specs.Table.{misclosuresRow}
+use Rattle.figures.specs.Figure.{conditionCount}
+use Rattle.figures.proofs.Figures.{condition-bound}
+use Rattle.method.specs.FirstPass.{limitOf, givenRows, misclosuresOf, firstResultLengths}
+use Rattle.method.specs.Promises.{FirstLent, firstLent, firstResultsLent, firstSlices}
+use Rattle.pass_first.proofs.FirstPromised.{refused-before, length-at, small-angles, small-fixed, refused-misclosure, small-misclosures, by-results}
+use Rattle.pass_steps.proofs.Lending.{lent-length, part-again, still-few, again-length}
+use Rattle.pass_first.proofs.first.first_pass_of.Statement.{statement}
+use Rattle.pass_first.proofs.first.first_pass_of.Tie as tie
+
+abbrev entry : tie.Start → FirstLent
+entry s = firstLent (now (s .args .misclosures)) (now (s .args .numerators)) (now (s .args .rounded)) (now (s .args .corrected)) (now (s .args .rests))
+
+returns : tie.Need-returns
+returns c =
+    let s = c .before .before .before .before .before .before in
+    refused-before (s .args .f) (s .args .limit) (now (s .args .angles)) (now (s .args .fixed)) (entry s)
+    (c .before .before .first-given-verdict .result) _ (c .before .before .first-given-verdict .ensures) (c .enum-told .given .1)
+
+-- ---- the rows before the work have passed
+
+module _ (t : tie.After-enum-told2) where
+  abbrev start : tie.Start
+  start = t .before .before .before .before .before .before
+
+  passed : judged (givenRows (start .args .f) (start .args .limit) (now (start .args .angles)) (now (start .args .fixed))
+      (firstSlices (now (start .args .angles)) (now (start .args .fixed)) (entry start))) ≡ Passed
+  passed = sym (t .before .before .first-given-verdict .ensures) ∙ t .enum-told2 .given .1
+
+  -- the length of a slice, by its place in the list
+  abbrev m : ℕ
+  m = length (now (start .args .misclosures))
+
+  conditions : m ≡ conditionCount (start .args .f)
+  conditions = length-at (start .args .f) (start .args .limit) (now (start .args .angles)) (now (start .args .fixed)) (entry start) passed 2
+
+  few : m ≤ 9
+  few = omega (arith, conditions, condition-bound (start .args .f))
+
+  lent : m ≡ length (take m (replicate 9 (pos 0)))
+  lent = lent-length m (replicate 9 (pos 0)) few
+
+misclosures-into-requires : tie.Need-misclosures-into-requires
+misclosures-into-requires c κs =
+    let t = c .before in
+    let s = start t in
+    let at = length-at (s .args .f) (s .args .limit) (now (s .args .angles)) (now (s .args .fixed)) (entry s) (passed t) in (
+      at 0,
+      (
+        at 1,
+        (
+          sym (lent t) ∙ conditions t,
+          (
+            small-angles (s .args .f) (s .args .limit) (now (s .args .angles)) (now (s .args .fixed)) (entry s) (passed t),
+            small-fixed (s .args .f) (s .args .limit) (now (s .args .angles)) (now (s .args .fixed)) (entry s) (passed t),
+          ),
+        ),
+      ),
+    )
+
+-- ---- the misclosures, where they were lent
+
+module _ (k : tie.After-misclosures-into) where
+  abbrev told : tie.After-enum-told2
+  told = k .before .before
+
+  abbrev part : List ℤ
+  part = k .misclosures-into .last .1 .1 .1 .0
+
+  kept : length part ≡ length (take (m told) (replicate 9 (pos 0)))
+  kept = k .misclosures-into .kept .1 .1 .1 .0
+
+  abbrev again : List ℤ
+  again = take (m told) (part ++ drop (m told) (replicate 9 (pos 0)))
+
+  share : m told ≤ length (part ++ drop (m told) (replicate 9 (pos 0)))
+  share = still-few (m told) (replicate 9 (pos 0)) (few told) part kept
+
+  aggregate : m told ≡ length again
+  aggregate = again-length (m told) (replicate 9 (pos 0)) (few told) part kept
+
+  are : again ≡ misclosuresOf (start told .args .f) (now (start told .args .angles)) (now (start told .args .fixed))
+  are = part-again (m told) (replicate 9 (pos 0)) (few told) part kept ∙ k .misclosures-into .ensures
+
+  asked : (v : Verdict) (limit : ℕ) → v ≡ verdictOf (misclosuresRow limit again) → limit ≡ limitOf (start told .args .limit)
+      → v ≡ verdictOf (misclosuresRow (limitOf (start told .args .limit)) (misclosuresOf (start told .args .f) (now (start told .args .angles)) (now (start told .args .fixed))))
+  asked v limit e in-force = e ∙ λ i. verdictOf (misclosuresRow (in-force i) (are i))
+
+returns-2 : tie.Need-returns-2
+returns-2 c =
+    let k = c .before .before .before .before .before .before in
+    let t = told k in
+    let s = start t in
+    let v = c .before .before in
+    refused-misclosure (s .args .f) (s .args .limit) (now (s .args .angles)) (now (s .args .fixed)) (entry s) (passed t)
+    (v .misclosures-verdict .result) _ (asked k _ _ (v .misclosures-verdict .ensures) (v .before .limit-in-force .ensures)) (c .enum-told3 .given .1)
+
+-- number 6 has passed
+within : (c : tie.After-enum-told4) → (let k = c .before .before .before .before .before .before in let s = start (told k) in
+    verdictOf (misclosuresRow (limitOf (s .args .limit)) (misclosuresOf (s .args .f) (now (s .args .angles)) (now (s .args .fixed)))) ≡ Passed)
+within c =
+    let v = c .before .before in
+    sym (asked (c .before .before .before .before .before .before) _ _ (v .misclosures-verdict .ensures) (v .before .limit-in-force .ensures)) ∙ c .enum-told4 .given .1
+
+first-corrected-requires : tie.Need-first-corrected-requires
+first-corrected-requires c κs =
+    let k = c .before .before .before .before .before .before .before .before .before .before .before .before in
+    let t = told k in
+    let s = start t in
+    let at = length-at (s .args .f) (s .args .limit) (now (s .args .angles)) (now (s .args .fixed)) (entry s) (passed t) in
+    let small = small-misclosures (s .args .f) (s .args .limit) (now (s .args .angles)) (now (s .args .fixed)) (entry s) (passed t) (within (c .before .before .before .before .before .before)) in
+    let lengths : firstResultsLent (entry s) ≡ firstResultLengths (s .args .f) = λ i. at 2 i ∷ at 3 i ∷ at 4 i ∷ at 5 i ∷ at 6 i ∷ [] in (
+      at 0,
+      (
+        sym (aggregate k) ∙ conditions t,
+        (lengths, λ i. rw (are k) (small i)),
+      ),
+    )
+
+returns-3 : tie.Need-returns-3
+returns-3 c =
+    let k = c .before .before .before .before .before .before .before .before .before .before .before .before .before .before .before .before .before .before .before in
+    let t = told k in
+    let s = start t in
+    by-results (s .args .f) (s .args .limit) (now (s .args .angles)) (now (s .args .fixed)) (entry s) (passed t) (within (c .before .before .before .before .before .before .before .before .before .before .before .before .before))
+    (again k) (are k) (c .before .before .before .before .before .before .first-corrected .ensures)
+
+pub first-pass-of-spec : {M : Type 1} → statement M
+first-pass-of-spec =
+    tie.close
+    (tie.spec
+    (λ c κs. search needs)
+    (λ c. search needs)
+    returns
+    (λ c. search needs)
+    (λ c. few c)
+    (λ c. lent (c .before))
+    misclosures-into-requires
+    (λ c. share (c .before))
+    (λ c. aggregate (c .before .before))
+    (λ c κs. search needs)
+    (λ c κs. search needs)
+    (λ c. search needs)
+    returns-2
+    (λ c. search needs)
+    (λ c. share (c .before .before .before .before .before .before))
+    (λ c. aggregate (c .before .before .before .before .before .before .before))
+    first-corrected-requires
+    (λ c. search needs)
+    (λ c. search needs)
+    (λ c. search needs)
+    (λ c. search needs)
+    (λ c. search needs)
+    returns-3)

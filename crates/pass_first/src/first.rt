@@ -1,0 +1,91 @@
+// The first pass over lent slices: document 01, "The two passes".
+ghost use Rattle.method.specs.Promises.{firstGiven, firstLent, FirstPromise, FirstPromiseOf};
+use crate::corrections::first_corrected;
+use crate::misclosures::misclosures_into;
+use figures::Figure;
+use figures::MOST_CONDITIONS;
+use figures::Named;
+use judging::misclosures_verdict;
+use refusals::Refusal;
+use refusals::Verdict;
+
+// The first pass of the figure that code and n name. Done, everything lent is as defined; refused, everything lent is as it was.
+pub fn first_pass(
+    code: u32,
+    n: u32,
+    limit: u32,
+    angles: &[u32],
+    fixed: &[u32],
+    misclosures: &mut [i32],
+    numerators: &mut [i32],
+    rounded: &mut [i32],
+    corrected: &mut [u32],
+    rests: &mut [i32],
+) -> Verdict
+    ensures { λ answer. ⌜ FirstPromise (firstGiven code n limit (now (angles .entry)) (now (fixed .entry)))
+        (firstLent (now (misclosures .entry)) (now (numerators .entry)) (now (rounded .entry))
+        (now (corrected .entry)) (now (rests .entry))) answer
+        (firstLent (now (misclosures .exit)) (now (numerators .exit)) (now (rounded .exit)) (now (corrected .exit)) (now (rests .exit))) ⌝ }
+{
+    let Named::As(f) = figures::figure_of(code, n) else {
+        return Verdict::Failed(Refusal::NoSuchFigure);
+    };
+    first_pass_of(
+        f,
+        limit,
+        angles,
+        fixed,
+        misclosures,
+        numerators,
+        rounded,
+        corrected,
+        rests,
+    )
+}
+
+// The same of a figure that is named already.
+pub fn first_pass_of(
+    f: Figure,
+    limit: u32,
+    angles: &[u32],
+    fixed: &[u32],
+    misclosures: &mut [i32],
+    numerators: &mut [i32],
+    rounded: &mut [i32],
+    corrected: &mut [u32],
+    rests: &mut [i32],
+) -> Verdict
+    ensures { λ answer. ⌜ FirstPromiseOf f limit (now (angles .entry)) (now (fixed .entry))
+        (firstLent (now (misclosures .entry)) (now (numerators .entry)) (now (rounded .entry))
+        (now (corrected .entry)) (now (rests .entry))) answer
+        (firstLent (now (misclosures .exit)) (now (numerators .exit)) (now (rounded .exit)) (now (corrected .exit)) (now (rests .exit))) ⌝ }
+{
+    let results = [
+        misclosures.len(),
+        numerators.len(),
+        rounded.len(),
+        corrected.len(),
+        rests.len(),
+    ];
+    let before = method::first_given_verdict(f, limit, angles, fixed, results);
+    if let Verdict::Failed(_) = before {
+        return before;
+    }
+    let m = misclosures.len();
+    let mut w = [0i32; MOST_CONDITIONS];
+    misclosures_into(f, angles, fixed, &mut w[..m]);
+    let beyond = misclosures_verdict(&w[..m], method::limit_in_force(limit));
+    if let Verdict::Failed(_) = beyond {
+        return beyond;
+    }
+    first_corrected(
+        f,
+        angles,
+        &w[..m],
+        misclosures,
+        numerators,
+        rounded,
+        corrected,
+        rests,
+    )
+}

@@ -1,0 +1,214 @@
+-- `pass_second::corrections::second_corrected` meets its contract: number 7 is asked of the results, and everything is stored where it passes.
+use mathlib.Core.Path.{_≡_, sym, ap, ap₂, _∙_}
+use mathlib.Core.List.{List, [], _∷_, _++_}
+use Prim.Native.Nat.{ℕ, _≤_}
+use native.Mathlib.Omega.{arith}
+use borrow.Author.Needs.{needs}
+use denote.Ref.{now}
+use lib.IntN.{ℤ, pos}
+use lib.ListN.{length, getD, take, drop, replicate}
+use mir.Syntax.{w64}
+use mir.Val.{toZ, ofZ}
+use mir.ValLaws.{toZ-ofZ}
+use Rattle.whole.specs.Lists.{listed}
+use Rattle.whole.specs.Sums.{vector}
+use Rattle.refusals.specs.declared.Verdict.{Verdict}
+use Rattle.refusals.specs.declared.Verdict.the-variants.{Passed}
+use Rattle.refusals.specs.Order.{verdictOf, judged}
+use Rattle.refusals.specs.Table.{lengthsRow, resultsRow}
+use Rattle.judging.specs.Searches.{resultsOf}
+use Rattle.figures.specs.Figure.{angleCount, conditionCount}
+use Rattle.figures.specs.Numerators.{conditionSum}
+use Rattle.figures.proofs.Figures.{angle-bound}
+use Rattle.method.specs.SecondPass.{secondResultLengths}
+use Rattle.method.specs.Promises.{secondLent, secondResultsLent}
+use Rattle.pass_steps.specs.Steps.{resultsRows, resultsFrom}
+use Rattle.pass_steps.proofs.Judged.{lengths-pass, first-passes, kept, written, taken}
+use Rattle.pass_steps.proofs.Lending.{lent-length, part-again, still-few, again-length}
+use Rattle.pass_steps.proofs.StepLaws.{length-of}
+use Rattle.pass_second.specs.Steps.{exactFrom, secondTenthsOf, secondFrom}
+use Rattle.pass_second.proofs.SecondSteps.{tenths-summed}
+use Rattle.pass_second.proofs.corrections.second_corrected.Statement.{statement}
+use Rattle.pass_second.proofs.corrections.second_corrected.Tie as tie
+
+few : (s : tie.Start) → length (now (s .args .angles)) ≤ 24
+few s = omega (arith, s .pre .0, angle-bound (s .args .f))
+
+lent : (s : tie.Start) → length (now (s .args .angles)) ≡ length (take (length (now (s .args .angles))) (replicate 24 (pos 0)))
+lent s = lent-length _ (replicate 24 (pos 0)) (few s)
+
+-- the slices for the results, by their places in the list of lengths
+room : (s : tie.Start) (k : ℕ)
+    → getD (secondResultsLent (secondLent (now (s .args .reduced)) (now (s .args .numerators)) (now (s .args .rounded)) (now (s .args .adjusted)) (now (s .args .rests)))) k 0
+    ≡ getD (secondResultLengths (s .args .f)) k 0
+room s k = ap (λ (l : List ℕ). getD l k 0) (s .pre .1 .1 .0)
+
+-- W and S, read back from their bits
+module _ (s : tie.Start) where
+  w-is : toZ w64 (ofZ w64 (s .args .misclosure)) ≡ s .args .misclosure
+  w-is = toZ-ofZ w64 (s .args .misclosure) (s .fits .misclosure)
+
+  s-is : toZ w64 (ofZ w64 (s .args .squares)) ≡ s .args .squares
+  s-is = toZ-ofZ w64 (s .args .squares) (s .fits .squares)
+
+corrections-into-requires : tie.Need-corrections-into-requires
+corrections-into-requires c κs =
+    let s = c .before .before .before .before in
+    let n = sym (lent s) ∙ s .pre .0 in
+    let pre = s .pre in
+    (pre .1 .0, (n, (n, (rw (w-is s) (pre .1 .1 .1 .1 .0), (pre .1 .1 .1 .1 .1 .0, λ i. rw (w-is s, s-is s) (pre .1 .1 .1 .1 .1 .1 i))))))
+
+-- what the corrections left, each at the start of its array
+module _ (c : tie.After-corrections-into) where
+  abbrev start : tie.Start
+  start = c .before .before .before .before .before
+
+  abbrev n : ℕ
+  n = length (now (start .args .angles))
+
+  abbrev again : (part : List ℤ) → List ℤ
+  again part = take n (part ++ drop n (replicate 24 (pos 0)))
+
+  module _ (part : List ℤ) (kept : length part ≡ length (take n (replicate 24 (pos 0)))) where
+    pub share : n ≤ length (part ++ drop n (replicate 24 (pos 0)))
+    share = still-few n (replicate 24 (pos 0)) (few start) part kept
+
+    pub aggregate : n ≡ length (again part)
+    aggregate = again-length n (replicate 24 (pos 0)) (few start) part kept
+
+    pub is-part : again part ≡ part
+    is-part = part-again n (replicate 24 (pos 0)) (few start) part kept
+
+  abbrev exactPart : List ℤ
+  exactPart = c .corrections-into .last .1 .1 .1 .1 .0
+
+  exact-kept : length exactPart ≡ length (take n (replicate 24 (pos 0)))
+  exact-kept = c .corrections-into .kept .1 .1 .1 .1 .0
+
+  abbrev tenthsPart : List ℤ
+  tenthsPart = c .corrections-into .last .1 .1 .1 .1 .1 .0
+
+  tenths-kept : length tenthsPart ≡ length (take n (replicate 24 (pos 0)))
+  tenths-kept = c .corrections-into .kept .1 .1 .1 .1 .1 .0
+
+  abbrev given : ℕ → ℤ
+  given = exactFrom (start .args .f) (start .args .misclosure) (now (start .args .a))
+
+  abbrev rounded : List ℤ
+  rounded = secondTenthsOf (start .args .f) (start .args .misclosure) (start .args .squares) (now (start .args .a))
+
+  exact : again exactPart ≡ listed (angleCount (start .args .f)) given
+  exact =
+      is-part exactPart exact-kept ∙ c .corrections-into .ensures .0
+      ∙ ap (λ (z : ℤ). listed (angleCount (start .args .f)) (exactFrom (start .args .f) z (now (start .args .a)))) (w-is start)
+
+  tenths : again tenthsPart ≡ rounded
+  tenths =
+      is-part tenthsPart tenths-kept ∙ c .corrections-into .ensures .1
+      ∙ ap₂ (λ (z y : ℤ). secondTenthsOf (start .args .f) z y (now (start .args .a))) (w-is start) (s-is start)
+
+  abbrev verdict : Verdict
+  verdict = verdictOf (resultsRow (resultsOf (now (start .args .angles)) rounded))
+
+  -- the lengths are right, so that number 7 decides
+  decided : judged (resultsRows (now (start .args .angles)) (again tenthsPart) (length (now (start .args .adjusted)))) ≡ verdict
+  decided =
+      let own = n ∷ n ∷ [] in
+      let same : length (again tenthsPart) ∷ length (now (start .args .adjusted)) ∷ [] ≡ own =
+      λ i. sym (aggregate tenthsPart tenths-kept) i ∷ (room start 3 ∙ sym (start .pre .0)) i ∷ [] in
+      first-passes (lengthsRow (length (again tenthsPart) ∷ length (now (start .args .adjusted)) ∷ []) own) (resultsRow (resultsOf (now (start .args .angles)) (again tenthsPart)))
+      (lengths-pass _ own same)
+      ∙ ap (λ (l : List ℤ). verdictOf (resultsRow (resultsOf (now (start .args .angles)) l))) tenths
+
+store-second-requires : tie.Need-store-second-requires
+store-second-requires c κs =
+    let told = c .before .before .before .before .before .before in
+    let asked = told .before .before .before .before in
+    let k = asked .before .before .before .before .before in
+    let s = start k in
+    let passed = sym (asked .results-into .ensures .answered ∙ decided k) ∙ told .enum-told .given .1 in (
+      s .pre .1 .0,
+      (
+        length-of _ _ (exact k),
+        (
+          length-of _ _ (tenths k),
+          (
+            room s 0,
+            (
+              room s 1,
+              (
+                room s 2,
+                (
+                  room s 4,
+                  λ i. rw (tenths k) (tenths-summed (s .args .f) (now (s .args .angles)) (s .args .misclosure) (s .args .squares) (now (s .args .a)) (s .pre .0) (s .pre .1 .1 .1 .0) passed i),
+                ),
+              ),
+            ),
+          ),
+        ),
+      ),
+    )
+
+returns : tie.Need-returns
+returns c =
+    let told = c .before .before .before .before .before .before .before .before .before .before .before in
+    let asked = told .before .before .before .before in
+    let k = asked .before .before .before .before .before in
+    let s = start k in
+    let f = s .args .f in
+    let held = c .before .before .before .before .store-second .ensures in
+    let answered = asked .results-into .ensures .answered ∙ decided k in
+    let passed = sym answered ∙ told .enum-told .given .1 in
+    let numerators = held .numerators-are ∙ exact k in
+    let tenth = held .rounded-are ∙ tenths k in
+    let adjusted = asked .results-into .ensures .leaves ∙ taken _ _ _ (decided k ∙ passed) ∙ ap (resultsFrom (now (s .args .angles))) (tenths k) in
+    let rests = held .rests-are ∙ ap (λ (l : List ℤ). listed (conditionCount f) (conditionSum f (vector l))) (tenths k) in
+    record {
+      answered = answered;
+      leaves =
+          written (verdict k) (secondFrom f (now (s .args .angles)) (s .args .misclosure) (s .args .squares) (now (s .args .a))) _ passed
+          (λ i. secondLent (held .reduced-are i) (numerators i) (tenth i) (adjusted i) (rests i));
+    }
+
+returns-2 : tie.Need-returns-2
+returns-2 c =
+    let asked = c .before .before .before .before in
+    let k = asked .before .before .before .before .before in
+    let s = start k in
+    let answered = asked .results-into .ensures .answered ∙ decided k in
+    let failed = sym answered ∙ c .enum-told2 .given .1 in
+    let untouched = asked .results-into .ensures .leaves ∙ sym (kept _ _ _ _ (decided k ∙ failed)) in
+    record {
+      answered = answered;
+      leaves =
+          (λ i. secondLent (now (s .args .reduced)) (now (s .args .numerators)) (now (s .args .rounded)) (untouched i) (now (s .args .rests)))
+          ∙ kept (verdict k) (secondFrom (s .args .f) (now (s .args .angles)) (s .args .misclosure) (s .args .squares) (now (s .args .a))) _ _ failed;
+    }
+
+pub second-corrected-spec : {M : Type 1} → statement M
+second-corrected-spec =
+    tie.close
+    (tie.spec
+    (λ c. few (c .before .before))
+    (λ c. lent (c .before .before .before))
+    (λ c. few (c .before .before .before))
+    (λ c. lent (c .before .before .before .before))
+    corrections-into-requires
+    (λ c. let k = c .before .before in share k (tenthsPart k) (tenths-kept k))
+    (λ c. let k = c .before .before .before in aggregate k (tenthsPart k) (tenths-kept k))
+    (λ c κs. tt)
+    (λ c. search needs)
+    (λ c. let k = c .before .before .before .before .before .before .before .before .before in share k (exactPart k) (exact-kept k))
+    (λ c. let k = c .before .before .before .before .before .before .before .before .before .before in aggregate k (exactPart k) (exact-kept k))
+    (λ c. let k = c .before .before .before .before .before .before .before .before .before .before in share k (tenthsPart k) (tenths-kept k))
+    (λ c. let k = c .before .before .before .before .before .before .before .before .before .before .before in aggregate k (tenthsPart k) (tenths-kept k))
+    store-second-requires
+    (λ c. search needs)
+    (λ c. search needs)
+    (λ c. search needs)
+    (λ c. search needs)
+    (λ c. search needs)
+    (λ c. search needs)
+    returns
+    (λ c. search needs)
+    returns-2)

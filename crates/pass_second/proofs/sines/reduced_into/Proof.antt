@@ -1,0 +1,149 @@
+-- `pass_second::sines::reduced_into` meets its contract: what is taken are the numerators for the conditions' sums of d.
+use mathlib.Core.Path.{_≡_, refl, sym, ap, _∙_}
+use mathlib.Core.List.{List, _++_}
+use Prim.Native.Nat.{ℕ, _≤_}
+use native.Mathlib.Nat.{le-trans}
+use native.Mathlib.Omega.{arith}
+use borrow.Author.Needs.{needs}
+use denote.Ref.{now}
+use lib.Dec.{lit≤}
+use lib.IntN.{ℤ, pos, natAbs}
+use lib.ListN.{length, take, drop, replicate}
+use mir.Syntax.{w64}
+use mir.ValLaws.{toZ-ofZ}
+use Rattle.whole.specs.Lists.{listed}
+use Rattle.whole.specs.Sums.{vector}
+use Rattle.refusals.specs.Ranges.{mostDifference}
+use Rattle.figures.specs.declared.Counts.{Counts}
+use Rattle.figures.specs.declared.Figure.{Figure}
+use Rattle.figures.specs.Figure.{denominator, angleCount, conditionCount}
+use Rattle.figures.specs.Numerators.{conditionSum, numerator}
+use Rattle.figures.proofs.Figures.{angle-bound, condition-bound}
+use Rattle.pass_steps.specs.Premises.{Within, mostApplied, mostTaken}
+use Rattle.pass_steps.proofs.Fitting.{fits}
+use Rattle.pass_steps.proofs.Held.{sums-are}
+use Rattle.pass_steps.proofs.Judged as Judged
+use Rattle.pass_steps.proofs.Judged.{misclosures-pass}
+use Rattle.pass_steps.proofs.Lending.{lent-length, part-again, still-few, again-length}
+use Rattle.pass_steps.proofs.StepLaws.{listed-within}
+use Rattle.pass_second.proofs.SineBounds.{denominator-bound, sums-magnitude, taken-magnitude}
+use Rattle.pass_second.proofs.SineSteps.{taken-are, reduced-are, squares-are}
+use Rattle.pass_second.proofs.sines.reduced_into.Statement.{statement}
+use Rattle.pass_second.proofs.sines.reduced_into.Tie as tie
+
+module _ (c : tie.After-counts-of) where
+  abbrev m : ℕ
+  m = c .counts-of .result .conditions
+
+  conditions : m ≡ conditionCount (c .before .args .f)
+  conditions = ap (λ (n : Counts). n .conditions) (c .counts-of .ensures)
+
+  few-conditions : m ≤ 9
+  few-conditions = rw conditions (condition-bound (c .before .args .f))
+
+-- the sums, where they were lent
+module _ (c : tie.After-condition-sums) where
+  abbrev counted : tie.After-counts-of
+  counted = c .before .before
+
+  abbrev f : Figure
+  f = counted .before .args .f
+
+  abbrev d : List ℤ
+  d = now (counted .before .args .d)
+
+  abbrev sums : List ℤ
+  sums = take (m counted) (c .condition-sums .last .1 .1 .0 ++ drop (m counted) (replicate 9 (pos 0)))
+
+  sums-again : sums ≡ listed (conditionCount f) (conditionSum f (vector d))
+  sums-again =
+      part-again (m counted) (replicate 9 (pos 0)) (few-conditions counted) (c .condition-sums .last .1 .1 .0) (c .condition-sums .kept .1 .1 .0)
+      ∙ sums-are f d (λ i. le-trans (counted .before .pre .1 .1 i) (lit≤ tt)) d (take (m counted) (replicate 9 (pos 0))) refl (counted .before .pre .0)
+      (sym (lent-length (m counted) (replicate 9 (pos 0)) (few-conditions counted)) ∙ conditions counted) (c .condition-sums .ensures)
+
+  sums-length : m counted ≡ length sums
+  sums-length = again-length (m counted) (replicate 9 (pos 0)) (few-conditions counted) (c .condition-sums .last .1 .1 .0) (c .condition-sums .kept .1 .1 .0)
+
+  few-angles : length d ≤ 24
+  few-angles = omega (arith, counted .before .pre .0, angle-bound f)
+
+  entry : (i : ℕ) → natAbs (vector d i) ≤ mostDifference
+  entry = counted .before .pre .1 .1
+
+-- and what is taken
+module _ (c : tie.After-numerators-into) where
+  abbrev summed : tie.After-condition-sums
+  summed = c .before .before .before .before
+
+  abbrev taken : List ℤ
+  taken = take (length (d summed)) (c .numerators-into .last .1 .1 .0 ++ drop (length (d summed)) (replicate 24 (pos 0)))
+
+  small : Within mostApplied (sums summed)
+  small j =
+      rw (sums-again summed) (listed-within (conditionCount (f summed)) (conditionSum (f summed) (vector (d summed))) mostApplied
+      (λ j b. le-trans (sums-magnitude (f summed) (vector (d summed)) (entry summed) j) (lit≤ tt)) j)
+
+  taken-again : taken ≡ listed (angleCount (f summed)) (numerator (f summed) (conditionSum (f summed) (vector (d summed))))
+  taken-again =
+      part-again (length (d summed)) (replicate 24 (pos 0)) (few-angles summed) (c .numerators-into .last .1 .1 .0) (c .numerators-into .kept .1 .1 .0)
+      ∙ taken-are (f summed) (d summed) (sums-again summed)
+      (c .numerators-into .ensures
+      ∙ fits _ _ _ _ _ _ (sym (sums-length summed) ∙ conditions (counted summed))
+      (sym (lent-length (length (d summed)) (replicate 24 (pos 0)) (few-angles summed)) ∙ counted summed .before .pre .0)
+      ∙ Judged.taken _ _ _ (misclosures-pass mostApplied (sums summed) small))
+
+  taken-length : length (d summed) ≡ length taken
+  taken-length = again-length (length (d summed)) (replicate 24 (pos 0)) (few-angles summed) (c .numerators-into .last .1 .1 .0) (c .numerators-into .kept .1 .1 .0)
+
+  whole : counted summed .counts-of .result .denominator ≡ denominator (f summed)
+  whole = ap (λ (n : Counts). n .denominator) (counted summed .counts-of .ensures)
+
+reduced-from-requires : tie.Need-reduced-from-requires
+reduced-from-requires c κs =
+    let t = c .before .before .before in
+    let s = summed t in
+    let start = counted s .before in (
+      sym (taken-length t),
+      (
+        start .pre .1 .0 ∙ sym (start .pre .0),
+        (
+          few-angles s,
+          (
+            rw (whole t) (denominator-bound (f s)),
+            (
+              entry s,
+              λ i. rw (taken-again t) (listed-within (angleCount (f s)) (numerator (f s) (conditionSum (f s) (vector (d s)))) mostTaken
+                  (λ i b. taken-magnitude (f s) (vector (d s)) (entry s) i) i),
+            ),
+          ),
+        ),
+      ),
+    )
+
+returns : tie.Need-returns
+returns c =
+    let t = c .before .before .before .before .before in
+    let s = summed t in
+    let n = counted s .before .pre .0 in (
+      toZ-ofZ w64 _ (record { sfits = c .before .reduced-from .ok }) ∙ c .before .reduced-from .ensures .0 ∙ squares-are (f s) (d s) _ (taken t) (whole t) n (taken-again t),
+      c .before .reduced-from .ensures .1 ∙ reduced-are (f s) (d s) _ (taken t) (whole t) n (taken-again t),
+    )
+
+pub reduced-into-spec : {M : Type 1} → statement M
+reduced-into-spec =
+    tie.close
+    (tie.spec
+    (λ c κs. search needs)
+    few-conditions
+    (λ c. lent-length (m (c .before)) (replicate 9 (pos 0)) (few-conditions (c .before)))
+    (λ c κs. tt)
+    (λ c. let s = c .before in still-few (m (counted s)) (replicate 9 (pos 0)) (few-conditions (counted s)) (s .condition-sums .last .1 .1 .0) (s .condition-sums .kept .1 .1 .0))
+    (λ c. sums-length (c .before .before))
+    (λ c. few-angles (c .before .before))
+    (λ c. lent-length (length (d (c .before .before .before))) (replicate 24 (pos 0)) (few-angles (c .before .before .before)))
+    (λ c κs. tt)
+    (λ c. let t = c .before in still-few (length (d (summed t))) (replicate 24 (pos 0)) (few-angles (summed t)) (t .numerators-into .last .1 .1 .0) (t .numerators-into .kept .1 .1 .0))
+    (λ c. taken-length (c .before .before))
+    reduced-from-requires
+    (λ c. search needs)
+    returns)

@@ -1,0 +1,29 @@
+-- What a step gives where what is lent to it fits, and leaves where it does not. Assumes nothing.
+use mathlib.Core.Bool.{Bool, cond}
+use mathlib.Core.List.{List}
+use mathlib.Core.Path.{_≡_, sym, ap, _∙_}
+use Prim.Native.Nat.{ℕ}
+use borrow.Author.Tests.{eq-eqb, ne-eqb}
+use lib.Dec.{eqb}
+use lib.IntN.{ℤ}
+use lib.ListN.{length}
+use Rattle.pass_steps.specs.Steps.{fitting, sameLength}
+
+module _ {A : Type 0} (given asked lent own : ℕ) (new entry : List A) where
+  pub fits : given ≡ asked → lent ≡ own → fitting given asked lent own new entry ≡ new
+  fits e g =
+      ap (λ (b : Bool). cond b (cond (eqb lent own) new entry) entry) (eq-eqb given asked e) ∙ ap (λ (b : Bool). cond b new entry) (eq-eqb lent own g)
+
+  pub first-unfit : (given ≡ asked → ⊥) → entry ≡ fitting given asked lent own new entry
+  first-unfit n = sym (ap (λ (b : Bool). cond b (cond (eqb lent own) new entry) entry) (ne-eqb given asked n))
+
+  pub second-unfit : given ≡ asked → (lent ≡ own → ⊥) → entry ≡ fitting given asked lent own new entry
+  second-unfit e n =
+      sym (ap (λ (b : Bool). cond b (cond (eqb lent own) new entry) entry) (eq-eqb given asked e) ∙ ap (λ (b : Bool). cond b new entry) (ne-eqb lent own n))
+
+module _ (new entry : List ℤ) where
+  pub copied : length new ≡ length entry → sameLength new entry ≡ new
+  copied e = ap (λ (b : Bool). cond b new entry) (eq-eqb (length new) (length entry) e)
+
+  pub not-copied : (length new ≡ length entry → ⊥) → entry ≡ sameLength new entry
+  not-copied n = sym (ap (λ (b : Bool). cond b new entry) (ne-eqb (length new) (length entry) n))

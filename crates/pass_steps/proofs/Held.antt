@@ -1,0 +1,42 @@
+-- What is held of a number, and that every sum over a condition of small numbers is. Assumes nothing.
+use mathlib.Core.Bool.{Bool, cond}
+use mathlib.Core.List.{List}
+use mathlib.Core.Path.{_≡_, sym, ap, _∙_}
+use Prim.Native.Nat.{ℕ, _≤_, _<_}
+use native.Mathlib.Nat.{le-trans}
+use borrow.Author.Tests.{lt-ltb, le-ltb}
+use lib.Dec.{lit≤}
+use lib.IntN.{ℤ, pos, natAbs}
+use lib.ListN.{length}
+use Rattle.whole.specs.Lists.{listed}
+use Rattle.whole.specs.Sums.{vector}
+use Rattle.whole.proofs.Lists.{listed-ext}
+use Rattle.figures.specs.declared.Figure.{Figure}
+use Rattle.figures.specs.Figure.{angleCount, conditionCount}
+use Rattle.figures.specs.Numerators.{conditionSum}
+use Rattle.pass_steps.specs.Premises.{Within, mostSummed, mostTotal}
+use Rattle.pass_steps.specs.Steps.{fitting, held, mostHeld, sumsOf}
+use Rattle.pass_steps.proofs.Bounds.{condition-magnitude}
+use Rattle.pass_steps.proofs.Fitting.{fits}
+use Rattle.pass_steps.proofs.StepLaws.{listed-within}
+
+pub not-held : (z : ℤ) → mostHeld < natAbs z → pos 0 ≡ held z
+unfolding held
+not-held z h = sym (ap (λ (b : Bool). cond b (pos 0) z) (lt-ltb mostHeld (natAbs z) h))
+
+pub is-held : (z : ℤ) → natAbs z ≤ mostHeld → z ≡ held z
+unfolding held
+is-held z h = sym (ap (λ (b : Bool). cond b (pos 0) z) (le-ltb mostHeld (natAbs z) h))
+
+module _ (f : Figure) (x : List ℤ) (small : Within mostSummed x) where
+  total : (j : ℕ) → natAbs (conditionSum f (vector x) j) ≤ mostTotal
+  total = condition-magnitude f (vector x) mostSummed small
+
+  pub totals-within : Within mostTotal (listed (conditionCount f) (conditionSum f (vector x)))
+  totals-within = listed-within (conditionCount f) (conditionSum f (vector x)) mostTotal (λ j h. total j)
+
+  pub sums-are : (lent entry : List ℤ) {exit : List ℤ} → lent ≡ x → length lent ≡ angleCount f → length entry ≡ conditionCount f
+      → exit ≡ fitting (length lent) (angleCount f) (length entry) (conditionCount f) (sumsOf f lent) entry → exit ≡ listed (conditionCount f) (conditionSum f (vector x))
+  sums-are lent entry e n m made =
+      made ∙ fits (length lent) (angleCount f) (length entry) (conditionCount f) (sumsOf f lent) entry n m ∙ ap (sumsOf f) e
+      ∙ listed-ext (conditionCount f) _ _ (λ j h. sym (is-held (conditionSum f (vector x) j) (le-trans (total j) (lit≤ tt))))

@@ -1,0 +1,102 @@
+// The conditions of each figure, by its family: document 01, "The eight figures". Conditions and angles are used by their indices, counted from 0.
+ghost use mathlib.Core.Path.{_≡_};
+ghost use Prim.Native.Nat.{ℕ, _+_, _*_, _<_, _≤_};
+ghost use lib.ListN.{length};
+ghost use Rattle.whole.specs.Sums.{sum, vector};
+ghost use Rattle.figures.specs.declared.Figure.{Figure};
+ghost use Rattle.figures.specs.Figure.{angleCount, conditionCount};
+ghost use Rattle.figures.specs.Numerators.{conditionSum, mostMembers};
+ghost use Rattle.pass_steps.specs.Steps.{fitting, sumsOf};
+ghost use Rattle.pass_steps.specs.Steps.{held as Steps·held};
+use figures::Figure;
+
+// The triangles, and the corners, of a point in a known triangle.
+const TRIANGLES: usize = 3;
+
+// The most that a sum may be, either way: what 32 bits hold.
+const MOST_HELD: u64 = 2147483647;
+
+// The sum over the angles of each condition.
+pub fn condition_sums(f: Figure, x: &[i32], sums: &mut [i32])
+    ensures { λ _. ⌜ now (sums .exit) ≡ fitting (length (now (x .entry))) (angleCount f) (length (now (sums .entry))) (conditionCount f)
+        (sumsOf f (now (x .entry))) (now (sums .entry)) ⌝ }
+{
+    let counts = tables::counts_of(f);
+    if x.len() == counts.angles {
+        if sums.len() == counts.conditions {
+            sums_into(f, x, sums);
+        }
+    }
+}
+
+fn sums_into(f: Figure, x: &[i32], sums: &mut [i32])
+    requires { ⌜ length (now x) ≡ angleCount f ⌝ }
+    requires { ⌜ length (now sums) ≡ conditionCount f ⌝ }
+    ensures { λ _. ⌜ now (sums .exit) ≡ sumsOf f (now (x .entry)) ⌝ }
+{
+    let mut j = 0;
+    while j < sums.len() {
+        sums[j] = held(condition_sum(f, x, j));
+        j += 1;
+    }
+}
+
+fn held(total: i64) -> i32
+    ensures { λ r. ⌜ r ≡ Steps·held total ⌝ }
+{
+    if MOST_HELD < whole::magnitude(total) {
+        0
+    } else {
+        total as i32
+    }
+}
+
+// The sum over the angles of condition j. Code 1: angles 1 to 4, 3 to 6, 5 to 8. Code 3: the triangles, and the angles at the inner point.
+fn condition_sum(f: Figure, x: &[i32], j: usize) -> i64
+    requires { ⌜ length (now x) ≡ angleCount f ⌝ }
+    requires { ⌜ j < conditionCount f ⌝ }
+    ensures { λ r. ⌜ r ≡ conditionSum f (vector (now (x .entry))) j ⌝ }
+{
+    match f {
+        Figure::Quadrilateral => run_sum(x, 2 * j, 1, 4),
+        Figure::PointInTriangle => point_sum(x, j),
+        _ => {
+            if 3 * j < x.len() {
+                run_sum(x, 3 * j, 1, 3)
+            } else {
+                run_sum(x, 0, 3, j)
+            }
+        }
+    }
+}
+
+// Code 2: the triangles, and at each corner the last angle of the triangle before with the second of its own.
+fn point_sum(x: &[i32], j: usize) -> i64
+    requires { ⌜ length (now x) ≡ angleCount Figure.PointInTriangle ⌝ }
+    requires { ⌜ j < conditionCount Figure.PointInTriangle ⌝ }
+    ensures { λ r. ⌜ r ≡ conditionSum Figure.PointInTriangle (vector (now (x .entry))) j ⌝ }
+{
+    if j < TRIANGLES {
+        run_sum(x, 3 * j, 1, 3)
+    } else if j == TRIANGLES {
+        run_sum(x, 1, 7, 2)
+    } else {
+        run_sum(x, 3 * (j - 4) + 2, 2, 2)
+    }
+}
+
+// The sum of `count` numbers: the one at `first`, and then every `step`th.
+fn run_sum(x: &[i32], first: usize, step: usize, count: usize) -> i64
+    requires { ⌜ ((k : ℕ) → k < count → first + step * k < length (now x)) ⌝ }
+    requires { ⌜ count ≤ mostMembers ⌝ }
+    requires { ⌜ step ≤ 7 ⌝ }
+    ensures { λ r. ⌜ r ≡ sum count (λ k. vector (now (x .entry)) (first + step * k)) ⌝ }
+{
+    let mut total = 0i64;
+    let mut k = 0;
+    while k < count {
+        total += x[first + step * k] as i64;
+        k += 1;
+    }
+    total
+}

@@ -1,4 +1,0 @@
-pub mod Premises
-pub mod Promises
-pub mod Sines
-pub mod Steps

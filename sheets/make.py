@@ -123,10 +123,11 @@ def main():
     if sys.argv[1:] != ["--check"]:
         for name, content in files.items():
             (HERE / name).write_bytes(content)
-    complaints = unlike(files) + [f"{name} (not in README.md)" for name in unexplained(files)]
+    wrong = unlike(files)
+    complaints = wrong + [f"{name} (not in README.md)" for name in unexplained(files)]
     for complaint in complaints:
         print(complaint)
-    print(f"{len(files) // 2} sheets, {len(complaints)} not as they should be")
+    print(f"{len(files.keys() - set(wrong))} passed, {len(complaints)} failed")
     return 1 if complaints else 0
 
 

@@ -17,7 +17,7 @@ from functools import lru_cache
 from pathlib import Path
 
 ROOT = Path(__file__).resolve().parent.parent
-PAGES = ("README.md", "docs/*.md", "docs/landings/*.md", "sheets/README.md", "tests/README.md")
+PAGES = ("README.md", "CONTRIBUTING.md", "docs/*.md", "docs/landings/*.md", "sheets/README.md", "tests/README.md", "tests/c/README.md")
 SOURCES = ("crates", "include", "examples")
 
 ALLOWED = {  # names that nothing here declares

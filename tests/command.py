@@ -301,7 +301,8 @@ def try_scripts(folder):
     status, text, message = call([gate, "--nosuch"])
     expect(".ci/run with a word", (status, text, message.startswith("usage: .ci/run\n")), (2, "", True))
     made = Made(folder, "no python", tools=("dirname", "mktemp", "id", "df", "awk"))
-    shutil.copytree(ROOT / ".ci", made.root / ".ci")
+    for part in (".ci", "tests"):
+        shutil.copytree(ROOT / part, made.root / part)
     for tool in ("apt-get", "sudo"):
         (made.tools / tool).write_text("#!/usr/bin/env bash\nexit 100\n", encoding="ascii")
         (made.tools / tool).chmod(0o755)

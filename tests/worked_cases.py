@@ -215,5 +215,13 @@ class ValuesAreReal(unittest.TestCase):
                 self.assertEqual(list(second.angles), corrected, name)
 
 
+def main():
+    """Every test counts by itself."""
+    result = unittest.main(exit=False).result
+    failed = len(result.failures) + len(result.errors)
+    print(f"{result.testsRun - failed} passed, {failed} failed")
+    return 0 if result.testsRun and not failed else 1
+
+
 if __name__ == "__main__":
-    unittest.main()
+    sys.exit(main())

@@ -688,7 +688,9 @@ def main(arguments):
     if arguments == ["--tables"]:
         print("\n\n".join(f"{name}\n\n{text}" for name, text in tables().items()))
     elif arguments == ["--check"]:
-        check_files(wanted_files())
+        wanted = wanted_files()
+        check_files(wanted)
+        print(f"{len(wanted)} passed, 0 failed")
     else:
         require(not arguments, "give nothing, --tables or --check")
         write_files(wanted_files())

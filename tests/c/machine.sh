@@ -5,19 +5,11 @@
 root=$(cd "$(dirname "${BASH_SOURCE[0]}")/../.." && pwd)
 # shellcheck source=bin/alone.sh
 . "$root/bin/alone.sh"
+# shellcheck source=tests/shared.sh
+. "$root/tests/shared.sh"
 made=$root/target/c
 library=${BIENGULOC_LIBRARY:-$root/target/staticlib/libcontroller.a}
 flags="-std=c11 -O2 -g -Wall -Wextra -Wpedantic -Werror -I$root/include"
-
-# install COMMAND PACKAGE..: Debian packages, where the command is missing
-install() {
-    command -v "$1" >/dev/null 2>&1 && return
-    shift
-    local as_root=""
-    [ "$(id -u)" -eq 0 ] || as_root="sudo"
-    echo "installing $*"
-    { $as_root apt-get update -qq && $as_root apt-get install -y -qq --no-install-recommends "$@"; } || { echo "not installed: $*"; return 1; }
-}
 
 # Sets cc, link (what every link command ends with) and emulator (empty where programs run by themselves).
 find_compiler() {

@@ -1,8 +1,10 @@
--- The definitions of `specs/Bits.antt` at work on small numbers, each computed. Assumes nothing.
+-- The definitions of `specs/Bits.antt` and `specs/Complement.antt` at work on small numbers, each computed. Assumes nothing.
 use mathlib.Core.Bool.{true, false}
 use mathlib.Core.List.{[], _∷_}
 use mathlib.Core.Path.{_≡_, refl}
+use lib.IntN.{negsuc}
 use Rattle.bits.specs.Bits.{odd, bits, digit, value, bitsOf, firstByte, bytesFrom, byteCount, bytesOf, inside, fieldAt, withField, packedBits}
+use Rattle.bits.specs.Complement.{halfRange, signedOf, fitsSigned, twosComplement}
 
 -- most significant bit first: five in four bits is 0101
 five : bits 4 5 ≡ false ∷ true ∷ false ∷ true ∷ []
@@ -28,3 +30,12 @@ head : bytesOf (packedBits (record { width = 4; holds = 1 } ∷ record { width =
     ≡ 0x11 ∷ 0x02 ∷ 0x58 ∷ []
 unfolding packedBits value digit bits odd bytesOf bytesFrom byteCount firstByte
 head = refl
+
+-- a sine difference of −1 and of −9,999 in 15 bits
+minus-one : signedOf 15 0x7fff ≡ negsuc 0
+unfolding signedOf halfRange
+minus-one = refl
+
+lowest-difference : twosComplement 15 (negsuc 9998) ≡ 0x58f1
+unfolding twosComplement fitsSigned halfRange
+lowest-difference = refl

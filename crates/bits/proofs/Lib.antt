@@ -1,6 +1,7 @@
--- The laws of `specs/Bits.antt` that a crate above cites: `Numbers`, `Bytes`, `Fields`, `Packed`. `Places` serves the proofs
--- of this crate's functions, and `Examples` shows the definitions at work.
+-- The laws of `specs/Bits.antt` that a crate above cites: `Numbers`, `Bytes`, `Fields`, `Packed`; and those of `specs/Complement.antt`:
+-- `Complement`. `Places` serves the proofs of this crate's functions, and `Examples` shows the definitions at work.
 pub mod Bytes
+pub mod Complement
 mod Examples
 pub mod Fields
 pub mod Numbers

@@ -1,16 +1,22 @@
-// Fields of bits in bytes, most significant bit first: document 01, "Packed sheets". Every public function answers every input, as specs/Bits.antt says.
+// Fields of bits in bytes, most significant bit first: document 01, "Packed sheets". Every public function answers every input, as
+// specs/Bits.antt says.
 ghost use mathlib.Core.Path.{_≡_};
 ghost use Prim.Native.Nat.{_+_, _*_, _^_, _<_};
 ghost use lib.ListN.{length, getD, set};
 ghost use mathlib.Core.Bool.{false};
 ghost use Rattle.bits.specs.Bits.{odd, bits, digit, bitsOf, inside, fieldAt, withField};
 
-// The widest field.
+mod signed_fields;
+
+pub use signed_fields::signed;
+pub use signed_fields::twos_complement;
+
+// The widest field, and the widest two's complement.
 const WIDEST: u32 = 32;
 
 // What a field holds, and 0 where it is not wholly within the bytes, or is wider than 32 bits.
 pub fn field(bytes: &[u8], at: usize, width: u32) -> u32
-    ensures { λ r. ⌜ r ≡ fieldAt (now (bytes .entry)) at width ⌝ }
+    ensures { λ value. ⌜ value ≡ fieldAt (now (bytes .entry)) at width ⌝ }
 {
     if !is_inside(bytes, at, width) {
         return 0;
@@ -44,7 +50,7 @@ pub fn put_field(bytes: &mut [u8], at: usize, width: u32, value: u32)
 // A field lies wholly within the bytes, and is no wider than it may be. Whole bytes are compared,
 // since the end of a field, in bits, may be no number of a usize.
 fn is_inside(bytes: &[u8], at: usize, width: u32) -> bool
-    ensures { λ r. ⌜ r ≡ inside (now (bytes .entry)) at width ⌝ }
+    ensures { λ holds. ⌜ holds ≡ inside (now (bytes .entry)) at width ⌝ }
 {
     if width > WIDEST {
         return false;
@@ -61,7 +67,7 @@ fn is_inside(bytes: &[u8], at: usize, width: u32) -> bool
 fn bit_at(bytes: &[u8], at: usize, further: u32) -> u32
     requires { ⌜ at + further < 8 * length (now bytes) ⌝ }
     requires { ⌜ further < 32 ⌝ }
-    ensures { λ r. ⌜ r ≡ digit (getD (bitsOf (now (bytes .entry))) (at + further) false) ⌝ }
+    ensures { λ bit. ⌜ bit ≡ digit (getD (bitsOf (now (bytes .entry))) (at + further) false) ⌝ }
 {
     let place = at % 8 + further as usize;
     bit_of(bytes[at / 8 + place / 8], (place % 8) as u32)
@@ -82,7 +88,7 @@ fn put_bit(bytes: &mut [u8], at: usize, further: u32, bit: u32)
 // The bit at a place of a byte, 0 the most significant.
 fn bit_of(byte: u8, place: u32) -> u32
     requires { ⌜ place < 8 ⌝ }
-    ensures { λ r. ⌜ r ≡ digit (getD (bits 8 byte) place false) ⌝ }
+    ensures { λ bit. ⌜ bit ≡ digit (getD (bits 8 byte) place false) ⌝ }
 {
     byte as u32 / power_of_two(7 - place) % 2
 }
@@ -91,7 +97,7 @@ fn bit_of(byte: u8, place: u32) -> u32
 fn with_bit(byte: u8, place: u32, bit: u32) -> u8
     requires { ⌜ place < 8 ⌝ }
     requires { ⌜ bit < 2 ⌝ }
-    ensures { λ r. ⌜ bits 8 r ≡ set (bits 8 byte) place (odd bit) ⌝ }
+    ensures { λ changed. ⌜ bits 8 changed ≡ set (bits 8 byte) place (odd bit) ⌝ }
 {
     let counts = power_of_two(7 - place);
     let above = byte as u32 / counts / 2;
@@ -101,7 +107,7 @@ fn with_bit(byte: u8, place: u32, bit: u32) -> u8
 
 fn power_of_two(exponent: u32) -> u32
     requires { ⌜ exponent < 32 ⌝ }
-    ensures { λ r. ⌜ r ≡ 2 ^ exponent ⌝ }
+    ensures { λ power. ⌜ power ≡ 2 ^ exponent ⌝ }
 {
     1 << exponent
 }

@@ -15,10 +15,10 @@ use Rattle.figures.specs.declared.Figure.{Figure}
 use Rattle.figures.specs.declared.Named.{Named}
 use Rattle.figures.specs.declared.Named.the-variants.{As, Nothing}
 use Rattle.figures.specs.Figure.{ofNamed}
-use Rattle.layout.specs.declared.Kind.{Kind}
-use Rattle.heads.specs.declared.Look.{Look}
-use Rattle.heads.specs.declared.Look.the-variants.{Head}
-use Rattle.heads.specs.Head.{ofHead}
+use Rattle.sheet_layout.specs.declared.Kind.{Kind}
+use Rattle.sheet_layout.specs.declared.head.Look.{Look}
+use Rattle.sheet_layout.specs.declared.head.Look.the-variants.{Head}
+use Rattle.sheet_layout.specs.Head.{ofHead}
 use Rattle.controller.specs.Answer.{lengthsWith}
 
 module _ (room own : ℕ) where

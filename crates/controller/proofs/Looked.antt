@@ -12,11 +12,11 @@ use Rattle.refusals.specs.Promise.{stored}
 use Rattle.refusals.specs.Table.{lengthsRow}
 use Rattle.refusals.proofs.InSteps.{judged-after-pass, judged-after-failure}
 use Rattle.figures.specs.declared.Figure.{Figure}
-use Rattle.layout.specs.declared.Kind.{Kind}
-use Rattle.heads.specs.declared.Look.{Look}
-use Rattle.heads.specs.declared.Look.the-variants.{Head}
-use Rattle.heads.specs.Head.{headRows, lookOf, ofHead}
-use Rattle.heads.proofs.Naming.{headVerdict, look-judged}
+use Rattle.sheet_layout.specs.declared.Kind.{Kind}
+use Rattle.sheet_layout.specs.declared.head.Look.{Look}
+use Rattle.sheet_layout.specs.declared.head.Look.the-variants.{Head}
+use Rattle.sheet_layout.specs.Head.{headRows, lookOf, ofHead}
+use Rattle.sheet_layout.proofs.Naming.{headVerdict, look-judged}
 use Rattle.controller.specs.Answer.{answerNumber}
 use Rattle.controller.specs.Promises.{lookHead, lookRows, lookLeft, LookPromise}
 use Rattle.controller.proofs.Answers.{done-number}

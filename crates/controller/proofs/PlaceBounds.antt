@@ -16,20 +16,20 @@ use Rattle.figures.specs.declared.Named.the-variants.{As, Nothing}
 use Rattle.figures.specs.Figure.{angleCount, fixedCount, figureOf, ofNamed}
 use Rattle.figures.specs.Numerators.{mostAngles}
 use Rattle.figures.proofs.Figures.{angle-bound}
-use Rattle.layout.specs.declared.Kind.{Kind}
-use Rattle.layout.specs.declared.Kind.the-variants.{FirstPass, SecondPass}
-use Rattle.layout.specs.Layout.{lengthsOf, sheetSize}
-use Rattle.layout.proofs.Sizes.{fixed-bound}
-use Rattle.heads.specs.declared.Look.{Look}
-use Rattle.heads.specs.declared.Look.the-variants.{Head}
-use Rattle.heads.specs.Head.{headRows, headOf, lookOf, ofHead}
-use Rattle.sheets.specs.Sheet.{Values}
-use Rattle.sheets.specs.Judging.{ownLengths, lengthsGiven, bodyRows, readerRows, givenRows, writerRows}
-use Rattle.sheets.proofs.Refusals.{reader-in-table}
-use Rattle.method.specs.FirstPass.{firstLengths, firstRows, firstPassRows}
-use Rattle.method.specs.SecondPass.{secondLengths, secondRows, secondPassRows}
-use Rattle.method.proofs.Refusals.{second-in-table}
-use Rattle.method.specs.Promises.{FirstGiven, FirstLent, firstLengthsLent, firstRowsOf, SecondGiven, secondLengthsLent}
+use Rattle.sheet_layout.specs.declared.Kind.{Kind}
+use Rattle.sheet_layout.specs.declared.Kind.the-variants.{FirstPass, SecondPass}
+use Rattle.sheet_layout.specs.Layout.{lengthsOf, sheetSize}
+use Rattle.sheet_layout.proofs.Sizes.{fixed-bound}
+use Rattle.sheet_layout.specs.declared.head.Look.{Look}
+use Rattle.sheet_layout.specs.declared.head.Look.the-variants.{Head}
+use Rattle.sheet_layout.specs.Head.{headRows, headOf, lookOf, ofHead}
+use Rattle.sheet_rules.specs.Sheet.{Values}
+use Rattle.sheet_rules.specs.Judging.{ownLengths, lengthsGiven, bodyRows, readerRows, givenRows, writerRows}
+use Rattle.sheet_rules.proofs.Refusals.{reader-in-table}
+use Rattle.pass_rules.specs.FirstPass.{firstLengths, firstRows, firstPassRows}
+use Rattle.pass_rules.specs.SecondPass.{secondLengths, secondRows, secondPassRows}
+use Rattle.pass_rules.proofs.Refusals.{second-in-table}
+use Rattle.pass_rules.specs.Promises.{FirstGiven, FirstLent, firstLengthsLent, firstRowsOf, SecondGiven, secondLengthsLent}
 use Rattle.report.proofs.PlaceBounds as pages
 use Rattle.controller.specs.Answer.{lengthsWith}
 use Rattle.controller.specs.Promises.{lookRows, ReadLent, readRows, SumsLent, sumsRows, TextLent, reportRows}

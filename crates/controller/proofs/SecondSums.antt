@@ -16,11 +16,11 @@ use Rattle.figures.specs.declared.Named.{Named}
 use Rattle.figures.specs.declared.Named.the-variants.{As, Nothing}
 use Rattle.figures.specs.Figure.{figureOf, ofNamed}
 use Rattle.figures.proofs.Naming.{none-named, one-named}
-use Rattle.method.specs.declared.second.SecondAnswer.{SecondAnswer}
-use Rattle.method.specs.declared.second.SecondAnswer.the-variants.{Done, Refused}
-use Rattle.method.specs.SecondPass.{sineMisclosure, sumOfSquares, secondRows, secondPassRows, secondPassVerdict, secondAnswerOf, secondPassAnswer, secondTold}
-use Rattle.method.proofs.Refusals.{second-tells}
-use Rattle.method.specs.Promises.{SecondGiven, SecondLent, secondLengthsLent, secondValues, secondVerdict, SecondPromise}
+use Rattle.pass_rules.specs.declared.second.SecondAnswer.{SecondAnswer}
+use Rattle.pass_rules.specs.declared.second.SecondAnswer.the-variants.{Done, Refused}
+use Rattle.pass_rules.specs.SecondPass.{sineMisclosure, sumOfSquares, secondRows, secondPassRows, secondPassVerdict, secondAnswerOf, secondPassAnswer, secondTold}
+use Rattle.pass_rules.proofs.Refusals.{second-tells}
+use Rattle.pass_rules.specs.Promises.{SecondGiven, SecondLent, secondLengthsLent, secondValues, secondVerdict, SecondPromise}
 use Rattle.controller.specs.Answer.{placeStep, answerNumber, lengthsWith}
 use Rattle.controller.specs.Promises.{SumsLent, sumsLent, sumsRows, sumsOf, SecondPassPromise}
 use Rattle.controller.proofs.Answers.{done-number, place-small}

@@ -12,17 +12,17 @@ use Rattle.refusals.specs.Order.{answerOf, judged}
 use Rattle.refusals.specs.Promise.{stored}
 use Rattle.figures.specs.declared.Figure.{Figure}
 use Rattle.figures.specs.Figure.{description}
-use Rattle.layout.specs.declared.Kind.{Kind}
-use Rattle.layout.specs.Layout.{numberOfKind, sheetSize}
-use Rattle.heads.specs.declared.Look.{Look}
-use Rattle.heads.specs.declared.Look.the-variants.{Head}
-use Rattle.heads.specs.Head.{lookOf, ofHead}
-use Rattle.sheets.specs.declared.Reading.{Reading}
-use Rattle.sheets.specs.declared.Reading.the-variants.{Read}
-use Rattle.sheets.specs.Sheet.{valuesRead}
-use Rattle.sheets.specs.Judging.{bodyRows, readingAfter, readingFound, readingOf, readingTold, afterReading}
-use Rattle.sheets.specs.Promises.{Slices, slicesOf, lengthsLent, ReaderPromise}
-use Rattle.sheets.proofs.Refusals.{reader-tells}
+use Rattle.sheet_layout.specs.declared.Kind.{Kind}
+use Rattle.sheet_layout.specs.Layout.{numberOfKind, sheetSize}
+use Rattle.sheet_layout.specs.declared.head.Look.{Look}
+use Rattle.sheet_layout.specs.declared.head.Look.the-variants.{Head}
+use Rattle.sheet_layout.specs.Head.{lookOf, ofHead}
+use Rattle.sheet_rules.specs.declared.Reading.{Reading}
+use Rattle.sheet_rules.specs.declared.Reading.the-variants.{Read}
+use Rattle.sheet_rules.specs.Sheet.{valuesRead}
+use Rattle.sheet_rules.specs.Judging.{bodyRows, readingAfter, readingFound, readingOf, readingTold, afterReading}
+use Rattle.sheet_rules.specs.Promises.{Slices, slicesOf, lengthsLent, ReaderPromise}
+use Rattle.sheet_rules.proofs.Refusals.{reader-tells}
 use Rattle.controller.specs.Answer.{placeStep, answerNumber, lengthsWith}
 use Rattle.controller.specs.Promises.{ReadLent, readLent, readRows, readValues, ReadPromise}
 use Rattle.controller.proofs.Answers.{done-number, place-small}

@@ -1,4 +1,4 @@
--- What the operations promise to C: what `passes`, `sheets` and `report` promise, with the answer as one number, and W and S, what stands in a head, and the
+-- What the operations promise to C: what `passes`, `sheet_rules` and `report` promise, with the answer as one number, and W and S, what stands in a head, and the
 -- size of a text in slices of their own.
 use Prim.Native.Nat.{ℕ}
 use mathlib.Core.List.{List, [], _∷_, _++_}
@@ -11,14 +11,14 @@ use Rattle.refusals.specs.Questions.{less}
 use Rattle.refusals.specs.Table.{lengthsRow}
 use Rattle.figures.specs.declared.Figure.{Figure}
 use Rattle.figures.specs.Figure.{description, conditionCount, figureOf, ofNamed}
-use Rattle.layout.specs.declared.Kind.{Kind}
-use Rattle.layout.specs.Layout.{numberOfKind, lengthsOf}
-use Rattle.heads.specs.Head.{headRows, lookOf, ofHead}
-use Rattle.sheets.specs.Sheet.{Values, valuesRead}
-use Rattle.sheets.specs.Judging.{readerRows, writerRows, writtenOf}
-use Rattle.sheets.specs.Promises.{Slices, slicesOf, lengthsLent}
-use Rattle.method.specs.SecondPass.{sineMisclosure, sumOfSquares, secondPassRows}
-use Rattle.method.specs.Promises.{FirstGiven, FirstLent, firstRowsOf, firstLeft, SecondGiven, SecondLent, secondLengthsLent, secondValues}
+use Rattle.sheet_layout.specs.declared.Kind.{Kind}
+use Rattle.sheet_layout.specs.Layout.{numberOfKind, lengthsOf}
+use Rattle.sheet_layout.specs.Head.{headRows, lookOf, ofHead}
+use Rattle.sheet_rules.specs.Sheet.{Values, valuesRead}
+use Rattle.sheet_rules.specs.Judging.{readerRows, writerRows, writtenOf}
+use Rattle.sheet_rules.specs.Promises.{Slices, slicesOf, lengthsLent}
+use Rattle.pass_rules.specs.SecondPass.{sineMisclosure, sumOfSquares, secondPassRows}
+use Rattle.pass_rules.specs.Promises.{FirstGiven, FirstLent, firstRowsOf, firstLeft, SecondGiven, SecondLent, secondLengthsLent, secondValues}
 use Rattle.report.specs.Report.{reportText}
 use Rattle.controller.specs.Answer.{answerNumber, lengthsWith}
 

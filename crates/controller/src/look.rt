@@ -4,15 +4,15 @@ ghost use Rattle.controller.specs.Promises.{lookHead, LookPromise};
 use crate::answer::DONE;
 use crate::answer::refused;
 use crate::stores::store;
+use figure_tables::counts_of;
 use figures::Figure;
 use figures::name_of;
-use heads::number_of_kind;
 use refusals::Refusal;
-use sheets::Kind;
-use sheets::Look;
-use sheets::lengths_of;
-use sheets::look_at;
-use tables::counts_of;
+use sheet_layout::number_of_kind;
+use sheet_rules::Kind;
+use sheet_rules::Look;
+use sheet_rules::lengths_of;
+use sheet_rules::look_at;
 
 // Kind, code, n, and how many angles, fixed angles, log-sines and conditions.
 const HEAD_LENGTH: usize = 7;

@@ -2,24 +2,24 @@
 ghost use mathlib.Core.Path.{_≡_};
 ghost use mathlib.Core.List.{[], _∷_};
 ghost use Rattle.figures.specs.Figure.{description};
-ghost use Rattle.layout.specs.Layout.{numberOfKind};
-ghost use Rattle.sheets.specs.declared.Reading.{Reading};
-ghost use Rattle.sheets.specs.Judging.{readingOf};
-ghost use Rattle.sheets.specs.Promises.{slices};
+ghost use Rattle.sheet_layout.specs.Layout.{numberOfKind};
+ghost use Rattle.sheet_rules.specs.declared.Reading.{Reading};
+ghost use Rattle.sheet_rules.specs.Judging.{readingOf};
+ghost use Rattle.sheet_rules.specs.Promises.{slices};
 ghost use Rattle.controller.specs.Promises.{readLent, ReadPromise};
 use crate::answer::DONE;
 use crate::answer::refused;
 use crate::stores::store;
 use figures::Figure;
 use figures::name_of;
-use heads::number_of_kind;
-use reading::read_sheet;
 use refusals::Refusal;
-use sheets::Kind;
-use sheets::Look;
-use sheets::Reading;
-use sheets::look_at;
-use sheets::sheet_size;
+use sheet_layout::number_of_kind;
+use sheet_reader::read_sheet;
+use sheet_rules::Kind;
+use sheet_rules::Look;
+use sheet_rules::Reading;
+use sheet_rules::look_at;
+use sheet_rules::sheet_size;
 
 // Kind, code, n, and L or e.
 const HEAD_LENGTH: usize = 4;

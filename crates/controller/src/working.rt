@@ -2,15 +2,15 @@
 ghost use mathlib.Core.Path.{_≡_};
 ghost use Rattle.refusals.specs.declared.Refusal.{Refusal};
 ghost use Rattle.figures.specs.Figure.{figureOf, ofNamed};
-ghost use Rattle.method.specs.Promises.{firstGiven, firstLent, secondGiven, secondLent};
+ghost use Rattle.pass_rules.specs.Promises.{firstGiven, firstLent, secondGiven, secondLent};
 ghost use Rattle.controller.specs.Promises.{FirstPassPromise, sumsLent, SecondPassPromise};
 use crate::answer::DONE;
 use crate::answer::answered;
 use crate::answer::refused;
 use figures::Named;
 use figures::figure_of;
-use method::SecondAnswer;
 use pass_first::first_pass;
+use pass_rules::SecondAnswer;
 use pass_second::second_pass;
 use refusals::Refusal;
 

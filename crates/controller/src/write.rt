@@ -1,8 +1,8 @@
 // The writer for C.
-ghost use Rattle.sheets.specs.Sheet.{valuesFrom};
+ghost use Rattle.sheet_rules.specs.Sheet.{valuesFrom};
 ghost use Rattle.controller.specs.Promises.{WritePromise};
 use crate::answer::answered;
-use writing::write_sheet;
+use sheet_writer::write_sheet;
 
 #[no_mangle]
 pub extern "C" fn bienguloc_write(

@@ -7,14 +7,14 @@ use Rattle.refusals.specs.declared.Verdict.the-variants.{Failed}
 use Rattle.refusals.specs.Numbers.{verdictTold}
 use Rattle.refusals.specs.Order.{judged}
 use Rattle.figures.specs.Figure.{figureOf}
-use Rattle.heads.specs.Head.{headRows, lookOf, lookTold}
-use Rattle.sheets.specs.Judging.{readerRows, readingTold, writerRows, writingOf}
-use Rattle.sheets.specs.Promises.{lengthsLent}
-use Rattle.sheets.proofs.Refusals.{head-in-table, head-tells, reader-in-table, reader-tells, writer-in-table, kept-reading, kept-written}
-use Rattle.method.specs.FirstPass.{firstPassVerdict}
-use Rattle.method.specs.SecondPass.{secondTold, secondPassVerdict}
-use Rattle.method.proofs.Refusals.{first-in-table, second-in-table, second-tells}
-use Rattle.method.specs.Promises.{FirstGiven, FirstLent, firstLengthsLent, firstValues, firstLeft, firstRowsOf, secondLengthsLent, secondValues, secondRowsOf}
+use Rattle.sheet_layout.specs.Head.{headRows, lookOf, lookTold}
+use Rattle.sheet_rules.specs.Judging.{readerRows, readingTold, writerRows, writingOf}
+use Rattle.sheet_rules.specs.Promises.{lengthsLent}
+use Rattle.sheet_rules.proofs.Refusals.{head-in-table, head-tells, reader-in-table, reader-tells, writer-in-table, kept-reading, kept-written}
+use Rattle.pass_rules.specs.FirstPass.{firstPassVerdict}
+use Rattle.pass_rules.specs.SecondPass.{secondTold, secondPassVerdict}
+use Rattle.pass_rules.proofs.Refusals.{first-in-table, second-in-table, second-tells}
+use Rattle.pass_rules.specs.Promises.{FirstGiven, FirstLent, firstLengthsLent, firstValues, firstLeft, firstRowsOf, secondLengthsLent, secondValues, secondRowsOf}
 use Rattle.controller.specs.Answer.{answerTold}
 use Rattle.controller.specs.Promises.{lookRows, lookHead, readRows, readValues, sumsRows, sumsOf, sumsLent, reportRows, textLent, textLaid}
 use Rattle.controller.proofs.Answers.{answer-tells}

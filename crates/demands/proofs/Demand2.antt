@@ -23,26 +23,26 @@ use Rattle.figures.specs.declared.Named.{Named}
 use Rattle.figures.specs.declared.Named.the-variants.{As, Nothing}
 use Rattle.figures.specs.Figure.{description, denominator, angleCount, conditionCount, membersOf, figureOf, ofNamed}
 use Rattle.figures.specs.Numerators.{reducedCoefficient}
-use Rattle.layout.specs.Layout.{numberOfKind}
-use Rattle.sheets.specs.declared.Reading.{Reading}
-use Rattle.sheets.specs.declared.Reading.the-variants.{Read}
-use Rattle.sheets.specs.Sheet.{Values, valuesRead}
-use Rattle.sheets.specs.Judging.{readingOf, afterReading, writingOf, writtenOf}
-use Rattle.sheets.specs.Promises.{slicesOf, lengthsLent, readAnswer, readLeft}
-use Rattle.sheets.proofs.Accepted.{accepted as accepted-sheet}
-use Rattle.sheets.proofs.ReadThenWritten.{read-then-accepted}
-use Rattle.sheets.proofs.WrittenThenRead.{written-then-read as sheet-read-back}
-use Rattle.method.specs.declared.second.SecondAnswer.the-variants.{Done, Refused}
-use Rattle.method.specs.FirstPass.{misclosure, firstNumerator, firstRounded, corrected, firstRest, firstRows, firstPassRows, firstPassVerdict}
-use Rattle.method.specs.SecondPass.{signedDifference, secondReduced, sumOfSquares, sineMisclosure, secondNumerator, secondRounded, secondAdjusted, secondRest, secondRows, secondPassRows, secondPassVerdict, secondAnswerOf, secondPassAnswer}
+use Rattle.sheet_layout.specs.Layout.{numberOfKind}
+use Rattle.sheet_rules.specs.declared.Reading.{Reading}
+use Rattle.sheet_rules.specs.declared.Reading.the-variants.{Read}
+use Rattle.sheet_rules.specs.Sheet.{Values, valuesRead}
+use Rattle.sheet_rules.specs.Judging.{readingOf, afterReading, writingOf, writtenOf}
+use Rattle.sheet_rules.specs.Promises.{slicesOf, lengthsLent, readAnswer, readLeft}
+use Rattle.sheet_rules.proofs.Accepted.{accepted as accepted-sheet}
+use Rattle.sheet_rules.proofs.ReadThenWritten.{read-then-accepted}
+use Rattle.sheet_rules.proofs.WrittenThenRead.{written-then-read as sheet-read-back}
+use Rattle.pass_rules.specs.declared.second.SecondAnswer.the-variants.{Done, Refused}
+use Rattle.pass_rules.specs.FirstPass.{misclosure, firstNumerator, firstRounded, corrected, firstRest, firstRows, firstPassRows, firstPassVerdict}
+use Rattle.pass_rules.specs.SecondPass.{signedDifference, secondReduced, sumOfSquares, sineMisclosure, secondNumerator, secondRounded, secondAdjusted, secondRest, secondRows, secondPassRows, secondPassVerdict, secondAnswerOf, secondPassAnswer}
 use Rattle.figures.proofs.Figures.{denominator-positive}
 use Rattle.figures.proofs.Theorem.{condition-agrees, numerator-agrees, numerators-cancel}
-use Rattle.method.proofs.PassRows.{of-figure, one-judged}
-use Rattle.method.proofs.Rests.{rest-small}
-use Rattle.method.proofs.SecondAccepted.{Accepted, accepted}
-use Rattle.method.proofs.SecondLaws.{squares-sum, rest-half}
-use Rattle.method.proofs.WithinRange.{result-within}
-use Rattle.method.specs.Promises.{FirstGiven, firstLengthsLent, firstValues, SecondGiven, SecondLent, secondLengthsLent, secondVerdict, secondAnswer, secondValues}
+use Rattle.pass_rules.proofs.PassRows.{of-figure, one-judged}
+use Rattle.pass_rules.proofs.Rests.{rest-small}
+use Rattle.pass_rules.proofs.SecondAccepted.{Accepted, accepted}
+use Rattle.pass_rules.proofs.SecondLaws.{squares-sum, rest-half}
+use Rattle.pass_rules.proofs.WithinRange.{result-within}
+use Rattle.pass_rules.specs.Promises.{FirstGiven, firstLengthsLent, firstValues, SecondGiven, SecondLent, secondLengthsLent, secondVerdict, secondAnswer, secondValues}
 use Rattle.demands.specs.Demand2.{FirstDone, FirstPass, SecondDone, SecondPass, valuesIn, ReadThenWritten, WrittenThenRead}
 
 -- a slice of values by a rule has them by the index

@@ -17,14 +17,14 @@ use Rattle.figures.specs.declared.Named.{Named}
 use Rattle.figures.specs.declared.Named.the-variants.{As}
 use Rattle.figures.specs.Figure.{figureOf, ofNamed}
 use Rattle.figures.specs.Numerators.{reducedCoefficient}
-use Rattle.method.specs.FirstPass.{firstPassVerdict}
-use Rattle.method.specs.SecondPass.{sineMisclosure, sumOfSquares, secondRows, secondPassRows, secondPassVerdict}
-use Rattle.method.proofs.PassRows.{one-judged}
-use Rattle.method.proofs.Refusals.{first-in-table}
-use Rattle.method.proofs.SecondAccepted.{accepted}
-use Rattle.method.specs.Promises.{firstLengthsLent, firstRowsOf, SecondGiven, secondLengthsLent, secondValues}
-use Rattle.worked.specs.Worked.{Outcome, First, Second, WorkedSheet, workedOf, secondSheetLengths, differencesIn}
-use Rattle.worked.proofs.ShownAs.{FirstShown, SecondShown, RefusedShown, shown-as}
+use Rattle.pass_rules.specs.FirstPass.{firstPassVerdict}
+use Rattle.pass_rules.specs.SecondPass.{sineMisclosure, sumOfSquares, secondRows, secondPassRows, secondPassVerdict}
+use Rattle.pass_rules.proofs.PassRows.{one-judged}
+use Rattle.pass_rules.proofs.Refusals.{first-in-table}
+use Rattle.pass_rules.proofs.SecondAccepted.{accepted}
+use Rattle.pass_rules.specs.Promises.{firstLengthsLent, firstRowsOf, SecondGiven, secondLengthsLent, secondValues}
+use Rattle.pass_sheet.specs.Worked.{Outcome, First, Second, WorkedSheet, workedOf, secondSheetLengths, differencesIn}
+use Rattle.pass_sheet.proofs.ShownAs.{FirstShown, SecondShown, RefusedShown, shown-as}
 use Rattle.controller.specs.Answer.{lengthsWith}
 use Rattle.controller.specs.Promises.{sumsLent, sumsOf, sumsRows}
 use Rattle.controller.proofs.Answers.{answered-done}

@@ -20,14 +20,14 @@ use Rattle.text.proofs.Lines.{read-lines}
 use Rattle.text.proofs.Numbers.{decimal-words, read-decimal}
 use Rattle.text.proofs.Tests.{and-both}
 use Rattle.lines.specs.Lines.{figureWord, refusedWord, refusedText, refusedLines}
-use Rattle.method.specs.SecondPass.{sineMisclosure, sumOfSquares}
-use Rattle.method.proofs.FirstAccepted as First
-use Rattle.method.proofs.SecondAccepted.{accepted}
-use Rattle.worked.specs.Worked.{WorkedSheet, firstSheetLengths, workedOf, secondSheetLengths, outcomeTold, sheetRows}
-use Rattle.worked.proofs.Refusals.{sheet-rows-known, worked-told}
-use Rattle.worked.proofs.ShownAs.{FirstShown, SecondShown, RefusedShown, shown-as}
+use Rattle.pass_rules.specs.SecondPass.{sineMisclosure, sumOfSquares}
+use Rattle.pass_rules.proofs.FirstAccepted as First
+use Rattle.pass_rules.proofs.SecondAccepted.{accepted}
+use Rattle.pass_sheet.specs.Worked.{WorkedSheet, firstSheetLengths, workedOf, secondSheetLengths, outcomeTold, sheetRows}
+use Rattle.pass_sheet.proofs.Refusals.{sheet-rows-known, worked-told}
+use Rattle.pass_sheet.proofs.ShownAs.{FirstShown, SecondShown, RefusedShown, shown-as}
 use Rattle.report.specs.declared.reporting.Reported.the-variants.{Written}
-use Rattle.worked.specs.Texts.{textOf}
+use Rattle.pass_sheet.specs.Texts.{textOf}
 use Rattle.report.specs.Report.{reportText, hasRoom, reportedOf, afterReport}
 use Rattle.controller.specs.Promises.{TextLent, textLent, textLaid, reportRows}
 use Rattle.controller.proofs.Answers.{answered-done}

@@ -13,10 +13,10 @@ use Rattle.figures.specs.Figure.{denominator, angleCount, conditionCount}
 use Rattle.figures.specs.Numerators.{conditionSum, numerator, reducedCoefficient}
 use Rattle.figures.proofs.Theorem.{condition-agrees, numerator-agrees}
 use Rattle.whole.proofs.Sums.{squares-ext}
-use Rattle.method.specs.Pass.{given}
-use Rattle.method.specs.FirstPass.{misclosure, firstNumerator, firstRounded, corrected, firstRest, misclosuresOf, numeratorsOf, roundedOf, correctedOf, restsOf}
-use Rattle.method.specs.SecondPass.{signedDifference, secondReduced, sineMisclosure, sumOfSquares, secondNumerator, secondRounded, secondAdjusted, secondRest, reducedOf, secondNumeratorsOf, secondRoundedOf, adjustedOf, secondRestsOf}
-use Rattle.method.proofs.SecondLaws.{squares-sum}
+use Rattle.pass_rules.specs.Pass.{given}
+use Rattle.pass_rules.specs.FirstPass.{misclosure, firstNumerator, firstRounded, corrected, firstRest, misclosuresOf, numeratorsOf, roundedOf, correctedOf, restsOf}
+use Rattle.pass_rules.specs.SecondPass.{signedDifference, secondReduced, sineMisclosure, sumOfSquares, secondNumerator, secondRounded, secondAdjusted, secondRest, reducedOf, secondNumeratorsOf, secondRoundedOf, adjustedOf, secondRestsOf}
+use Rattle.pass_rules.proofs.SecondLaws.{squares-sum}
 use Rattle.demands.specs.Demand2.{signed}
 
 module _ (f : Figure) where

@@ -12,15 +12,15 @@ use lib.ListN.{length}
 use Rattle.refusals.specs.declared.Verdict.{Verdict}
 use Rattle.refusals.specs.Numbers.{Told, told, verdictTold}
 use Rattle.refusals.specs.Order.{Row, Answers, NoneHolds, Stands}
-use Rattle.heads.specs.declared.Look.{Look}
-use Rattle.heads.specs.Head.{headRows, lookOf, lookTold}
-use Rattle.sheets.specs.declared.Reading.{Reading}
-use Rattle.sheets.specs.Sheet.{Values}
-use Rattle.sheets.specs.Judging.{readerRows, readingTold, writerRows}
-use Rattle.sheets.specs.Promises.{Slices, lengthsLent, ReaderPromise, WriterPromise}
-use Rattle.method.specs.declared.second.SecondAnswer.{SecondAnswer}
-use Rattle.method.specs.SecondPass.{secondTold}
-use Rattle.method.specs.Promises.{FirstGiven, FirstLent, firstRowsOf, FirstPromise, SecondGiven, SecondLent, secondRowsOf, SecondPromise}
+use Rattle.sheet_layout.specs.declared.head.Look.{Look}
+use Rattle.sheet_layout.specs.Head.{headRows, lookOf, lookTold}
+use Rattle.sheet_rules.specs.declared.Reading.{Reading}
+use Rattle.sheet_rules.specs.Sheet.{Values}
+use Rattle.sheet_rules.specs.Judging.{readerRows, readingTold, writerRows}
+use Rattle.sheet_rules.specs.Promises.{Slices, lengthsLent, ReaderPromise, WriterPromise}
+use Rattle.pass_rules.specs.declared.second.SecondAnswer.{SecondAnswer}
+use Rattle.pass_rules.specs.SecondPass.{secondTold}
+use Rattle.pass_rules.specs.Promises.{FirstGiven, FirstLent, firstRowsOf, FirstPromise, SecondGiven, SecondLent, secondRowsOf, SecondPromise}
 use Rattle.controller.specs.Answer.{answerTold}
 use Rattle.controller.specs.Promises.{lookRows, LookPromise, ReadLent, readRows, ReadPromise, WritePromise, FirstPassPromise, SumsLent, sumsRows, SecondPassPromise, TextLent, reportRows, ReportPromise}
 

@@ -17,19 +17,19 @@ use Rattle.figures.specs.declared.Figure.{Figure}
 use Rattle.figures.specs.declared.Named.the-variants.{As}
 use Rattle.figures.specs.Figure.{description, denominator, angleCount, conditionCount, membersOf, targetOf, figureOf}
 use Rattle.figures.specs.Numerators.{conditionSum, numerator}
-use Rattle.layout.specs.declared.Kind.{Kind}
-use Rattle.layout.specs.Layout.{numberOfKind}
-use Rattle.heads.specs.declared.Look.the-variants.{Head}
-use Rattle.heads.specs.Head.{headOf}
-use Rattle.sheets.specs.declared.Reading.{Reading}
-use Rattle.sheets.specs.declared.Reading.the-variants.{Read}
-use Rattle.sheets.specs.Sheet.{Values, valuesFrom}
-use Rattle.sheets.specs.Judging.{lengthsGiven}
-use Rattle.sheets.specs.Promises.{Slices, slicesOf, lengthsLent, ReaderPromise, WriterPromise}
-use Rattle.method.specs.declared.second.SecondAnswer.the-variants.{Done}
-use Rattle.method.specs.FirstPass.{shouldBe}
-use Rattle.method.specs.SecondPass.{sineSign}
-use Rattle.method.specs.Promises.{FirstGiven, FirstLent, FirstPromise, SecondGiven, SecondLent, SecondPromise}
+use Rattle.sheet_layout.specs.declared.Kind.{Kind}
+use Rattle.sheet_layout.specs.Layout.{numberOfKind}
+use Rattle.sheet_layout.specs.declared.head.Look.the-variants.{Head}
+use Rattle.sheet_layout.specs.Head.{headOf}
+use Rattle.sheet_rules.specs.declared.Reading.{Reading}
+use Rattle.sheet_rules.specs.declared.Reading.the-variants.{Read}
+use Rattle.sheet_rules.specs.Sheet.{Values, valuesFrom}
+use Rattle.sheet_rules.specs.Judging.{lengthsGiven}
+use Rattle.sheet_rules.specs.Promises.{Slices, slicesOf, lengthsLent, ReaderPromise, WriterPromise}
+use Rattle.pass_rules.specs.declared.second.SecondAnswer.the-variants.{Done}
+use Rattle.pass_rules.specs.FirstPass.{shouldBe}
+use Rattle.pass_rules.specs.SecondPass.{sineSign}
+use Rattle.pass_rules.specs.Promises.{FirstGiven, FirstLent, FirstPromise, SecondGiven, SecondLent, SecondPromise}
 
 -- ---- the first pass
 

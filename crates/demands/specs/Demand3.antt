@@ -15,9 +15,9 @@ use Rattle.figures.specs.declared.Figure.{Figure}
 use Rattle.figures.specs.declared.Named.the-variants.{As}
 use Rattle.figures.specs.Figure.{denominator, angleCount, conditionCount, figureOf}
 use Rattle.figures.specs.Numerators.{conditionSum}
-use Rattle.method.specs.declared.second.SecondAnswer.the-variants.{Done}
-use Rattle.method.specs.Promises.{FirstGiven, FirstLent, FirstPromise, SecondGiven, SecondLent, SecondPromise}
-use Rattle.worked.specs.Worked.{First, Second, WorkedSheet, workedOf, differencesIn}
+use Rattle.pass_rules.specs.declared.second.SecondAnswer.the-variants.{Done}
+use Rattle.pass_rules.specs.Promises.{FirstGiven, FirstLent, FirstPromise, SecondGiven, SecondLent, SecondPromise}
+use Rattle.pass_sheet.specs.Worked.{First, Second, WorkedSheet, workedOf, differencesIn}
 use Rattle.controller.specs.Promises.{FirstPassPromise, SumsLent, SecondPassPromise}
 use Rattle.demands.specs.Demand2.{signed}
 

@@ -16,7 +16,7 @@ use Rattle.figures.specs.Figure.{description, denominator, angleCount, conditio
 use Rattle.figures.specs.Numerators.{conditionSum}
 use Rattle.text.specs.Text.{decimal, lines, readNumber, readLines}
 use Rattle.lines.specs.Lines.{figureWord, denominatorWord, wWord, sWord, refusedWord}
-use Rattle.worked.specs.Worked.{sheetRows}
+use Rattle.pass_sheet.specs.Worked.{sheetRows}
 use Rattle.report.specs.declared.reporting.Reported.the-variants.{Written}
 use Rattle.report.specs.Report.{ReportedPromise}
 use Rattle.controller.specs.Promises.{TextLent, ReportPromise}

@@ -1,5 +1,5 @@
-// The eight figures of document 01, "The eight figures": which are named by a code and an n, and what is counted of each. The least-squares theorem
-// over their definitions stands in proofs/.
+// The eight figures of document 01, "The eight figures": which are named by a code and an n, and what is counted of each. The least-squares
+// theorem over their definitions stands in proofs/.
 ghost use mathlib.Core.Path.{_≡_};
 ghost use Rattle.figures.specs.Figure.{figureOf, nameOf};
 
@@ -51,7 +51,7 @@ pub const MOST_CONDITIONS: usize = 9;
 pub type Rows = [[i8; MOST_CONDITIONS]; MOST_ANGLES];
 
 pub fn figure_of(code: u32, n: u32) -> Named
-    ensures { λ r. ⌜ r ≡ figureOf code n ⌝ }
+    ensures { λ named. ⌜ named ≡ figureOf code n ⌝ }
 {
     match code {
         1 => match n {
@@ -68,7 +68,7 @@ pub fn figure_of(code: u32, n: u32) -> Named
 }
 
 fn polygon_of(n: u32) -> Named
-    ensures { λ r. ⌜ r ≡ figureOf 3 n ⌝ }
+    ensures { λ named. ⌜ named ≡ figureOf 3 n ⌝ }
 {
     match n {
         3 => Named::As(Figure::CentralTriangle),
@@ -81,10 +81,10 @@ fn polygon_of(n: u32) -> Named
     }
 }
 
-pub fn name_of(f: Figure) -> Name
-    ensures { λ r. ⌜ r ≡ nameOf f ⌝ }
+pub fn name_of(figure: Figure) -> Name
+    ensures { λ name. ⌜ name ≡ nameOf figure ⌝ }
 {
-    match f {
+    match figure {
         Figure::Quadrilateral => Name { code: 1, n: 0 },
         Figure::PointInTriangle => Name { code: 2, n: 3 },
         Figure::CentralTriangle => Name { code: 3, n: 3 },

@@ -1,11 +1,4 @@
 // The lowest place at which a value lies outside its range: document 01, "The lowest place is named".
-use refusals::LEAST_ANGLE;
-use refusals::LEAST_DIFFERENCE;
-use refusals::LEAST_LOG_SINE;
-use refusals::Lowest;
-use refusals::MOST_ANGLE;
-use refusals::MOST_DIFFERENCE;
-use refusals::MOST_LOG_SINE;
 ghost use mathlib.Core.Path.{_≡_};
 ghost use lib.IntN.{pos, _+ℤ_};
 ghost use lib.ListN.{getD};
@@ -13,6 +6,13 @@ ghost use Rattle.refusals.specs.Questions.{asked, outside, outsideSigned};
 ghost use Rattle.refusals.specs.Ranges.{leastAngle, mostAngle};
 ghost use Rattle.refusals.specs.Table.{sineEntryOutside};
 ghost use Rattle.judging.specs.Searches.{lowestOutside, lowestSignedOutside, resultsOf, lowestEntryOutside};
+use refusals::LEAST_ANGLE;
+use refusals::LEAST_DIFFERENCE;
+use refusals::LEAST_LOG_SINE;
+use refusals::Lowest;
+use refusals::MOST_ANGLE;
+use refusals::MOST_DIFFERENCE;
+use refusals::MOST_LOG_SINE;
 
 fn is_outside(value: u32, least: u32, most: u32) -> bool
     ensures { λ fails. ⌜ fails ≡ asked (outside least most value) ⌝ }
@@ -77,7 +77,8 @@ fn is_result_outside(angle: u32, correction: i32) -> bool
 }
 
 pub(crate) fn lowest_result_outside(angles: &[u32], corrections: &[i32]) -> Lowest
-    ensures { λ lowest. ⌜ lowest ≡ lowestSignedOutside (resultsOf (now (angles .entry)) (now (corrections .entry))) (pos leastAngle) (pos mostAngle) ⌝ }
+    ensures { λ lowest.
+        ⌜ lowest ≡ lowestSignedOutside (resultsOf (now (angles .entry)) (now (corrections .entry))) (pos leastAngle) (pos mostAngle) ⌝ }
 {
     let mut passed = 0;
     while passed < angles.len() {

@@ -1,5 +1,11 @@
 // The tests of the table, each once: what a row says of the values that are given. refusals/specs/Table.antt has the
 // rows.
+ghost use mathlib.Core.Path.{_≡_};
+ghost use Rattle.refusals.specs.Order.{verdictOf};
+ghost use Rattle.refusals.specs.Questions.{sameNumbers};
+ghost use Rattle.refusals.specs.Table.{lengthsRow, limitOrToleranceRow, anglesRow, fixedRow, misclosuresRow};
+ghost use Rattle.refusals.specs.Table.{resultsRow, sineEntriesRow, sumOfSquaresRow};
+ghost use Rattle.judging.specs.Searches.{resultsOf};
 use crate::search::lowest_entry_outside;
 use crate::search::lowest_outside;
 use crate::search::lowest_result_outside;
@@ -9,11 +15,6 @@ use refusals::Lowest;
 use refusals::MOST_ANGLE;
 use refusals::Refusal;
 use refusals::Verdict;
-ghost use mathlib.Core.Path.{_≡_};
-ghost use Rattle.refusals.specs.Order.{verdictOf};
-ghost use Rattle.refusals.specs.Questions.{sameNumbers};
-ghost use Rattle.refusals.specs.Table.{lengthsRow, limitOrToleranceRow, anglesRow, fixedRow, misclosuresRow, resultsRow, sineEntriesRow, sumOfSquaresRow};
-ghost use Rattle.judging.specs.Searches.{resultsOf};
 
 fn same_numbers(lent: &[usize], own: &[usize]) -> bool
     ensures { λ same. ⌜ same ≡ sameNumbers (now (lent .entry)) (now (own .entry)) ⌝ }

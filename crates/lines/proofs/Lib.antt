@@ -1,3 +1,5 @@
+-- The lines read back as what they print (`ReadingBack`), how long they are at most (`Lengths`), and the printed sheets of document 01 (`Cases`). `Texts` and
+-- `Laid` are for the proofs of the functions that lay them.
 pub mod Cases
 pub mod Laid
 pub mod Lengths

@@ -15,7 +15,7 @@ use figures::Figure;
 
 pub fn first_lines(
     buffer: &mut [u8],
-    f: Figure,
+    figure: Figure,
     given: &[u32],
     numerators: &[i32],
     rounded: &[i32],
@@ -23,13 +23,13 @@ pub fn first_lines(
     misclosures: &[i32],
     rests: &[i32],
 ) -> usize
-    ensures { λ r. ⌜ Holds (now (buffer .entry))
-        (firstText f (naturals (now (given .entry))) (vector (now (numerators .entry))) (vector (now (rounded .entry)))
+    ensures { λ next. ⌜ Holds (now (buffer .entry))
+        (firstText figure (naturals (now (given .entry))) (vector (now (numerators .entry))) (vector (now (rounded .entry)))
         (naturals (now (results .entry))) (vector (now (misclosures .entry))) (vector (now (rests .entry))))
-        (now (buffer .exit)) r ⌝ }
+        (now (buffer .exit)) next ⌝ }
 {
-    let counts = tables::counts_of(f);
-    let after_figure = put_figure_line(buffer, f);
+    let counts = figure_tables::counts_of(figure);
+    let after_figure = put_figure_line(buffer, figure);
     let after_angles = put_angles(
         buffer,
         after_figure,
@@ -42,12 +42,12 @@ pub fn first_lines(
     put_conditions(buffer, after_angles, counts.conditions, misclosures, rests)
 }
 
-fn put_figure_line(buffer: &mut [u8], f: Figure) -> usize
-    ensures { λ r. ⌜ Lays (line (firstFigure f)) (now (buffer .entry)) 0 (now (buffer .exit)) r ⌝ }
+fn put_figure_line(buffer: &mut [u8], figure: Figure) -> usize
+    ensures { λ next. ⌜ Lays (line (firstFigure figure)) (now (buffer .entry)) 0 (now (buffer .exit)) next ⌝ }
 {
-    let counts = tables::counts_of(f);
+    let counts = figure_tables::counts_of(figure);
     let denominator = counts.denominator as i64;
-    let after_start = put_figure_start(buffer, f);
+    let after_start = put_figure_start(buffer, figure);
     put_line(
         buffer,
         after_start,
@@ -67,8 +67,8 @@ fn put_angles(
     results: &[u32],
 ) -> usize
     requires { ⌜ count ≤ 24 ⌝ }
-    ensures { λ r. ⌜ Lays (lines (listed count (firstAngle (naturals (now (given .entry))) (vector (now (numerators .entry)))
-        (vector (now (rounded .entry))) (naturals (now (results .entry)))))) (now (buffer .entry)) at (now (buffer .exit)) r ⌝ }
+    ensures { λ next. ⌜ Lays (lines (listed count (firstAngle (naturals (now (given .entry))) (vector (now (numerators .entry)))
+        (vector (now (rounded .entry))) (naturals (now (results .entry)))))) (now (buffer .entry)) at (now (buffer .exit)) next ⌝ }
 {
     let mut position = at;
     let mut i = 0;
@@ -89,8 +89,8 @@ fn put_angle(
     results: &[u32],
 ) -> usize
     requires { ⌜ i < 24 ⌝ }
-    ensures { λ r. ⌜ Lays (line (firstAngle (naturals (now (given .entry))) (vector (now (numerators .entry)))
-        (vector (now (rounded .entry))) (naturals (now (results .entry))) i)) (now (buffer .entry)) at (now (buffer .exit)) r ⌝ }
+    ensures { λ next. ⌜ Lays (line (firstAngle (naturals (now (given .entry))) (vector (now (numerators .entry)))
+        (vector (now (rounded .entry))) (naturals (now (results .entry))) i)) (now (buffer .entry)) at (now (buffer .exit)) next ⌝ }
 {
     let number = (i + 1) as i64;
     let numbers = [
@@ -112,8 +112,8 @@ fn put_conditions(
     rests: &[i32],
 ) -> usize
     requires { ⌜ count ≤ 24 ⌝ }
-    ensures { λ r. ⌜ Lays (lines (listed count (firstCondition (vector (now (misclosures .entry))) (vector (now (rests .entry))))))
-        (now (buffer .entry)) at (now (buffer .exit)) r ⌝ }
+    ensures { λ next. ⌜ Lays (lines (listed count (firstCondition (vector (now (misclosures .entry))) (vector (now (rests .entry))))))
+        (now (buffer .entry)) at (now (buffer .exit)) next ⌝ }
 {
     let mut position = at;
     let mut j = 0;
@@ -132,8 +132,8 @@ fn put_condition(
     rests: &[i32],
 ) -> usize
     requires { ⌜ j < 24 ⌝ }
-    ensures { λ r. ⌜ Lays (line (firstCondition (vector (now (misclosures .entry))) (vector (now (rests .entry))) j))
-        (now (buffer .entry)) at (now (buffer .exit)) r ⌝ }
+    ensures { λ next. ⌜ Lays (line (firstCondition (vector (now (misclosures .entry))) (vector (now (rests .entry))) j))
+        (now (buffer .entry)) at (now (buffer .exit)) next ⌝ }
 {
     let number = (j + 1) as i64;
     let numbers = [

@@ -18,30 +18,30 @@ pub type Numbers = [i64; MOST_NUMBERS];
 
 // A word, with the space after it.
 pub(crate) fn put_word(buffer: &mut [u8], at: usize, word: &[u8]) -> usize
-    ensures { λ r. ⌜ Lays (now (word .entry)) (now (buffer .entry)) at (now (buffer .exit)) r ⌝ }
+    ensures { λ next. ⌜ Lays (now (word .entry)) (now (buffer .entry)) at (now (buffer .exit)) next ⌝ }
 {
     text::put_word(buffer, at, word)
 }
 
 // A number and the byte that ends it.
 pub(crate) fn put_part(buffer: &mut [u8], at: usize, value: i64, end: u8) -> usize
-    ensures { λ r. ⌜ Lays (decimal value ++ (end ∷ [])) (now (buffer .entry)) at (now (buffer .exit)) r ⌝ }
+    ensures { λ next. ⌜ Lays (decimal value ++ (end ∷ [])) (now (buffer .entry)) at (now (buffer .exit)) next ⌝ }
 {
-    let after = numerals::put_number(buffer, at, value);
+    let after = text::put_number(buffer, at, value);
     text::put_byte(buffer, after, end)
 }
 
 pub(crate) fn put_natural(buffer: &mut [u8], at: usize, value: u64, end: u8) -> usize
-    ensures { λ r. ⌜ Lays (decimal (pos value) ++ (end ∷ [])) (now (buffer .entry)) at (now (buffer .exit)) r ⌝ }
+    ensures { λ next. ⌜ Lays (decimal (pos value) ++ (end ∷ [])) (now (buffer .entry)) at (now (buffer .exit)) next ⌝ }
 {
-    let after = numerals::put_natural(buffer, at, value);
+    let after = text::put_natural(buffer, at, value);
     text::put_byte(buffer, after, end)
 }
 
 // The first `count` numbers as a line.
 pub(crate) fn put_numbers(buffer: &mut [u8], at: usize, values: Numbers, count: usize) -> usize
     requires { ⌜ (0 < count) × (count ≤ 6) ⌝ }
-    ensures { λ r. ⌜ Lays (numbersLine count values) (now (buffer .entry)) at (now (buffer .exit)) r ⌝ }
+    ensures { λ next. ⌜ Lays (numbersLine count values) (now (buffer .entry)) at (now (buffer .exit)) next ⌝ }
 {
     let mut position = at;
     let mut done = 0;
@@ -61,17 +61,17 @@ pub(crate) fn put_line(
     count: usize,
 ) -> usize
     requires { ⌜ (0 < count) × (count ≤ 6) ⌝ }
-    ensures { λ r. ⌜ Lays (now (word .entry) ++ numbersLine count values) (now (buffer .entry)) at (now (buffer .exit)) r ⌝ }
+    ensures { λ next. ⌜ Lays (now (word .entry) ++ numbersLine count values) (now (buffer .entry)) at (now (buffer .exit)) next ⌝ }
 {
     let after = put_word(buffer, at, word);
     put_numbers(buffer, after, values, count)
 }
 
 // How the figure's line begins.
-pub(crate) fn put_figure_start(buffer: &mut [u8], f: Figure) -> usize
-    ensures { λ r. ⌜ Lays (figureStart f) (now (buffer .entry)) 0 (now (buffer .exit)) r ⌝ }
+pub(crate) fn put_figure_start(buffer: &mut [u8], figure: Figure) -> usize
+    ensures { λ next. ⌜ Lays (figureStart figure) (now (buffer .entry)) 0 (now (buffer .exit)) next ⌝ }
 {
-    let name = figures::name_of(f);
+    let name = figures::name_of(figure);
     let after_word = put_word(buffer, 0, b"figure ");
     let after_code = put_natural(buffer, after_word, name.code as u64, SPACE);
     put_natural(buffer, after_code, name.n as u64, SPACE)

@@ -6,7 +6,7 @@ use crate::put::put_word;
 use refusals::Refusal;
 
 pub fn refused_lines(buffer: &mut [u8], refusal: Refusal) -> usize
-    ensures { λ r. ⌜ Holds (now (buffer .entry)) (refusedText refusal) (now (buffer .exit)) r ⌝ }
+    ensures { λ next. ⌜ Holds (now (buffer .entry)) (refusedText refusal) (now (buffer .exit)) next ⌝ }
 {
     let number = refusals::number_of(refusal) as u64;
     let place = refusals::place_of(refusal) as u64;

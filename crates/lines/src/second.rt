@@ -18,7 +18,7 @@ use figures::Figure;
 
 pub fn second_lines(
     buffer: &mut [u8],
-    f: Figure,
+    figure: Figure,
     w: i64,
     s: i64,
     given: &[u32],
@@ -28,13 +28,13 @@ pub fn second_lines(
     results: &[u32],
     rests: &[i32],
 ) -> usize
-    ensures { λ r. ⌜ Holds (now (buffer .entry))
-        (secondText f w s (naturals (now (given .entry))) (vector (now (reduced .entry))) (vector (now (numerators .entry)))
+    ensures { λ next. ⌜ Holds (now (buffer .entry))
+        (secondText figure w s (naturals (now (given .entry))) (vector (now (reduced .entry))) (vector (now (numerators .entry)))
         (vector (now (rounded .entry))) (naturals (now (results .entry))) (vector (now (rests .entry))))
-        (now (buffer .exit)) r ⌝ }
+        (now (buffer .exit)) next ⌝ }
 {
-    let counts = tables::counts_of(f);
-    let after_figure = put_figure_line(buffer, f, w, s);
+    let counts = figure_tables::counts_of(figure);
+    let after_figure = put_figure_line(buffer, figure, w, s);
     let after_angles = put_angles(
         buffer,
         after_figure,
@@ -48,10 +48,10 @@ pub fn second_lines(
     put_conditions(buffer, after_angles, counts.conditions, rests)
 }
 
-fn put_figure_line(buffer: &mut [u8], f: Figure, w: i64, s: i64) -> usize
-    ensures { λ r. ⌜ Lays (line (secondFigure f w s)) (now (buffer .entry)) 0 (now (buffer .exit)) r ⌝ }
+fn put_figure_line(buffer: &mut [u8], figure: Figure, w: i64, s: i64) -> usize
+    ensures { λ next. ⌜ Lays (line (secondFigure figure w s)) (now (buffer .entry)) 0 (now (buffer .exit)) next ⌝ }
 {
-    let after_start = put_figure_start(buffer, f);
+    let after_start = put_figure_start(buffer, figure);
     let after_word = put_word(buffer, after_start, b"W ");
     let after_w = put_part(buffer, after_word, w, b' ');
     put_line(buffer, after_w, b"S ", [s, 0, 0, 0, 0, 0], 1)
@@ -68,9 +68,9 @@ fn put_angles(
     results: &[u32],
 ) -> usize
     requires { ⌜ count ≤ 24 ⌝ }
-    ensures { λ r. ⌜ Lays (lines (listed count (secondAngle (naturals (now (given .entry))) (vector (now (reduced .entry)))
+    ensures { λ next. ⌜ Lays (lines (listed count (secondAngle (naturals (now (given .entry))) (vector (now (reduced .entry)))
         (vector (now (numerators .entry))) (vector (now (rounded .entry))) (naturals (now (results .entry))))))
-        (now (buffer .entry)) at (now (buffer .exit)) r ⌝ }
+        (now (buffer .entry)) at (now (buffer .exit)) next ⌝ }
 {
     let mut position = at;
     let mut i = 0;
@@ -101,9 +101,9 @@ fn put_angle(
     results: &[u32],
 ) -> usize
     requires { ⌜ i < 24 ⌝ }
-    ensures { λ r. ⌜ Lays (line (secondAngle (naturals (now (given .entry))) (vector (now (reduced .entry)))
+    ensures { λ next. ⌜ Lays (line (secondAngle (naturals (now (given .entry))) (vector (now (reduced .entry)))
         (vector (now (numerators .entry))) (vector (now (rounded .entry))) (naturals (now (results .entry))) i))
-        (now (buffer .entry)) at (now (buffer .exit)) r ⌝ }
+        (now (buffer .entry)) at (now (buffer .exit)) next ⌝ }
 {
     let number = (i + 1) as i64;
     let numbers = [
@@ -119,8 +119,8 @@ fn put_angle(
 
 fn put_conditions(buffer: &mut [u8], at: usize, count: usize, rests: &[i32]) -> usize
     requires { ⌜ count ≤ 24 ⌝ }
-    ensures { λ r. ⌜ Lays (lines (listed count (secondCondition (vector (now (rests .entry))))))
-        (now (buffer .entry)) at (now (buffer .exit)) r ⌝ }
+    ensures { λ next. ⌜ Lays (lines (listed count (secondCondition (vector (now (rests .entry))))))
+        (now (buffer .entry)) at (now (buffer .exit)) next ⌝ }
 {
     let mut position = at;
     let mut j = 0;
@@ -133,7 +133,7 @@ fn put_conditions(buffer: &mut [u8], at: usize, count: usize, rests: &[i32]) -> 
 
 fn put_condition(buffer: &mut [u8], at: usize, j: usize, rests: &[i32]) -> usize
     requires { ⌜ j < 24 ⌝ }
-    ensures { λ r. ⌜ Lays (line (secondCondition (vector (now (rests .entry))) j)) (now (buffer .entry)) at (now (buffer .exit)) r ⌝ }
+    ensures { λ next. ⌜ Lays (line (secondCondition (vector (now (rests .entry))) j)) (now (buffer .entry)) at (now (buffer .exit)) next ⌝ }
 {
     let number = (j + 1) as i64;
     let numbers = [number, signed_at(rests, j), 0, 0, 0, 0];

@@ -3,7 +3,7 @@ ghost use mathlib.Core.Path.{_≡_};
 ghost use Rattle.whole.specs.Sums.{naturals, vector};
 
 pub(crate) fn natural_at(values: &[u32], i: usize) -> i64
-    ensures { λ r. ⌜ r ≡ naturals (now (values .entry)) i ⌝ }
+    ensures { λ value. ⌜ value ≡ naturals (now (values .entry)) i ⌝ }
 {
     if i < values.len() {
         values[i] as i64
@@ -13,7 +13,7 @@ pub(crate) fn natural_at(values: &[u32], i: usize) -> i64
 }
 
 pub(crate) fn signed_at(values: &[i32], i: usize) -> i64
-    ensures { λ r. ⌜ r ≡ vector (now (values .entry)) i ⌝ }
+    ensures { λ value. ⌜ value ≡ vector (now (values .entry)) i ⌝ }
 {
     if i < values.len() {
         values[i] as i64
@@ -23,7 +23,7 @@ pub(crate) fn signed_at(values: &[i32], i: usize) -> i64
 }
 
 pub(crate) fn wide_at(values: &[i64], i: usize) -> i64
-    ensures { λ r. ⌜ r ≡ vector (now (values .entry)) i ⌝ }
+    ensures { λ value. ⌜ value ≡ vector (now (values .entry)) i ⌝ }
 {
     if i < values.len() { values[i] } else { 0 }
 }

@@ -11,9 +11,9 @@ use Rattle.refusals.specs.Ranges.{mostLimit}
 use Rattle.figures.specs.declared.Figure.{Figure}
 use Rattle.figures.specs.Figure.{conditionCount}
 use Rattle.figures.specs.Numerators.{conditionSum}
-use Rattle.method.specs.FirstPass.{misclosure, firstNumerator, firstRounded, firstRest, misclosuresOf}
-use Rattle.method.proofs.FirstAccepted.{Accepted}
-use Rattle.method.proofs.WithinRange.{in-force-within}
+use Rattle.pass_rules.specs.FirstPass.{misclosure, firstNumerator, firstRounded, firstRest, misclosuresOf}
+use Rattle.pass_rules.proofs.FirstAccepted.{Accepted}
+use Rattle.pass_rules.proofs.WithinRange.{in-force-within}
 use Rattle.pass_steps.specs.Premises.{Within}
 use Rattle.pass_steps.proofs.Bounds.{condition-magnitude}
 use Rattle.pass_first.proofs.FirstPromised.{numerator-is, tenths-is}

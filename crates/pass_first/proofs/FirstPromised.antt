@@ -26,13 +26,13 @@ use Rattle.figures.specs.declared.Named.{Named}
 use Rattle.figures.specs.declared.Named.the-variants.{As, Nothing}
 use Rattle.figures.specs.Figure.{denominator, angleCount, conditionCount, figureOf, ofNamed}
 use Rattle.figures.specs.Numerators.{conditionSum, numerator}
-use Rattle.method.specs.FirstPass.{limitOf, misclosure, firstNumerator, firstRounded, corrected, firstRest, misclosuresOf, numeratorsOf, roundedOf, restsOf, firstLengths, givenRows, firstRows, firstPassRows, firstPassVerdict}
-use Rattle.method.specs.Pass.{given}
-use Rattle.method.proofs.FirstAccepted.{Entries, entries-passed}
-use Rattle.method.proofs.PassRows.{none-judged, one-judged}
-use Rattle.method.proofs.WithinRange as range
+use Rattle.pass_rules.specs.FirstPass.{limitOf, misclosure, firstNumerator, firstRounded, corrected, firstRest, misclosuresOf, numeratorsOf, roundedOf, restsOf, firstLengths, givenRows, firstRows, firstPassRows, firstPassVerdict}
+use Rattle.pass_rules.specs.Pass.{given}
+use Rattle.pass_rules.proofs.FirstAccepted.{Entries, entries-passed}
+use Rattle.pass_rules.proofs.PassRows.{none-judged, one-judged}
+use Rattle.pass_rules.proofs.WithinRange as range
 use Rattle.pass_steps.specs.Premises.{Angles, Within}
-use Rattle.method.specs.Promises.{FirstGiven, FirstLent, firstLent, firstSlices, firstLengthsLent, firstAnswer, firstValuesOf, firstValues, FirstPromise, firstVerdictOf, FirstPromiseOf}
+use Rattle.pass_rules.specs.Promises.{FirstGiven, FirstLent, firstLent, firstSlices, firstLengthsLent, firstAnswer, firstValuesOf, firstValues, FirstPromise, firstVerdictOf, FirstPromiseOf}
 use Rattle.pass_steps.specs.Steps.{StoredIf, numeratorsFrom, resultsFrom}
 use Rattle.pass_first.specs.Steps.{tenthsFrom, tenthsOf, restsFrom, firstFrom}
 use Rattle.pass_steps.proofs.Judged.{kept}

@@ -17,7 +17,7 @@ use Rattle.figures.specs.declared.Target.{Target}
 use Rattle.figures.specs.declared.Target.the-variants.{HalfTurn, FullTurn, FixedAngle, NoCondition}
 use Rattle.figures.specs.Figure.{denominator, angleCount}
 use Rattle.figures.specs.Numerators.{numerator}
-use Rattle.method.specs.FirstPass.{shouldBe}
+use Rattle.pass_rules.specs.FirstPass.{shouldBe}
 use Rattle.pass_steps.specs.Premises.{Within, Angles}
 use Rattle.pass_steps.specs.Steps.{numeratorsFrom}
 use Rattle.pass_steps.proofs.Bounds.{numerator-magnitude}

@@ -9,7 +9,7 @@ use Rattle.whole.specs.Sums.{vector}
 use Rattle.figures.specs.declared.Figure.{Figure}
 use Rattle.figures.specs.Figure.{denominator, angleCount, conditionCount}
 use Rattle.figures.specs.Numerators.{conditionSum, numerator}
-use Rattle.method.specs.Promises.{FirstLent, firstLent}
+use Rattle.pass_rules.specs.Promises.{FirstLent, firstLent}
 use Rattle.pass_steps.specs.Steps.{numeratorsFrom, resultsFrom}
 
 -- the rounded correction of an angle, and of each

@@ -9,8 +9,8 @@ ghost use Rattle.refusals.specs.Ranges.{mostLimit};
 ghost use Rattle.refusals.specs.Table.{resultsRow};
 ghost use Rattle.judging.specs.Searches.{resultsOf};
 ghost use Rattle.figures.specs.Figure.{angleCount, conditionCount};
-ghost use Rattle.method.specs.FirstPass.{firstResultLengths};
-ghost use Rattle.method.specs.Promises.{firstLent, firstResultsLent};
+ghost use Rattle.pass_rules.specs.FirstPass.{firstResultLengths};
+ghost use Rattle.pass_rules.specs.Promises.{firstLent, firstResultsLent};
 ghost use Rattle.pass_steps.specs.Premises.{Within, Angles, mostSummed, mostTotal};
 ghost use Rattle.pass_steps.specs.Steps.{StoredIf, numeratorsFrom};
 ghost use Rattle.pass_first.specs.Steps.{tenthsOf, restsFrom, firstFrom, Stored};
@@ -25,7 +25,7 @@ use refusals::Verdict;
 
 // Number 6 has passed.
 pub(crate) fn first_corrected(
-    f: Figure,
+    figure: Figure,
     angles: &[u32],
     w: &[i32],
     misclosures: &mut [i32],
@@ -34,14 +34,14 @@ pub(crate) fn first_corrected(
     corrected: &mut [u32],
     rests: &mut [i32],
 ) -> Verdict
-    requires { ⌜ length (now angles) ≡ angleCount f ⌝ }
-    requires { ⌜ length (now w) ≡ conditionCount f ⌝ }
+    requires { ⌜ length (now angles) ≡ angleCount figure ⌝ }
+    requires { ⌜ length (now w) ≡ conditionCount figure ⌝ }
     requires { ⌜ firstResultsLent (firstLent (now misclosures) (now numerators) (now rounded) (now corrected) (now rests))
-        ≡ firstResultLengths f ⌝ }
+        ≡ firstResultLengths figure ⌝ }
     requires { ⌜ Within mostLimit (now w) ⌝ }
     ensures { λ answer.
-        ⌜ StoredIf (verdictOf (resultsRow (resultsOf (now (angles .entry)) (tenthsOf f (now (w .entry))))))
-        (firstFrom f (now (angles .entry)) (now (w .entry)))
+        ⌜ StoredIf (verdictOf (resultsRow (resultsOf (now (angles .entry)) (tenthsOf figure (now (w .entry))))))
+        (firstFrom figure (now (angles .entry)) (now (w .entry)))
         (firstLent (now (misclosures .entry)) (now (numerators .entry)) (now (rounded .entry))
         (now (corrected .entry)) (now (rests .entry))) answer
         (firstLent (now (misclosures .exit)) (now (numerators .exit)) (now (rounded .exit)) (now (corrected .exit)) (now (rests .exit))) ⌝ }
@@ -49,11 +49,11 @@ pub(crate) fn first_corrected(
     let n = angles.len();
     let mut exact = [0i32; MOST_ANGLES];
     let mut tenths = [0i32; MOST_ANGLES];
-    corrections_into(f, w, &mut exact[..n], &mut tenths[..n]);
+    corrections_into(figure, w, &mut exact[..n], &mut tenths[..n]);
     let outside = results_into(angles, &tenths[..n], corrected);
     if let Verdict::Passed = outside {
         store_first(
-            f,
+            figure,
             w,
             &exact[..n],
             &tenths[..n],
@@ -67,21 +67,21 @@ pub(crate) fn first_corrected(
 }
 
 // Numerators and rounded corrections.
-fn corrections_into(f: Figure, w: &[i32], exact: &mut [i32], tenths: &mut [i32])
-    requires { ⌜ length (now w) ≡ conditionCount f ⌝ }
-    requires { ⌜ length (now exact) ≡ angleCount f ⌝ }
-    requires { ⌜ length (now tenths) ≡ angleCount f ⌝ }
+fn corrections_into(figure: Figure, w: &[i32], exact: &mut [i32], tenths: &mut [i32])
+    requires { ⌜ length (now w) ≡ conditionCount figure ⌝ }
+    requires { ⌜ length (now exact) ≡ angleCount figure ⌝ }
+    requires { ⌜ length (now tenths) ≡ angleCount figure ⌝ }
     requires { ⌜ Within mostLimit (now w) ⌝ }
-    ensures { λ _. ⌜ now (exact .exit) ≡ numeratorsFrom f (now (w .entry)) ⌝ }
-    ensures { λ _. ⌜ now (tenths .exit) ≡ tenthsOf f (now (w .entry)) ⌝ }
+    ensures { λ _. ⌜ now (exact .exit) ≡ numeratorsFrom figure (now (w .entry)) ⌝ }
+    ensures { λ _. ⌜ now (tenths .exit) ≡ tenthsOf figure (now (w .entry)) ⌝ }
 {
-    numerators_into(f, w, exact);
-    rounded_into(f, exact, tenths);
+    numerators_into(figure, w, exact);
+    rounded_into(figure, exact, tenths);
 }
 
 // The stores, once no row holds.
 fn store_first(
-    f: Figure,
+    figure: Figure,
     w: &[i32],
     exact: &[i32],
     tenths: &[i32],
@@ -90,22 +90,22 @@ fn store_first(
     rounded: &mut [i32],
     rests: &mut [i32],
 )
-    requires { ⌜ length (now w) ≡ conditionCount f ⌝ }
-    requires { ⌜ length (now exact) ≡ angleCount f ⌝ }
-    requires { ⌜ length (now tenths) ≡ angleCount f ⌝ }
-    requires { ⌜ length (now misclosures) ≡ conditionCount f ⌝ }
-    requires { ⌜ length (now numerators) ≡ angleCount f ⌝ }
-    requires { ⌜ length (now rounded) ≡ angleCount f ⌝ }
-    requires { ⌜ length (now rests) ≡ conditionCount f ⌝ }
+    requires { ⌜ length (now w) ≡ conditionCount figure ⌝ }
+    requires { ⌜ length (now exact) ≡ angleCount figure ⌝ }
+    requires { ⌜ length (now tenths) ≡ angleCount figure ⌝ }
+    requires { ⌜ length (now misclosures) ≡ conditionCount figure ⌝ }
+    requires { ⌜ length (now numerators) ≡ angleCount figure ⌝ }
+    requires { ⌜ length (now rounded) ≡ angleCount figure ⌝ }
+    requires { ⌜ length (now rests) ≡ conditionCount figure ⌝ }
     requires { ⌜ Within mostLimit (now w) ⌝ }
     requires { ⌜ Within mostSummed (now tenths) ⌝ }
     ensures { λ _. ⌜ Stored (now (misclosures .exit)) (now (numerators .exit)) (now (rounded .exit)) (now (rests .exit))
-        (now (w .entry)) (now (exact .entry)) (now (tenths .entry)) (restsFrom f (now (w .entry)) (now (tenths .entry))) ⌝ }
+        (now (w .entry)) (now (exact .entry)) (now (tenths .entry)) (restsFrom figure (now (w .entry)) (now (tenths .entry))) ⌝ }
 {
     store_signed(w, misclosures);
     store_signed(exact, numerators);
     store_signed(tenths, rounded);
-    condition_sums(f, tenths, rests);
+    condition_sums(figure, tenths, rests);
     add_misclosures(w, rests);
 }
 
@@ -113,7 +113,8 @@ fn add_misclosures(w: &[i32], rests: &mut [i32])
     requires { ⌜ length (now rests) ≡ length (now w) ⌝ }
     requires { ⌜ Within mostLimit (now w) ⌝ }
     requires { ⌜ Within mostTotal (now rests) ⌝ }
-    ensures { λ _. ⌜ now (rests .exit) ≡ listed (length (now (w .entry))) (λ j. vector (now (w .entry)) j +ℤ vector (now (rests .entry)) j) ⌝ }
+    ensures { λ _. ⌜ now (rests .exit)
+        ≡ listed (length (now (w .entry))) (λ j. vector (now (w .entry)) j +ℤ vector (now (rests .entry)) j) ⌝ }
 {
     let mut j = 0;
     while j < rests.len() {

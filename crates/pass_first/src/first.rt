@@ -1,5 +1,5 @@
 // The first pass over lent slices: document 01, "The two passes".
-ghost use Rattle.method.specs.Promises.{firstGiven, firstLent, FirstPromise, FirstPromiseOf};
+ghost use Rattle.pass_rules.specs.Promises.{firstGiven, firstLent, FirstPromise, FirstPromiseOf};
 use crate::corrections::first_corrected;
 use crate::misclosures::misclosures_into;
 use figures::Figure;
@@ -27,11 +27,11 @@ pub fn first_pass(
         (now (corrected .entry)) (now (rests .entry))) answer
         (firstLent (now (misclosures .exit)) (now (numerators .exit)) (now (rounded .exit)) (now (corrected .exit)) (now (rests .exit))) ⌝ }
 {
-    let Named::As(f) = figures::figure_of(code, n) else {
+    let Named::As(figure) = figures::figure_of(code, n) else {
         return Verdict::Failed(Refusal::NoSuchFigure);
     };
     first_pass_of(
-        f,
+        figure,
         limit,
         angles,
         fixed,
@@ -45,7 +45,7 @@ pub fn first_pass(
 
 // The same of a figure that is named already.
 pub fn first_pass_of(
-    f: Figure,
+    figure: Figure,
     limit: u32,
     angles: &[u32],
     fixed: &[u32],
@@ -55,7 +55,7 @@ pub fn first_pass_of(
     corrected: &mut [u32],
     rests: &mut [i32],
 ) -> Verdict
-    ensures { λ answer. ⌜ FirstPromiseOf f limit (now (angles .entry)) (now (fixed .entry))
+    ensures { λ answer. ⌜ FirstPromiseOf figure limit (now (angles .entry)) (now (fixed .entry))
         (firstLent (now (misclosures .entry)) (now (numerators .entry)) (now (rounded .entry))
         (now (corrected .entry)) (now (rests .entry))) answer
         (firstLent (now (misclosures .exit)) (now (numerators .exit)) (now (rounded .exit)) (now (corrected .exit)) (now (rests .exit))) ⌝ }
@@ -67,19 +67,19 @@ pub fn first_pass_of(
         corrected.len(),
         rests.len(),
     ];
-    let before = method::first_given_verdict(f, limit, angles, fixed, results);
+    let before = pass_rules::first_given_verdict(figure, limit, angles, fixed, results);
     if let Verdict::Failed(_) = before {
         return before;
     }
     let m = misclosures.len();
     let mut w = [0i32; MOST_CONDITIONS];
-    misclosures_into(f, angles, fixed, &mut w[..m]);
-    let beyond = misclosures_verdict(&w[..m], method::limit_in_force(limit));
+    misclosures_into(figure, angles, fixed, &mut w[..m]);
+    let beyond = misclosures_verdict(&w[..m], pass_rules::limit_in_force(limit));
     if let Verdict::Failed(_) = beyond {
         return beyond;
     }
     first_corrected(
-        f,
+        figure,
         angles,
         &w[..m],
         misclosures,

@@ -6,9 +6,10 @@ ghost use lib.ListN.{length};
 ghost use Rattle.whole.specs.Lists.{listed};
 ghost use Rattle.whole.specs.Sums.{vector};
 ghost use Rattle.figures.specs.Figure.{angleCount, conditionCount, fixedCount, targetOf};
-ghost use Rattle.method.specs.FirstPass.{shouldBe, misclosuresOf};
-ghost use Rattle.method.specs.Pass.{given};
+ghost use Rattle.pass_rules.specs.FirstPass.{shouldBe, misclosuresOf};
+ghost use Rattle.pass_rules.specs.Pass.{given};
 ghost use Rattle.pass_steps.specs.Premises.{Within, Angles, mostTotal};
+use figure_tables::PointInTriangle;
 use figures::Figure;
 use figures::MOST_ANGLES;
 use pass_steps::condition_sums;
@@ -18,22 +19,19 @@ const HALF_TURN: i32 = 6480000;
 
 const FULL_TURN: i32 = 12960000;
 
-// The triangles of a point in a known triangle.
-const TRIANGLES: usize = 3;
-
-pub(crate) fn misclosures_into(f: Figure, angles: &[u32], fixed: &[u32], w: &mut [i32])
-    requires { ⌜ length (now angles) ≡ angleCount f ⌝ }
-    requires { ⌜ length (now fixed) ≡ fixedCount f ⌝ }
-    requires { ⌜ length (now w) ≡ conditionCount f ⌝ }
+pub(crate) fn misclosures_into(figure: Figure, angles: &[u32], fixed: &[u32], w: &mut [i32])
+    requires { ⌜ length (now angles) ≡ angleCount figure ⌝ }
+    requires { ⌜ length (now fixed) ≡ fixedCount figure ⌝ }
+    requires { ⌜ length (now w) ≡ conditionCount figure ⌝ }
     requires { ⌜ Angles (now angles) ⌝ }
     requires { ⌜ Angles (now fixed) ⌝ }
-    ensures { λ _. ⌜ now (w .exit) ≡ misclosuresOf f (now (angles .entry)) (now (fixed .entry)) ⌝ }
+    ensures { λ _. ⌜ now (w .exit) ≡ misclosuresOf figure (now (angles .entry)) (now (fixed .entry)) ⌝ }
 {
     let n = angles.len();
     let mut observed = [0i32; MOST_ANGLES];
     signed_into(angles, &mut observed[..n]);
-    condition_sums(f, &observed[..n], w);
-    less_targets(f, fixed, w);
+    condition_sums(figure, &observed[..n], w);
+    less_targets(figure, fixed, w);
 }
 
 fn signed_into(angles: &[u32], signed: &mut [i32])
@@ -48,35 +46,36 @@ fn signed_into(angles: &[u32], signed: &mut [i32])
     }
 }
 
-fn less_targets(f: Figure, fixed: &[u32], w: &mut [i32])
-    requires { ⌜ length (now fixed) ≡ fixedCount f ⌝ }
-    requires { ⌜ length (now w) ≡ conditionCount f ⌝ }
+fn less_targets(figure: Figure, fixed: &[u32], w: &mut [i32])
+    requires { ⌜ length (now fixed) ≡ fixedCount figure ⌝ }
+    requires { ⌜ length (now w) ≡ conditionCount figure ⌝ }
     requires { ⌜ Within mostTotal (now w) ⌝ }
     requires { ⌜ Angles (now fixed) ⌝ }
-    ensures { λ _. ⌜ now (w .exit) ≡ listed (conditionCount f) (λ j. vector (now (w .entry)) j -ℤ shouldBe (targetOf f (suc j)) (now (fixed .entry))) ⌝ }
+    ensures { λ _. ⌜ now (w .exit)
+        ≡ listed (conditionCount figure) (λ j. vector (now (w .entry)) j -ℤ shouldBe (targetOf figure (suc j)) (now (fixed .entry))) ⌝ }
 {
     let mut j = 0;
     while j < w.len() {
-        w[j] = w[j] - should_be(f, fixed, j, w.len());
+        w[j] = w[j] - should_be(figure, fixed, j, w.len());
         j += 1;
     }
 }
 
 // What the angles of condition j should sum to, of a figure of so many conditions.
-fn should_be(f: Figure, fixed: &[u32], j: usize, conditions: usize) -> i32
-    requires { ⌜ length (now fixed) ≡ fixedCount f ⌝ }
-    requires { ⌜ conditions ≡ conditionCount f ⌝ }
+fn should_be(figure: Figure, fixed: &[u32], j: usize, conditions: usize) -> i32
+    requires { ⌜ length (now fixed) ≡ fixedCount figure ⌝ }
+    requires { ⌜ conditions ≡ conditionCount figure ⌝ }
     requires { ⌜ j < conditions ⌝ }
     requires { ⌜ Angles (now fixed) ⌝ }
-    ensures { λ r. ⌜ r ≡ shouldBe (targetOf f (suc j)) (now (fixed .entry)) ⌝ }
+    ensures { λ target. ⌜ target ≡ shouldBe (targetOf figure (suc j)) (now (fixed .entry)) ⌝ }
 {
-    match f {
+    match figure {
         Figure::Quadrilateral => HALF_TURN,
         Figure::PointInTriangle => {
-            if j < TRIANGLES {
+            if j < PointInTriangle::TRIANGLES {
                 HALF_TURN
             } else {
-                fixed[j - TRIANGLES] as i32
+                fixed[j - PointInTriangle::TRIANGLES] as i32
             }
         }
         _ => {

@@ -6,24 +6,24 @@ ghost use Rattle.whole.specs.Quotient.{roundedQuotient};
 ghost use Rattle.whole.specs.Sums.{vector};
 ghost use Rattle.figures.specs.Figure.{denominator};
 ghost use Rattle.pass_steps.specs.Premises.{Within, mostRounded};
+use figure_tables::CentralHeptagon;
+use figure_tables::CentralHexagon;
+use figure_tables::CentralOctagon;
+use figure_tables::CentralPentagon;
+use figure_tables::CentralQuadrilateral;
+use figure_tables::CentralTriangle;
+use figure_tables::PointInTriangle;
+use figure_tables::Quadrilateral;
 use figures::Figure;
-use tables::CentralHeptagon;
-use tables::CentralHexagon;
-use tables::CentralOctagon;
-use tables::CentralPentagon;
-use tables::CentralQuadrilateral;
-use tables::CentralTriangle;
-use tables::PointInTriangle;
-use tables::Quadrilateral;
 
 // The numerators over the figure's denominator, rounded. Each denominator is a constant of its type, so that nothing is divided at run time.
-pub(crate) fn rounded_into(f: Figure, numerators: &[i32], rounded: &mut [i32])
+pub(crate) fn rounded_into(figure: Figure, numerators: &[i32], rounded: &mut [i32])
     requires { ⌜ length (now rounded) ≡ length (now numerators) ⌝ }
     requires { ⌜ Within mostRounded (now numerators) ⌝ }
     ensures { λ _. ⌜ now (rounded .exit)
-        ≡ listed (length (now (numerators .entry))) (λ i. roundedQuotient (vector (now (numerators .entry)) i) (denominator f)) ⌝ }
+        ≡ listed (length (now (numerators .entry))) (λ i. roundedQuotient (vector (now (numerators .entry)) i) (denominator figure)) ⌝ }
 {
-    match f {
+    match figure {
         Figure::Quadrilateral => over(Quadrilateral::D as u64, numerators, rounded),
         Figure::PointInTriangle => over(PointInTriangle::D as u64, numerators, rounded),
         Figure::CentralTriangle => over(CentralTriangle::D as u64, numerators, rounded),

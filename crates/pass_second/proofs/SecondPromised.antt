@@ -23,13 +23,13 @@ use Rattle.figures.specs.declared.Figure.{Figure}
 use Rattle.figures.specs.declared.Named.{Named}
 use Rattle.figures.specs.declared.Named.the-variants.{As, Nothing}
 use Rattle.figures.specs.Figure.{angleCount, figureOf, ofNamed}
-use Rattle.method.specs.declared.second.SecondAnswer.{SecondAnswer}
-use Rattle.method.specs.declared.second.SecondAnswer.the-variants.{Refused}
-use Rattle.method.specs.SecondPass.{toleranceOf, secondReduced, sineMisclosure, sumOfSquares, differenceSquares, secondAdjusted, reducedOf, secondLengths, entryRows, sineRows, secondRows, secondPassRows, secondPassVerdict, secondAnswerOf, secondPassAnswer}
-use Rattle.method.proofs.PassRows.{one-judged}
-use Rattle.method.proofs.SecondAccepted.{Entries, entries-passed}
+use Rattle.pass_rules.specs.declared.second.SecondAnswer.{SecondAnswer}
+use Rattle.pass_rules.specs.declared.second.SecondAnswer.the-variants.{Refused}
+use Rattle.pass_rules.specs.SecondPass.{toleranceOf, secondReduced, sineMisclosure, sumOfSquares, differenceSquares, secondAdjusted, reducedOf, secondLengths, entryRows, sineRows, secondRows, secondPassRows, secondPassVerdict, secondAnswerOf, secondPassAnswer}
+use Rattle.pass_rules.proofs.PassRows.{one-judged}
+use Rattle.pass_rules.proofs.SecondAccepted.{Entries, entries-passed}
 use Rattle.pass_steps.specs.Premises.{Angles, LogSines, Within, mostRounded, mostMisclosure, mostReduced}
-use Rattle.method.specs.Promises.{SecondGiven, SecondLent, secondSlices, secondLengthsLent, secondVerdict, secondValuesOf, secondValues, SecondPromise, secondVerdictOf, SecondPromiseOf}
+use Rattle.pass_rules.specs.Promises.{SecondGiven, SecondLent, secondSlices, secondLengthsLent, secondVerdict, secondValuesOf, secondValues, SecondPromise, secondVerdictOf, SecondPromiseOf}
 use Rattle.pass_steps.specs.Steps.{StoredIf}
 use Rattle.pass_second.specs.Steps.{secondTenthsFrom, secondTenthsOf, secondFrom}
 use Rattle.pass_second.proofs.Reach.{tenths-most}

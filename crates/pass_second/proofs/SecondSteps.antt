@@ -22,11 +22,11 @@ use Rattle.judging.specs.Searches.{resultsOf}
 use Rattle.figures.specs.declared.Figure.{Figure}
 use Rattle.figures.specs.Figure.{denominator, angleCount, conditionCount}
 use Rattle.figures.specs.Numerators.{conditionSum}
-use Rattle.method.specs.Pass.{given}
-use Rattle.method.specs.SecondPass.{secondReduced, sineMisclosure, sumOfSquares, secondNumerator, secondRounded, secondAdjusted, secondRest, reducedOf, adjustedOf, secondNumeratorsOf, secondRoundedOf, secondRestsOf}
-use Rattle.method.proofs.WithinRange.{result-within, angle-most}
+use Rattle.pass_rules.specs.Pass.{given}
+use Rattle.pass_rules.specs.SecondPass.{secondReduced, sineMisclosure, sumOfSquares, secondNumerator, secondRounded, secondAdjusted, secondRest, reducedOf, adjustedOf, secondNumeratorsOf, secondRoundedOf, secondRestsOf}
+use Rattle.pass_rules.proofs.WithinRange.{result-within, angle-most}
 use Rattle.pass_steps.specs.Premises.{Within, Angles, mostSummed, mostRounded}
-use Rattle.method.specs.Promises.{secondLent, secondValuesOf}
+use Rattle.pass_rules.specs.Promises.{secondLent, secondValuesOf}
 use Rattle.pass_steps.specs.Steps.{resultsFrom}
 use Rattle.pass_steps.proofs.StepLaws.{listed-at, listed-within, listed-after, length-of, condition-ext}
 use Rattle.pass_second.specs.Steps.{exactFrom, secondTenthsFrom, secondTenthsOf, secondFrom}

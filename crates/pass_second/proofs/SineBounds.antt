@@ -17,8 +17,8 @@ use Rattle.figures.specs.declared.Figure.{Figure}
 use Rattle.figures.specs.Figure.{description, denominator, angleCount, allFigures}
 use Rattle.figures.specs.Numerators.{conditionSum, numerator, reducedCoefficient, mostAngles, mostMembers}
 use Rattle.figures.proofs.Figures.{each-figure, angle-bound}
-use Rattle.method.specs.Pass.{given}
-use Rattle.method.specs.SecondPass.{sineSign, signedDifference, secondReduced, sineMisclosure, differenceSquares}
+use Rattle.pass_rules.specs.Pass.{given}
+use Rattle.pass_rules.specs.SecondPass.{sineSign, signedDifference, secondReduced, sineMisclosure, differenceSquares}
 use Rattle.pass_steps.specs.Premises.{Within, LogSines, mostDenominator, mostReduced, mostTaken}
 use Rattle.pass_steps.proofs.Bounds.{condition-magnitude, numerator-magnitude}
 use Rattle.pass_second.proofs.Exact.{product-magnitude}

@@ -13,8 +13,8 @@ use Rattle.refusals.specs.Ranges.{mostDifference}
 use Rattle.figures.specs.declared.Figure.{Figure}
 use Rattle.figures.specs.Figure.{description, denominator, angleCount, conditionCount}
 use Rattle.figures.specs.Numerators.{conditionSum, numerator, reducedCoefficient}
-use Rattle.method.specs.Pass.{given}
-use Rattle.method.specs.SecondPass.{sineSign, signedDifference, secondReduced, sineMisclosure, sumOfSquares, differenceSquares, reducedOf}
+use Rattle.pass_rules.specs.Pass.{given}
+use Rattle.pass_rules.specs.SecondPass.{sineSign, signedDifference, secondReduced, sineMisclosure, sumOfSquares, differenceSquares, reducedOf}
 use Rattle.pass_steps.specs.Premises.{Within}
 use Rattle.pass_second.specs.Sines.{signedBy, reducedFrom}
 use Rattle.pass_second.proofs.SineBounds.{sign-magnitude, difference-magnitude}

@@ -13,8 +13,8 @@ use Rattle.whole.proofs.Order.{natural, square-nonnegative}
 use Rattle.refusals.specs.Questions.{lessSigned, asked}
 use Rattle.refusals.specs.Ranges.{mostDifference, mostTolerance}
 use Rattle.figures.specs.Numerators.{mostAngles}
-use Rattle.method.specs.SecondPass.{toleranceOf}
-use Rattle.method.proofs.WithinRange.{in-force-within}
+use Rattle.pass_rules.specs.SecondPass.{toleranceOf}
+use Rattle.pass_rules.proofs.WithinRange.{in-force-within}
 use Rattle.pass_steps.specs.Premises.{mostMisclosure}
 
 square : (w : ℤ) → w *ℤ w ≡ pos (natAbs w * natAbs w)

@@ -4,8 +4,8 @@ use mathlib.Core.List.{List}
 use lib.IntN.{ℤ, pos, _+ℤ_, _*ℤ_}
 use Rattle.whole.specs.Sums.{dot, squares, vector}
 use Rattle.figures.specs.declared.Figure.{Figure}
-use Rattle.method.specs.Pass.{given}
-use Rattle.method.specs.SecondPass.{sineMisclosure, sumOfSquares, differenceSquares}
+use Rattle.pass_rules.specs.Pass.{given}
+use Rattle.pass_rules.specs.SecondPass.{sineMisclosure, sumOfSquares, differenceSquares}
 use Rattle.pass_second.specs.declared.sines.Sines.{Sines}
 use Rattle.pass_second.specs.declared.sines.SignedSums.{SignedSums}
 

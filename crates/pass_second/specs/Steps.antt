@@ -9,7 +9,7 @@ use Rattle.whole.specs.Sums.{vector}
 use Rattle.figures.specs.declared.Figure.{Figure}
 use Rattle.figures.specs.Figure.{denominator, angleCount, conditionCount}
 use Rattle.figures.specs.Numerators.{conditionSum}
-use Rattle.method.specs.Promises.{SecondLent, secondLent}
+use Rattle.pass_rules.specs.Promises.{SecondLent, secondLent}
 use Rattle.pass_steps.specs.Steps.{resultsFrom}
 
 -- the numerator of an angle

@@ -11,8 +11,8 @@ ghost use Rattle.refusals.specs.Table.{resultsRow};
 ghost use Rattle.judging.specs.Searches.{resultsOf};
 ghost use Rattle.figures.specs.Figure.{angleCount, conditionCount};
 ghost use Rattle.figures.specs.Numerators.{conditionSum};
-ghost use Rattle.method.specs.Promises.{secondLent, secondResultsLent};
-ghost use Rattle.method.specs.SecondPass.{secondResultLengths};
+ghost use Rattle.pass_rules.specs.Promises.{secondLent, secondResultsLent};
+ghost use Rattle.pass_rules.specs.SecondPass.{secondResultLengths};
 ghost use Rattle.pass_steps.specs.Premises.{Within, Angles, mostSummed, mostRounded, mostDenominator, mostMisclosure, mostReduced};
 ghost use Rattle.pass_steps.specs.Steps.{StoredIf};
 ghost use Rattle.pass_second.specs.Steps.{exactFrom, secondTenthsFrom, secondTenthsOf, secondFrom, Stored};
@@ -25,7 +25,7 @@ use refusals::Verdict;
 
 // Numbers 10 and 9 have passed.
 pub(crate) fn second_corrected(
-    f: Figure,
+    figure: Figure,
     angles: &[u32],
     misclosure: i64,
     squares: i64,
@@ -36,17 +36,17 @@ pub(crate) fn second_corrected(
     adjusted: &mut [u32],
     rests: &mut [i32],
 ) -> Verdict
-    requires { ⌜ length (now angles) ≡ angleCount f ⌝ }
-    requires { ⌜ length (now a) ≡ angleCount f ⌝ }
+    requires { ⌜ length (now angles) ≡ angleCount figure ⌝ }
+    requires { ⌜ length (now a) ≡ angleCount figure ⌝ }
     requires { ⌜ secondResultsLent (secondLent (now reduced) (now numerators) (now rounded) (now adjusted) (now rests))
-        ≡ secondResultLengths f ⌝ }
+        ≡ secondResultLengths figure ⌝ }
     requires { ⌜ Angles (now angles) ⌝ }
     requires { ⌜ natAbs misclosure ≤ mostMisclosure ⌝ }
     requires { ⌜ Within mostReduced (now a) ⌝ }
-    requires { ⌜ ((i : ℕ) → natAbs (secondTenthsFrom f misclosure squares (now a) i) ≤ mostRounded) ⌝ }
+    requires { ⌜ ((i : ℕ) → natAbs (secondTenthsFrom figure misclosure squares (now a) i) ≤ mostRounded) ⌝ }
     ensures { λ answer.
-        ⌜ StoredIf (verdictOf (resultsRow (resultsOf (now (angles .entry)) (secondTenthsOf f misclosure squares (now (a .entry))))))
-        (secondFrom f (now (angles .entry)) misclosure squares (now (a .entry)))
+        ⌜ StoredIf (verdictOf (resultsRow (resultsOf (now (angles .entry)) (secondTenthsOf figure misclosure squares (now (a .entry))))))
+        (secondFrom figure (now (angles .entry)) misclosure squares (now (a .entry)))
         (secondLent (now (reduced .entry)) (now (numerators .entry)) (now (rounded .entry))
         (now (adjusted .entry)) (now (rests .entry))) answer
         (secondLent (now (reduced .exit)) (now (numerators .exit)) (now (rounded .exit)) (now (adjusted .exit)) (now (rests .exit))) ⌝ }
@@ -54,11 +54,18 @@ pub(crate) fn second_corrected(
     let n = angles.len();
     let mut exact = [0i64; MOST_ANGLES];
     let mut tenths = [0i32; MOST_ANGLES];
-    corrections_into(f, misclosure, squares, a, &mut exact[..n], &mut tenths[..n]);
+    corrections_into(
+        figure,
+        misclosure,
+        squares,
+        a,
+        &mut exact[..n],
+        &mut tenths[..n],
+    );
     let outside = results_into(angles, &tenths[..n], adjusted);
     if let Verdict::Passed = outside {
         store_second(
-            f,
+            figure,
             a,
             &exact[..n],
             &tenths[..n],
@@ -73,23 +80,23 @@ pub(crate) fn second_corrected(
 
 // Numerators and rounded corrections.
 fn corrections_into(
-    f: Figure,
+    figure: Figure,
     misclosure: i64,
     squares: i64,
     a: &[i64],
     exact: &mut [i64],
     tenths: &mut [i32],
 )
-    requires { ⌜ length (now a) ≡ angleCount f ⌝ }
-    requires { ⌜ length (now exact) ≡ angleCount f ⌝ }
-    requires { ⌜ length (now tenths) ≡ angleCount f ⌝ }
+    requires { ⌜ length (now a) ≡ angleCount figure ⌝ }
+    requires { ⌜ length (now exact) ≡ angleCount figure ⌝ }
+    requires { ⌜ length (now tenths) ≡ angleCount figure ⌝ }
     requires { ⌜ natAbs misclosure ≤ mostMisclosure ⌝ }
     requires { ⌜ Within mostReduced (now a) ⌝ }
-    requires { ⌜ ((i : ℕ) → natAbs (secondTenthsFrom f misclosure squares (now a) i) ≤ mostRounded) ⌝ }
-    ensures { λ _. ⌜ now (exact .exit) ≡ listed (angleCount f) (exactFrom f misclosure (now (a .entry))) ⌝ }
-    ensures { λ _. ⌜ now (tenths .exit) ≡ secondTenthsOf f misclosure squares (now (a .entry)) ⌝ }
+    requires { ⌜ ((i : ℕ) → natAbs (secondTenthsFrom figure misclosure squares (now a) i) ≤ mostRounded) ⌝ }
+    ensures { λ _. ⌜ now (exact .exit) ≡ listed (angleCount figure) (exactFrom figure misclosure (now (a .entry))) ⌝ }
+    ensures { λ _. ⌜ now (tenths .exit) ≡ secondTenthsOf figure misclosure squares (now (a .entry)) ⌝ }
 {
-    let denominator = tables::counts_of(f).denominator;
+    let denominator = figure_tables::counts_of(figure).denominator;
     scaled_into(factor(denominator, misclosure), a, exact);
     rounded_into(whole::magnitude(squares), exact, tenths);
 }
@@ -131,7 +138,7 @@ fn rounded_into(divisor: u64, numerators: &[i64], rounded: &mut [i32])
 
 // The stores, once no row holds.
 fn store_second(
-    f: Figure,
+    figure: Figure,
     a: &[i64],
     exact: &[i64],
     tenths: &[i32],
@@ -140,21 +147,22 @@ fn store_second(
     rounded: &mut [i32],
     rests: &mut [i32],
 )
-    requires { ⌜ length (now a) ≡ angleCount f ⌝ }
-    requires { ⌜ length (now exact) ≡ angleCount f ⌝ }
-    requires { ⌜ length (now tenths) ≡ angleCount f ⌝ }
-    requires { ⌜ length (now reduced) ≡ angleCount f ⌝ }
-    requires { ⌜ length (now numerators) ≡ angleCount f ⌝ }
-    requires { ⌜ length (now rounded) ≡ angleCount f ⌝ }
-    requires { ⌜ length (now rests) ≡ conditionCount f ⌝ }
+    requires { ⌜ length (now a) ≡ angleCount figure ⌝ }
+    requires { ⌜ length (now exact) ≡ angleCount figure ⌝ }
+    requires { ⌜ length (now tenths) ≡ angleCount figure ⌝ }
+    requires { ⌜ length (now reduced) ≡ angleCount figure ⌝ }
+    requires { ⌜ length (now numerators) ≡ angleCount figure ⌝ }
+    requires { ⌜ length (now rounded) ≡ angleCount figure ⌝ }
+    requires { ⌜ length (now rests) ≡ conditionCount figure ⌝ }
     requires { ⌜ Within mostSummed (now tenths) ⌝ }
     ensures { λ _. ⌜ Stored (now (reduced .exit)) (now (numerators .exit)) (now (rounded .exit)) (now (rests .exit))
-        (now (a .entry)) (now (exact .entry)) (now (tenths .entry)) (listed (conditionCount f) (conditionSum f (vector (now (tenths .entry))))) ⌝ }
+        (now (a .entry)) (now (exact .entry)) (now (tenths .entry))
+        (listed (conditionCount figure) (conditionSum figure (vector (now (tenths .entry))))) ⌝ }
 {
     store_wide(a, reduced);
     store_wide(exact, numerators);
     store_signed(tenths, rounded);
-    condition_sums(f, tenths, rests);
+    condition_sums(figure, tenths, rests);
 }
 
 fn store_wide(x: &[i64], lent: &mut [i64])

@@ -1,12 +1,14 @@
 // The second pass over lent slices: document 01, "The two passes".
-ghost use Rattle.method.specs.Promises.{secondGiven, secondLent, SecondPromise, SecondPromiseOf};
+ghost use mathlib.Core.Path.{_≡_};
+ghost use Rattle.pass_rules.specs.Promises.{secondGiven, secondLent, SecondPromise, SecondPromiseOf};
+ghost use Rattle.pass_rules.specs.SecondPass.{secondAnswerOf};
 use crate::corrections::second_corrected;
 use crate::sines::sine_verdict;
 use crate::sines::sines_into;
 use figures::Figure;
 use figures::MOST_ANGLES;
 use figures::Named;
-use method::SecondAnswer;
+use pass_rules::SecondAnswer;
 use refusals::Refusal;
 use refusals::Verdict;
 
@@ -30,11 +32,11 @@ pub fn second_pass(
         (now (adjusted .entry)) (now (rests .entry))) answer
         (secondLent (now (reduced .exit)) (now (numerators .exit)) (now (rounded .exit)) (now (adjusted .exit)) (now (rests .exit))) ⌝ }
 {
-    let Named::As(f) = figures::figure_of(code, n) else {
+    let Named::As(figure) = figures::figure_of(code, n) else {
         return SecondAnswer::Refused(Refusal::NoSuchFigure);
     };
     second_pass_of(
-        f,
+        figure,
         tolerance,
         angles,
         log_sines,
@@ -49,7 +51,7 @@ pub fn second_pass(
 
 // The same of a figure that is named already.
 pub fn second_pass_of(
-    f: Figure,
+    figure: Figure,
     tolerance: u32,
     angles: &[u32],
     log_sines: &[u32],
@@ -60,7 +62,7 @@ pub fn second_pass_of(
     adjusted: &mut [u32],
     rests: &mut [i32],
 ) -> SecondAnswer
-    ensures { λ answer. ⌜ SecondPromiseOf f tolerance (now (angles .entry)) (now («log_sines» .entry)) (now (differences .entry))
+    ensures { λ answer. ⌜ SecondPromiseOf figure tolerance (now (angles .entry)) (now («log_sines» .entry)) (now (differences .entry))
         (secondLent (now (reduced .entry)) (now (numerators .entry)) (now (rounded .entry))
         (now (adjusted .entry)) (now (rests .entry))) answer
         (secondLent (now (reduced .exit)) (now (numerators .exit)) (now (rounded .exit)) (now (adjusted .exit)) (now (rests .exit))) ⌝ }
@@ -72,8 +74,8 @@ pub fn second_pass_of(
         adjusted.len(),
         rests.len(),
     ];
-    let before = method::second_given_verdict(
-        f,
+    let before = pass_rules::second_given_verdict(
+        figure,
         tolerance,
         angles,
         log_sines,
@@ -85,13 +87,13 @@ pub fn second_pass_of(
     }
     let n = angles.len();
     let mut a = [0i64; MOST_ANGLES];
-    let sines = sines_into(f, log_sines, differences, &mut a[..n]);
+    let sines = sines_into(figure, log_sines, differences, &mut a[..n]);
     let beyond = sine_verdict(sines, tolerance);
     if let Verdict::Failed(refusal) = beyond {
         return SecondAnswer::Refused(refusal);
     }
     let outside = second_corrected(
-        f,
+        figure,
         angles,
         sines.misclosure,
         sines.squares,
@@ -102,8 +104,14 @@ pub fn second_pass_of(
         adjusted,
         rests,
     );
-    if let Verdict::Failed(refusal) = outside {
-        return SecondAnswer::Refused(refusal);
+    answer_of(outside, sines.misclosure, sines.squares)
+}
+
+fn answer_of(verdict: Verdict, misclosure: i64, squares: i64) -> SecondAnswer
+    ensures { λ answer. ⌜ answer ≡ secondAnswerOf verdict misclosure squares ⌝ }
+{
+    match verdict {
+        Verdict::Passed => SecondAnswer::Done(misclosure, squares),
+        Verdict::Failed(refusal) => SecondAnswer::Refused(refusal),
     }
-    SecondAnswer::Done(sines.misclosure, sines.squares)
 }

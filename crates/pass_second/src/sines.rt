@@ -11,19 +11,19 @@ ghost use Rattle.refusals.specs.Ranges.{mostDifference, mostTolerance};
 ghost use Rattle.refusals.specs.Table.{sineMisclosureRow};
 ghost use Rattle.figures.specs.Figure.{angleCount};
 ghost use Rattle.figures.specs.Numerators.{reducedCoefficient, mostAngles};
-ghost use Rattle.method.specs.SecondPass.{toleranceOf, sineRows, reducedOf};
+ghost use Rattle.pass_rules.specs.SecondPass.{toleranceOf, sineRows, reducedOf};
 ghost use Rattle.pass_steps.specs.Premises.{Within, LogSines, mostDenominator, mostTaken};
 ghost use Rattle.pass_second.specs.Sines.{signedBy, signedSumsOf, reducedFrom, sinesOf};
+use figure_tables::Signs;
 use figures::Figure;
 use figures::MOST_ANGLES;
 use figures::MOST_CONDITIONS;
-use method::tolerance_in_force;
+use pass_rules::tolerance_in_force;
 use pass_steps::condition_sums;
 use pass_steps::numerators_into;
 use refusals::Refusal;
 use refusals::Verdict;
 use refusals::first_to_fail;
-use tables::Signs;
 
 // W, S and the sum of d².
 pub(crate) struct Sines {
@@ -38,19 +38,29 @@ struct SignedSums {
 }
 
 // The reduced coefficients A, with what numbers 10 and 9 ask of.
-pub(crate) fn sines_into(f: Figure, log_sines: &[u32], differences: &[i32], a: &mut [i64]) -> Sines
-    requires { ⌜ length (now «log_sines») ≡ angleCount f ⌝ }
-    requires { ⌜ length (now differences) ≡ angleCount f ⌝ }
-    requires { ⌜ length (now a) ≡ angleCount f ⌝ }
+pub(crate) fn sines_into(
+    figure: Figure,
+    log_sines: &[u32],
+    differences: &[i32],
+    a: &mut [i64],
+) -> Sines
+    requires { ⌜ length (now «log_sines») ≡ angleCount figure ⌝ }
+    requires { ⌜ length (now differences) ≡ angleCount figure ⌝ }
+    requires { ⌜ length (now a) ≡ angleCount figure ⌝ }
     requires { ⌜ LogSines (now «log_sines») ⌝ }
     requires { ⌜ Within mostDifference (now differences) ⌝ }
-    ensures { λ sines. ⌜ sines ≡ sinesOf f (now («log_sines» .entry)) (now (differences .entry)) ⌝ }
-    ensures { λ _. ⌜ now (a .exit) ≡ reducedOf f (now (differences .entry)) ⌝ }
+    ensures { λ sines. ⌜ sines ≡ sinesOf figure (now («log_sines» .entry)) (now (differences .entry)) ⌝ }
+    ensures { λ _. ⌜ now (a .exit) ≡ reducedOf figure (now (differences .entry)) ⌝ }
 {
     let n = differences.len();
     let mut d = [0i32; MOST_ANGLES];
-    let sums = signed_into(tables::signs_of(f), log_sines, differences, &mut d[..n]);
-    let squares = reduced_into(f, &d[..n], a);
+    let sums = signed_into(
+        figure_tables::signs_of(figure),
+        log_sines,
+        differences,
+        &mut d[..n],
+    );
+    let squares = reduced_into(figure, &d[..n], a);
     Sines {
         misclosure: sums.misclosure,
         squares,
@@ -88,20 +98,20 @@ fn signed_into(signs: Signs, log_sines: &[u32], differences: &[i32], d: &mut [i3
 }
 
 // A of each angle: D·d plus the first-pass numerator for misclosures equal to each condition's sum of d. Answers the sum of A².
-fn reduced_into(f: Figure, d: &[i32], a: &mut [i64]) -> i64
-    requires { ⌜ length (now d) ≡ angleCount f ⌝ }
-    requires { ⌜ length (now a) ≡ angleCount f ⌝ }
+fn reduced_into(figure: Figure, d: &[i32], a: &mut [i64]) -> i64
+    requires { ⌜ length (now d) ≡ angleCount figure ⌝ }
+    requires { ⌜ length (now a) ≡ angleCount figure ⌝ }
     requires { ⌜ Within mostDifference (now d) ⌝ }
-    ensures { λ r. ⌜ r ≡ Sums·squares (angleCount f) (reducedCoefficient f (vector (now (d .entry)))) ⌝ }
-    ensures { λ _. ⌜ now (a .exit) ≡ listed (angleCount f) (reducedCoefficient f (vector (now (d .entry)))) ⌝ }
+    ensures { λ squares. ⌜ squares ≡ Sums·squares (angleCount figure) (reducedCoefficient figure (vector (now (d .entry)))) ⌝ }
+    ensures { λ _. ⌜ now (a .exit) ≡ listed (angleCount figure) (reducedCoefficient figure (vector (now (d .entry)))) ⌝ }
 {
     let n = d.len();
-    let counts = tables::counts_of(f);
+    let counts = figure_tables::counts_of(figure);
     let m = counts.conditions;
     let mut sums = [0i32; MOST_CONDITIONS];
     let mut taken = [0i32; MOST_ANGLES];
-    condition_sums(f, d, &mut sums[..m]);
-    numerators_into(f, &sums[..m], &mut taken[..n]);
+    condition_sums(figure, d, &mut sums[..m]);
+    numerators_into(figure, &sums[..m], &mut taken[..n]);
     reduced_from(counts.denominator, d, &taken[..n], a)
 }
 
@@ -113,7 +123,8 @@ fn reduced_from(denominator: u32, d: &[i32], taken: &[i32], a: &mut [i64]) -> i6
     requires { ⌜ denominator ≤ mostDenominator ⌝ }
     requires { ⌜ Within mostDifference (now d) ⌝ }
     requires { ⌜ Within mostTaken (now taken) ⌝ }
-    ensures { λ r. ⌜ r ≡ Sums·squares (length (now (d .entry))) (reducedFrom denominator (now (d .entry)) (now (taken .entry))) ⌝ }
+    ensures { λ squares.
+        ⌜ squares ≡ Sums·squares (length (now (d .entry))) (reducedFrom denominator (now (d .entry)) (now (taken .entry))) ⌝ }
     ensures { λ _. ⌜ now (a .exit) ≡ listed (length (now (d .entry))) (reducedFrom denominator (now (d .entry)) (now (taken .entry))) ⌝ }
 {
     let mut squares = 0i64;

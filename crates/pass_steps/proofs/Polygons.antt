@@ -1,5 +1,6 @@
 -- The figures that a match leaves to its last arm, once code 1 and code 2 are told, are those of code 3. Assumes nothing.
 use mathlib.Core.List.{List, [], _∷_}
+use mathlib.Core.Path.{_≡_, refl}
 use Prim.Native.Nat.{ℕ}
 use denote.Enum.Declared.{tagOf}
 use lib.Dec.{T}
@@ -8,6 +9,7 @@ use Rattle.figures.proofs.Figure.{the-type}
 use Rattle.figures.specs.declared.Figure.{Figure}
 use Rattle.figures.specs.declared.Figure.the-variants.{Quadrilateral, PointInTriangle, CentralTriangle, CentralQuadrilateral, CentralPentagon, CentralHexagon, CentralHeptagon, CentralOctagon}
 use Rattle.figures.proofs.Families.{isPolygon}
+use Rattle.pass_steps.specs.Premises.{hasFive}
 
 abbrev pub lastArm : List ℕ
 lastArm = 2 ∷ 3 ∷ 4 ∷ 5 ∷ 6 ∷ 7 ∷ []
@@ -21,3 +23,31 @@ is-polygon CentralPentagon key = tt
 is-polygon CentralHexagon key = tt
 is-polygon CentralHeptagon key = tt
 is-polygon CentralOctagon key = tt
+
+-- and those that a match leaves once the first four are told have five triangles or more
+abbrev pub largeArm : List ℕ
+largeArm = 4 ∷ 5 ∷ 6 ∷ 7 ∷ []
+
+pub has-five : (f : Figure) → OneOf largeArm (tagOf the-type f) → T (hasFive f)
+has-five Quadrilateral key = absurd (miss largeArm 0 tt key)
+has-five PointInTriangle key = absurd (miss largeArm 1 tt key)
+has-five CentralTriangle key = absurd (miss largeArm 2 tt key)
+has-five CentralQuadrilateral key = absurd (miss largeArm 3 tt key)
+has-five CentralPentagon key = tt
+has-five CentralHexagon key = tt
+has-five CentralHeptagon key = tt
+has-five CentralOctagon key = tt
+
+-- of these the last arm is the octagon
+abbrev pub octagonArm : List ℕ
+octagonArm = 0 ∷ 1 ∷ 2 ∷ 3 ∷ 7 ∷ []
+
+pub is-octagon : (f : Figure) → OneOf octagonArm (tagOf the-type f) → T (hasFive f) → f ≡ CentralOctagon
+is-octagon Quadrilateral key five = absurd five
+is-octagon PointInTriangle key five = absurd five
+is-octagon CentralTriangle key five = absurd five
+is-octagon CentralQuadrilateral key five = absurd five
+is-octagon CentralPentagon key five = absurd (miss octagonArm 4 tt key)
+is-octagon CentralHexagon key five = absurd (miss octagonArm 5 tt key)
+is-octagon CentralHeptagon key five = absurd (miss octagonArm 6 tt key)
+is-octagon CentralOctagon key five = refl

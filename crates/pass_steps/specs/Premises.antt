@@ -1,10 +1,14 @@
 -- What the steps of the work ask of what they take, so that no sum and no product passes its width.
 use Prim.Native.Nat.{ℕ, _+_, _*_, _^_, _≤_, _<_}
+use mathlib.Core.Bool.{Bool, _&&_}
 use mathlib.Core.List.{List}
+use lib.Dec.{eqb, leb}
 use lib.ListN.{getD}
 use lib.IntN.{ℤ, natAbs}
 use Rattle.whole.specs.Sums.{vector}
 use Rattle.refusals.specs.Ranges.{mostLogSine, mostDifference}
+use Rattle.figures.specs.declared.Figure.{Figure}
+use Rattle.figures.specs.Figure.{description}
 use Rattle.figures.specs.Numerators.{mostConditions, mostMembers}
 
 -- no magnitude is greater
@@ -49,3 +53,7 @@ mostTaken = mostConditions * (100 * (mostMembers * mostDifference))
 -- no reduced coefficient is greater; the squares of as many as there are angles sum to 63 bits
 abbrev pub mostReduced : ℕ
 mostReduced = mostDenominator * mostDifference + mostTaken
+
+-- a central polygon of five triangles or more
+abbrev pub hasFive : Figure → Bool
+hasFive f = eqb (description f .code) 3 && leb 5 (description f .n)

@@ -1,4 +1,5 @@
-// The conditions of each figure, by its family: document 01, "The eight figures". Conditions and angles are used by their indices, counted from 0.
+// The conditions of each figure, by its family: document 01, "The eight figures". Conditions and angles are used by their indices, counted
+// from 0.
 ghost use mathlib.Core.Path.{_≡_};
 ghost use Prim.Native.Nat.{ℕ, _+_, _*_, _<_, _≤_};
 ghost use lib.ListN.{length};
@@ -8,41 +9,40 @@ ghost use Rattle.figures.specs.Figure.{angleCount, conditionCount};
 ghost use Rattle.figures.specs.Numerators.{conditionSum, mostMembers};
 ghost use Rattle.pass_steps.specs.Steps.{fitting, sumsOf};
 ghost use Rattle.pass_steps.specs.Steps.{held as Steps·held};
+use figure_tables::PointInTriangle;
 use figures::Figure;
-
-// The triangles, and the corners, of a point in a known triangle.
-const TRIANGLES: usize = 3;
 
 // The most that a sum may be, either way: what 32 bits hold.
 const MOST_HELD: u64 = 2147483647;
 
 // The sum over the angles of each condition.
-pub fn condition_sums(f: Figure, x: &[i32], sums: &mut [i32])
-    ensures { λ _. ⌜ now (sums .exit) ≡ fitting (length (now (x .entry))) (angleCount f) (length (now (sums .entry))) (conditionCount f)
-        (sumsOf f (now (x .entry))) (now (sums .entry)) ⌝ }
+pub fn condition_sums(figure: Figure, x: &[i32], sums: &mut [i32])
+    ensures { λ _. ⌜ now (sums .exit)
+        ≡ fitting (length (now (x .entry))) (angleCount figure) (length (now (sums .entry))) (conditionCount figure)
+        (sumsOf figure (now (x .entry))) (now (sums .entry)) ⌝ }
 {
-    let counts = tables::counts_of(f);
+    let counts = figure_tables::counts_of(figure);
     if x.len() == counts.angles {
         if sums.len() == counts.conditions {
-            sums_into(f, x, sums);
+            sums_into(figure, x, sums);
         }
     }
 }
 
-fn sums_into(f: Figure, x: &[i32], sums: &mut [i32])
-    requires { ⌜ length (now x) ≡ angleCount f ⌝ }
-    requires { ⌜ length (now sums) ≡ conditionCount f ⌝ }
-    ensures { λ _. ⌜ now (sums .exit) ≡ sumsOf f (now (x .entry)) ⌝ }
+fn sums_into(figure: Figure, x: &[i32], sums: &mut [i32])
+    requires { ⌜ length (now x) ≡ angleCount figure ⌝ }
+    requires { ⌜ length (now sums) ≡ conditionCount figure ⌝ }
+    ensures { λ _. ⌜ now (sums .exit) ≡ sumsOf figure (now (x .entry)) ⌝ }
 {
     let mut j = 0;
     while j < sums.len() {
-        sums[j] = held(condition_sum(f, x, j));
+        sums[j] = held(condition_sum(figure, x, j));
         j += 1;
     }
 }
 
 fn held(total: i64) -> i32
-    ensures { λ r. ⌜ r ≡ Steps·held total ⌝ }
+    ensures { λ kept. ⌜ kept ≡ Steps·held total ⌝ }
 {
     if MOST_HELD < whole::magnitude(total) {
         0
@@ -52,12 +52,12 @@ fn held(total: i64) -> i32
 }
 
 // The sum over the angles of condition j. Code 1: angles 1 to 4, 3 to 6, 5 to 8. Code 3: the triangles, and the angles at the inner point.
-fn condition_sum(f: Figure, x: &[i32], j: usize) -> i64
-    requires { ⌜ length (now x) ≡ angleCount f ⌝ }
-    requires { ⌜ j < conditionCount f ⌝ }
-    ensures { λ r. ⌜ r ≡ conditionSum f (vector (now (x .entry))) j ⌝ }
+fn condition_sum(figure: Figure, x: &[i32], j: usize) -> i64
+    requires { ⌜ length (now x) ≡ angleCount figure ⌝ }
+    requires { ⌜ j < conditionCount figure ⌝ }
+    ensures { λ total. ⌜ total ≡ conditionSum figure (vector (now (x .entry))) j ⌝ }
 {
-    match f {
+    match figure {
         Figure::Quadrilateral => run_sum(x, 2 * j, 1, 4),
         Figure::PointInTriangle => point_sum(x, j),
         _ => {
@@ -74,11 +74,11 @@ fn condition_sum(f: Figure, x: &[i32], j: usize) -> i64
 fn point_sum(x: &[i32], j: usize) -> i64
     requires { ⌜ length (now x) ≡ angleCount Figure.PointInTriangle ⌝ }
     requires { ⌜ j < conditionCount Figure.PointInTriangle ⌝ }
-    ensures { λ r. ⌜ r ≡ conditionSum Figure.PointInTriangle (vector (now (x .entry))) j ⌝ }
+    ensures { λ total. ⌜ total ≡ conditionSum Figure.PointInTriangle (vector (now (x .entry))) j ⌝ }
 {
-    if j < TRIANGLES {
+    if j < PointInTriangle::TRIANGLES {
         run_sum(x, 3 * j, 1, 3)
-    } else if j == TRIANGLES {
+    } else if j == PointInTriangle::TRIANGLES {
         run_sum(x, 1, 7, 2)
     } else {
         run_sum(x, 3 * (j - 4) + 2, 2, 2)
@@ -90,7 +90,7 @@ fn run_sum(x: &[i32], first: usize, step: usize, count: usize) -> i64
     requires { ⌜ ((k : ℕ) → k < count → first + step * k < length (now x)) ⌝ }
     requires { ⌜ count ≤ mostMembers ⌝ }
     requires { ⌜ step ≤ 7 ⌝ }
-    ensures { λ r. ⌜ r ≡ sum count (λ k. vector (now (x .entry)) (first + step * k)) ⌝ }
+    ensures { λ total. ⌜ total ≡ sum count (λ k. vector (now (x .entry)) (first + step * k)) ⌝ }
 {
     let mut total = 0i64;
     let mut k = 0;

@@ -2,6 +2,7 @@
 ghost use mathlib.Core.Path.{_≡_};
 ghost use Prim.Native.Nat.{_*_, _^_, _≤_};
 ghost use lib.IntN.{natAbs, _*ℤ_};
+ghost use lib.Dec.{T};
 ghost use lib.ListN.{length};
 ghost use Rattle.whole.specs.Lists.{listed};
 ghost use Rattle.whole.specs.Sums.{vector, table, dot, applied};
@@ -10,47 +11,49 @@ ghost use Rattle.figures.specs.Numerators.{mostAngles, mostConditions};
 ghost use Rattle.refusals.specs.Order.{verdictOf};
 ghost use Rattle.refusals.specs.Promise.{stored};
 ghost use Rattle.refusals.specs.Table.{misclosuresRow};
-ghost use Rattle.pass_steps.specs.Premises.{Within, mostApplied};
+ghost use Rattle.pass_steps.specs.Premises.{Within, hasFive, mostApplied};
 ghost use Rattle.pass_steps.specs.Steps.{fitting, numeratorsFrom};
+use figure_tables::CentralHeptagon;
+use figure_tables::CentralHexagon;
+use figure_tables::CentralOctagon;
+use figure_tables::CentralPentagon;
+use figure_tables::CentralQuadrilateral;
+use figure_tables::CentralTriangle;
+use figure_tables::PointInTriangle;
+use figure_tables::Quadrilateral;
 use figures::Figure;
 use figures::MOST_CONDITIONS;
 use figures::Rows;
 use refusals::Verdict;
-use tables::CentralHeptagon;
-use tables::CentralHexagon;
-use tables::CentralOctagon;
-use tables::CentralPentagon;
-use tables::CentralQuadrilateral;
-use tables::CentralTriangle;
-use tables::PointInTriangle;
-use tables::Quadrilateral;
 
 // The greatest misclosure of which nine products with a byte sum to 31 bits.
 const MOST_APPLIED: u32 = 1048576;
 
 // Each angle's row applied to the misclosures, where none is beyond what 32 bits bear.
-pub fn numerators_into(f: Figure, w: &[i32], numerators: &mut [i32])
-    ensures { λ _. ⌜ now (numerators .exit) ≡ fitting (length (now (w .entry))) (conditionCount f) (length (now (numerators .entry))) (angleCount f)
-        (stored (verdictOf (misclosuresRow mostApplied (now (w .entry)))) (numeratorsFrom f (now (w .entry))) (now (numerators .entry)))
+pub fn numerators_into(figure: Figure, w: &[i32], numerators: &mut [i32])
+    ensures { λ _. ⌜ now (numerators .exit)
+        ≡ fitting (length (now (w .entry))) (conditionCount figure) (length (now (numerators .entry))) (angleCount figure)
+        (stored (verdictOf (misclosuresRow mostApplied (now (w .entry)))) (numeratorsFrom figure (now (w .entry)))
+        (now (numerators .entry)))
         (now (numerators .entry)) ⌝ }
 {
-    let counts = tables::counts_of(f);
+    let counts = figure_tables::counts_of(figure);
     if w.len() == counts.conditions {
         if numerators.len() == counts.angles {
             if let Verdict::Passed = judging::misclosures_verdict(w, MOST_APPLIED) {
-                table_applied(f, w, numerators);
+                table_applied(figure, w, numerators);
             }
         }
     }
 }
 
-fn table_applied(f: Figure, w: &[i32], numerators: &mut [i32])
-    requires { ⌜ length (now w) ≡ conditionCount f ⌝ }
-    requires { ⌜ length (now numerators) ≡ angleCount f ⌝ }
+fn table_applied(figure: Figure, w: &[i32], numerators: &mut [i32])
+    requires { ⌜ length (now w) ≡ conditionCount figure ⌝ }
+    requires { ⌜ length (now numerators) ≡ angleCount figure ⌝ }
     requires { ⌜ Within mostApplied (now w) ⌝ }
-    ensures { λ _. ⌜ now (numerators .exit) ≡ numeratorsFrom f (now (w .entry)) ⌝ }
+    ensures { λ _. ⌜ now (numerators .exit) ≡ numeratorsFrom figure (now (w .entry)) ⌝ }
 {
-    match f {
+    match figure {
         Figure::Quadrilateral => rows_applied(
             Quadrilateral::rows(),
             Quadrilateral::ANGLES,
@@ -79,6 +82,19 @@ fn table_applied(f: Figure, w: &[i32], numerators: &mut [i32])
             w,
             numerators,
         ),
+        _ => polygon_applied(figure, w, numerators),
+    }
+}
+
+// The central polygons of five triangles and more.
+fn polygon_applied(figure: Figure, w: &[i32], numerators: &mut [i32])
+    requires { ⌜ length (now w) ≡ conditionCount figure ⌝ }
+    requires { ⌜ length (now numerators) ≡ angleCount figure ⌝ }
+    requires { ⌜ Within mostApplied (now w) ⌝ }
+    requires { ⌜ T (hasFive figure) ⌝ }
+    ensures { λ _. ⌜ now (numerators .exit) ≡ numeratorsFrom figure (now (w .entry)) ⌝ }
+{
+    match figure {
         Figure::CentralPentagon => rows_applied(
             CentralPentagon::rows(),
             CentralPentagon::ANGLES,
@@ -100,7 +116,7 @@ fn table_applied(f: Figure, w: &[i32], numerators: &mut [i32])
             w,
             numerators,
         ),
-        Figure::CentralOctagon => rows_applied(
+        _ => rows_applied(
             CentralOctagon::rows(),
             CentralOctagon::ANGLES,
             CentralOctagon::CONDITIONS,
@@ -131,7 +147,7 @@ fn row_applied(row: [i8; MOST_CONDITIONS], conditions: usize, w: &[i32]) -> i32
     requires { ⌜ length (now w) ≡ conditions ⌝ }
     requires { ⌜ conditions ≤ mostConditions ⌝ }
     requires { ⌜ Within mostApplied (now w) ⌝ }
-    ensures { λ r. ⌜ r ≡ dot conditions (vector row) (vector (now (w .entry))) ⌝ }
+    ensures { λ total. ⌜ total ≡ dot conditions (vector row) (vector (now (w .entry))) ⌝ }
 {
     let mut total = 0i32;
     let mut j = 0;
@@ -144,7 +160,7 @@ fn row_applied(row: [i8; MOST_CONDITIONS], conditions: usize, w: &[i32]) -> i32
 
 fn product(coefficient: i8, misclosure: i32) -> i32
     requires { ⌜ natAbs misclosure ≤ mostApplied ⌝ }
-    ensures { λ r. ⌜ (r ≡ coefficient *ℤ misclosure) × (natAbs r ≤ 2 ^ 7 * mostApplied) ⌝ }
+    ensures { λ product. ⌜ (product ≡ coefficient *ℤ misclosure) × (natAbs product ≤ 2 ^ 7 * mostApplied) ⌝ }
 {
     coefficient as i32 * misclosure
 }

@@ -1,6 +1,11 @@
 // The numbers given when a sheet is turned back, with their places, and the order in which an operation's tests are
 // answered (document 01, "Numbers given when a sheet is turned back"). Places are counted from 1, as the paper counts
 // angles, fixed angles and conditions.
+ghost use mathlib.Core.Path.{_≡_};
+ghost use mathlib.Core.List.{[], _∷_};
+ghost use Rattle.refusals.specs.Numbers.{numberOf, placeOf};
+ghost use Rattle.refusals.specs.Order.{answerOf};
+
 mod units;
 
 pub use units::LEAST_ANGLE;
@@ -11,10 +16,6 @@ pub use units::MOST_DIFFERENCE;
 pub use units::MOST_LIMIT;
 pub use units::MOST_LOG_SINE;
 pub use units::MOST_TOLERANCE;
-ghost use mathlib.Core.Path.{_≡_};
-ghost use mathlib.Core.List.{[], _∷_};
-ghost use Rattle.refusals.specs.Numbers.{numberOf, placeOf};
-ghost use Rattle.refusals.specs.Order.{answerOf};
 
 // Why a sheet is turned back: a case for each row of the table, in its order, with the place where the table has one.
 pub enum Refusal {

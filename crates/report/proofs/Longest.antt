@@ -23,20 +23,20 @@ use Rattle.figures.specs.declared.Figure.{Figure}
 use Rattle.figures.specs.Figure.{denominator, angleCount, conditionCount}
 use Rattle.figures.specs.Numerators.{mostAngles}
 use Rattle.figures.proofs.Figures.{angle-bound, condition-bound}
-use Rattle.method.specs.FirstPass.{misclosure, firstNumerator, firstRounded, corrected, firstRest, misclosuresOf, numeratorsOf, roundedOf, correctedOf, restsOf}
-use Rattle.method.specs.SecondPass.{sineMisclosure, sumOfSquares, differenceSquares, secondReduced, secondNumerator, secondRounded, secondAdjusted, secondRest, reducedOf, secondNumeratorsOf, secondRoundedOf, adjustedOf, secondRestsOf}
+use Rattle.pass_rules.specs.FirstPass.{misclosure, firstNumerator, firstRounded, corrected, firstRest, misclosuresOf, numeratorsOf, roundedOf, correctedOf, restsOf}
+use Rattle.pass_rules.specs.SecondPass.{sineMisclosure, sumOfSquares, differenceSquares, secondReduced, secondNumerator, secondRounded, secondAdjusted, secondRest, reducedOf, secondNumeratorsOf, secondRoundedOf, adjustedOf, secondRestsOf}
 use Rattle.pass_steps.specs.Premises.{Within, mostDenominator, mostMisclosure, mostReduced}
 use Rattle.pass_second.proofs.Exact.{product-magnitude}
 use Rattle.pass_first.proofs.FirstBounds.{misclosure-small, first-numerator-small, first-rounded-small, first-rest-small}
 use Rattle.pass_second.proofs.SineBounds.{denominator-bound, squares-natural, squares-magnitude, reduced-magnitude}
 use Rattle.pass_second.proofs.Tolerance.{within-tolerance}
-use Rattle.worked.specs.Texts.{textOf}
-use Rattle.worked.specs.Worked.{WorkedSheet, firstSheetLengths, secondSheetLengths, refusedSheet, firstShown, secondShown, workedOf, sheetRows, outcomeTold}
-use Rattle.worked.proofs.Refusals.{sheet-rows-known, worked-told}
-use Rattle.worked.proofs.ShownAs.{FirstShown, SecondShown, RefusedShown, shown-as}
-use Rattle.method.proofs.FirstAccepted as First
-use Rattle.method.proofs.SecondAccepted.{Accepted, accepted, result-most, rounded-most, rest-most}
-use Rattle.method.proofs.WithinRange.{angle-most}
+use Rattle.pass_sheet.specs.Texts.{textOf}
+use Rattle.pass_sheet.specs.Worked.{WorkedSheet, firstSheetLengths, secondSheetLengths, refusedSheet, firstShown, secondShown, workedOf, sheetRows, outcomeTold}
+use Rattle.pass_sheet.proofs.Refusals.{sheet-rows-known, worked-told}
+use Rattle.pass_sheet.proofs.ShownAs.{FirstShown, SecondShown, RefusedShown, shown-as}
+use Rattle.pass_rules.proofs.FirstAccepted as First
+use Rattle.pass_rules.proofs.SecondAccepted.{Accepted, accepted, result-most, rounded-most, rest-most}
+use Rattle.pass_rules.proofs.WithinRange.{angle-most}
 use Rattle.lines.specs.Lines.{longestText}
 use Rattle.report.specs.Report.{reportText}
 use Rattle.lines.proofs.Lengths.{Digits, first-length, second-length, refused-length}

@@ -14,18 +14,18 @@ use Rattle.figures.specs.declared.Figure.{Figure}
 use Rattle.figures.specs.Figure.{angleCount, conditionCount}
 use Rattle.figures.specs.Numerators.{mostAngles}
 use Rattle.figures.proofs.Figures.{angle-bound, condition-bound}
-use Rattle.layout.specs.declared.Kind.{Kind}
-use Rattle.layout.specs.declared.Kind.the-variants.{FirstPass, SecondPass}
-use Rattle.layout.specs.Layout.{fixedIn, sineEntriesIn}
-use Rattle.heads.specs.declared.Look.{Look}
-use Rattle.heads.specs.declared.Look.the-variants.{Head}
-use Rattle.heads.specs.Head.{headRows, lookOf, ofHead}
-use Rattle.sheets.specs.Sheet.{valuesRead}
-use Rattle.sheets.specs.Judging.{ownLengths, bodyRows}
-use Rattle.method.specs.FirstPass.{firstLengths, firstRows, misclosure, corrected}
-use Rattle.method.specs.SecondPass.{secondLengths, secondRows, secondAdjusted}
-use Rattle.worked.specs.Worked.{passRows, sheetRows}
-use Rattle.worked.proofs.SheetBounds as SheetBounds
+use Rattle.sheet_layout.specs.declared.Kind.{Kind}
+use Rattle.sheet_layout.specs.declared.Kind.the-variants.{FirstPass, SecondPass}
+use Rattle.sheet_layout.specs.Layout.{fixedIn, sineEntriesIn}
+use Rattle.sheet_layout.specs.declared.head.Look.{Look}
+use Rattle.sheet_layout.specs.declared.head.Look.the-variants.{Head}
+use Rattle.sheet_layout.specs.Head.{headRows, lookOf, ofHead}
+use Rattle.sheet_rules.specs.Sheet.{valuesRead}
+use Rattle.sheet_rules.specs.Judging.{ownLengths, bodyRows}
+use Rattle.pass_rules.specs.FirstPass.{firstLengths, firstRows, misclosure, corrected}
+use Rattle.pass_rules.specs.SecondPass.{secondLengths, secondRows, secondAdjusted}
+use Rattle.pass_sheet.specs.Worked.{passRows, sheetRows}
+use Rattle.pass_sheet.proofs.SheetBounds as SheetBounds
 
 -- ---- the reader
 

@@ -5,7 +5,7 @@ use Prim.Native.Nat.{ℕ}
 use lib.Dec.{leb}
 use lib.ListN.{length, drop}
 use Rattle.refusals.specs.Promise.{Promised}
-use Rattle.worked.specs.Texts.{workedText}
+use Rattle.pass_sheet.specs.Texts.{workedText}
 use Rattle.report.specs.declared.reporting.Reported.{Reported}
 use Rattle.report.specs.declared.reporting.Reported.the-variants.{Written, NoRoom}
 

@@ -1,7 +1,7 @@
 // A sheet's text, from its bytes: document 01, "Sheets worked through".
 ghost use Rattle.report.specs.Report.{ReportedPromise};
+use pass_sheet::worked_lines;
 use text::put_word;
-use worked::worked_lines;
 
 // The text of any bytes has at most so many.
 pub const LONGEST_TEXT: usize = 2048;

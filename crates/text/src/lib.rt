@@ -6,10 +6,15 @@ ghost use mathlib.Core.List.{[], _∷_};
 ghost use lib.ListN.{length};
 ghost use Rattle.text.specs.Text.{laid, after};
 
+mod numerals;
+
+pub use numerals::put_natural;
+pub use numerals::put_number;
+
 // Lays a word, or any bytes.
 pub fn put_word(buffer: &mut [u8], at: usize, word: &[u8]) -> usize
     ensures { λ _. ⌜ now (buffer .exit) ≡ laid (now (buffer .entry)) at (now (word .entry)) ⌝ }
-    ensures { λ r. ⌜ r ≡ after (length (now (buffer .entry))) at (now (word .entry)) ⌝ }
+    ensures { λ next. ⌜ next ≡ after (length (now (buffer .entry))) at (now (word .entry)) ⌝ }
 {
     let size = buffer.len();
     if at > size {
@@ -30,7 +35,7 @@ pub fn put_word(buffer: &mut [u8], at: usize, word: &[u8]) -> usize
 // Lays one byte, as a space or a line feed.
 pub fn put_byte(buffer: &mut [u8], at: usize, byte: u8) -> usize
     ensures { λ _. ⌜ now (buffer .exit) ≡ laid (now (buffer .entry)) at (byte ∷ []) ⌝ }
-    ensures { λ r. ⌜ r ≡ after (length (now (buffer .entry))) at (byte ∷ []) ⌝ }
+    ensures { λ next. ⌜ next ≡ after (length (now (buffer .entry))) at (byte ∷ []) ⌝ }
 {
     let size = buffer.len();
     if at >= size {

@@ -11,21 +11,21 @@ const MOST_HUNDREDFOLD: u64 = 184467440737095516;
 
 // How far z is from zero. An i64 cannot hold the negation of its smallest number; −1 − z it holds for every z.
 pub fn magnitude(z: i64) -> u64
-    ensures { λ r. ⌜ r ≡ natAbs z ⌝ }
+    ensures { λ size. ⌜ size ≡ natAbs z ⌝ }
 {
     if z < 0 { (-1 - z) as u64 + 1 } else { z as u64 }
 }
 
 // The whole number nearest to numerator / denominator, halves away from zero; 0 where the denominator is 0.
 pub fn rounded_quotient(numerator: i64, denominator: u64) -> i64
-    ensures { λ r. ⌜ r ≡ roundedQuotient numerator denominator ⌝ }
+    ensures { λ quotient. ⌜ quotient ≡ roundedQuotient numerator denominator ⌝ }
 {
     with_sign(numerator, nearest(magnitude(numerator), denominator))
 }
 
 // The definition's 2n + d may pass 64 bits, so the remainder decides.
 fn nearest(n: u64, d: u64) -> u64
-    ensures { λ r. ⌜ r ≡ Quotient·nearest n d ⌝ }
+    ensures { λ quotient. ⌜ quotient ≡ Quotient·nearest n d ⌝ }
 {
     if d == 0 {
         return 0;
@@ -41,7 +41,7 @@ fn nearest(n: u64, d: u64) -> u64
 // A magnitude no greater than that of the number, with the number's sign.
 fn with_sign(number: i64, size: u64) -> i64
     requires { ⌜ size ≤ natAbs number ⌝ }
-    ensures { λ r. ⌜ r ≡ withSign number size ⌝ }
+    ensures { λ signed. ⌜ signed ≡ withSign number size ⌝ }
 {
     if number < 0 {
         if size == 0 { 0 } else { -1 - (size - 1) as i64 }
@@ -52,7 +52,7 @@ fn with_sign(number: i64, size: u64) -> i64
 
 // 100·a is more than most. Where 100·a passes 64 bits, it is more than any such number.
 pub fn hundredfold_exceeds(a: u64, most: u64) -> bool
-    ensures { λ r. ⌜ r ≡ ltb most (100 * a) ⌝ }
+    ensures { λ exceeds. ⌜ exceeds ≡ ltb most (100 * a) ⌝ }
 {
     if MOST_HUNDREDFOLD < a {
         true

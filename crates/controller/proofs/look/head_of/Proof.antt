@@ -7,7 +7,7 @@ use borrow.Author.Needs.{needs}
 use Rattle.figures.specs.declared.Name.{Name}
 use Rattle.figures.specs.declared.Counts.{Counts}
 use Rattle.figures.proofs.Figures.{angle-bound, condition-bound}
-use Rattle.layout.specs.declared.Lengths.{Lengths}
+use Rattle.sheet_layout.specs.declared.Lengths.{Lengths}
 use Rattle.controller.proofs.PlaceBounds.{fixed-in-few, sines-in-few}
 use Rattle.controller.proofs.look.head_of.Statement.{statement}
 use Rattle.controller.proofs.look.head_of.Tie as tie

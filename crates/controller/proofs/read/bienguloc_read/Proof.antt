@@ -3,7 +3,7 @@ use mathlib.Core.Path.{sym, ap, _∙_}
 use borrow.Author.Needs.{needs}
 use denote.Ref.{now}
 use lib.ListN.{length}
-use Rattle.sheets.specs.Promises.{Slices, slices}
+use Rattle.sheet_rules.specs.Promises.{Slices, slices}
 use Rattle.controller.specs.Promises.{ReadLent, readLent}
 use Rattle.controller.proofs.SheetsRead.{wrong-head-small, wrong-head, right-refusal-small, right-refused, right-read}
 use Rattle.controller.proofs.read.bienguloc_read.Statement.{statement}

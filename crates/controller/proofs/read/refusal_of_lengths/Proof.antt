@@ -3,7 +3,7 @@ use mathlib.Core.List.{[]}
 use mathlib.Core.Path.{sym, _∙_}
 use borrow.Author.Needs.{needs}
 use denote.Ref.{now}
-use Rattle.sheets.proofs.Accepted.{head-found, head-refused}
+use Rattle.sheet_rules.proofs.Accepted.{head-found, head-refused}
 use Rattle.controller.proofs.SheetsRead.{size-refused, lengths-refused}
 use Rattle.controller.proofs.read.refusal_of_lengths.Statement.{statement}
 use Rattle.controller.proofs.read.refusal_of_lengths.Tie as tie

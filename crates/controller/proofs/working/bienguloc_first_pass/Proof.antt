@@ -5,9 +5,9 @@ use borrow.Author.Needs.{needs}
 use denote.Ref.{now}
 use Rattle.refusals.specs.declared.Verdict.{Verdict}
 use Rattle.refusals.specs.Numbers.{verdictTold}
-use Rattle.method.specs.FirstPass.{firstPassVerdict}
-use Rattle.method.proofs.Refusals.{first-in-table}
-use Rattle.method.specs.Promises.{FirstGiven, firstGiven, FirstLent, firstLent, firstLengthsLent, firstRowsOf, FirstPromise}
+use Rattle.pass_rules.specs.FirstPass.{firstPassVerdict}
+use Rattle.pass_rules.proofs.Refusals.{first-in-table}
+use Rattle.pass_rules.specs.Promises.{FirstGiven, firstGiven, FirstLent, firstLent, firstLengthsLent, firstRowsOf, FirstPromise}
 use Rattle.controller.specs.Answer.{placeStep, answerNumber}
 use Rattle.controller.specs.Promises.{FirstPassPromise}
 use Rattle.controller.proofs.Answers.{place-small}

@@ -10,7 +10,7 @@ use lib.ListN.{length-set}
 use mir.Facts.{toZ-ofZ}
 use Rattle.refusals.specs.declared.Refusal.{Refusal}
 use Rattle.refusals.specs.Numbers.{placeOf, refusalTold}
-use Rattle.method.specs.Promises.{SecondGiven, secondGiven, SecondLent, secondLent}
+use Rattle.pass_rules.specs.Promises.{SecondGiven, secondGiven, SecondLent, secondLent}
 use Rattle.controller.specs.Answer.{placeStep, answerNumber}
 use Rattle.controller.specs.Promises.{SumsLent, sumsLent}
 use Rattle.controller.proofs.Lists.{stored-2}

@@ -7,10 +7,10 @@ use denote.Ref.{now}
 use lib.ListN.{length}
 use Rattle.refusals.specs.declared.Verdict.{Verdict}
 use Rattle.refusals.specs.Numbers.{verdictTold}
-use Rattle.sheets.specs.Judging.{writerRows, writingOf}
-use Rattle.sheets.specs.Promises.{WriterPromise}
-use Rattle.sheets.specs.Sheet.{Values, valuesFrom}
-use Rattle.sheets.proofs.Refusals.{writer-in-table}
+use Rattle.sheet_rules.specs.Judging.{writerRows, writingOf}
+use Rattle.sheet_rules.specs.Promises.{WriterPromise}
+use Rattle.sheet_rules.specs.Sheet.{Values, valuesFrom}
+use Rattle.sheet_rules.proofs.Refusals.{writer-in-table}
 use Rattle.controller.specs.Answer.{placeStep, answerNumber}
 use Rattle.controller.specs.Promises.{WritePromise}
 use Rattle.controller.proofs.Answers.{place-small}

@@ -18,7 +18,7 @@ use Rattle.lines.proofs.first.put_figure_line.Tie as tie
 returns : tie.Need-returns
 unfolding denominatorWord
 returns c =
-    let f = c .before .before .before .before .before .before .before .before .before .before .before .before .args .f in
+    let f = c .before .before .before .before .before .before .before .before .before .before .before .before .args .figure in
     lays-as (first-figure f zeros) (lays-then (c .before .before .before .before .before .before .before .put-figure-start .ensures)
     (lays-as
     (ap (λ (z : ℤ). (denominatorWord ++ (space ∷ [])) ++ numbersLine 1 (z ∷ zeros)) (toZ-pos w64 (omega arith) ∙ ap (λ (r : Counts). pos (r .denominator)) (c .before .before .before .before .before .before .before .before .before .before .counts-of .ensures)))

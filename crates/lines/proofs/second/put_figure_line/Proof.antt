@@ -17,7 +17,7 @@ unfolding wWord sWord
 returns c =
     let start = c .before .before .before .before .before .before .before .before .before .before .before .before .before .before .before .before .before .before .before in
     let a = c .before .before .before .before .before .before .before .before .before .before .before .before .before .before .before .before .before .before .before .args in
-    lays-as (second-figure (a .f) (a .w) (a .s) zeros) (lays-then (c .before .before .before .before .before .before .before .before .before .before .before .before .before .before .before .before .put-figure-start .ensures) (lays-then (c .before .before .before .before .before .before .before .before .before .before .before .put-word .ensures)
+    lays-as (second-figure (a .figure) (a .w) (a .s) zeros) (lays-then (c .before .before .before .before .before .before .before .before .before .before .before .before .before .before .before .before .put-figure-start .ensures) (lays-then (c .before .before .before .before .before .before .before .before .before .before .before .put-word .ensures)
     (lays-then (lays-as (ap (λ (z : ℤ). decimal z ++ (space ∷ [])) (toZ-ofZ (start .fits .w))) (c .before .before .before .before .before .before .before .put-part .ensures))
     (lays-as (ap (λ (z : ℤ). (sWord ++ (space ∷ [])) ++ numbersLine 1 (z ∷ zeros)) (toZ-ofZ (start .fits .s))) (c .before .before .put-line .ensures)))))
 

@@ -12,15 +12,15 @@ use Rattle.lines.proofs.second.second_lines.Statement.{statement}
 use Rattle.lines.proofs.second.second_lines.Tie as tie
 
 few : (c : tie.After-counts-of) → (c .counts-of .result .angles ≤ 24) × (c .counts-of .result .conditions ≤ 24)
-few c = few-lines (c .before .before .before .before .args .f) (c .counts-of .ensures)
+few c = few-lines (c .before .before .before .before .args .figure) (c .counts-of .ensures)
 
 returns : tie.Need-returns
 unfolding secondText secondLines
 returns c =
     let counted = c .before .before .before .before .before .before .before .before .before .before .before .before in
     let start = counted .before .before .before .before in
-    text-laid (start .args .f) _ _ _ (counted .counts-of .ensures)
-    (lays-as (ap₂ (λ (w s : ℤ). line (secondFigure (start .args .f) w s)) (toZ-ofZ (start .fits .w)) (toZ-ofZ (start .fits .s))) (c .before .before .before .before .before .before .before .before .before .before .put-figure-line .ensures))
+    text-laid (start .args .figure) _ _ _ (counted .counts-of .ensures)
+    (lays-as (ap₂ (λ (w s : ℤ). line (secondFigure (start .args .figure) w s)) (toZ-ofZ (start .fits .w)) (toZ-ofZ (start .fits .s))) (c .before .before .before .before .before .before .before .before .before .before .put-figure-line .ensures))
     (c .before .before .before .before .before .before .put-angles .ensures) (c .before .before .put-conditions .ensures)
 
 pub second-lines-spec : {M : Type 1} → statement M

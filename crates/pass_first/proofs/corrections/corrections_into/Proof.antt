@@ -17,7 +17,7 @@ module _ (c : tie.After-numerators-into) where
   abbrev start : tie.Start
   start = c .before .before
 
-  exact : c .numerators-into .last .1 .1 .0 ≡ numeratorsFrom (start .args .f) (now (start .args .w))
+  exact : c .numerators-into .last .1 .1 .0 ≡ numeratorsFrom (start .args .figure) (now (start .args .w))
   exact =
       c .numerators-into .ensures ∙ fits _ _ _ _ _ _ (start .pre .0) (start .pre .1 .0)
       ∙ taken _ _ _ (misclosures-pass mostApplied (now (start .args .w)) (λ i. le-trans (start .pre .1 .1 .1 i) (lit≤ tt)))
@@ -26,13 +26,13 @@ rounded-into-requires : tie.Need-rounded-into-requires
 rounded-into-requires c κs =
     let s = c .before .before .before in (
       start s .pre .1 .1 .0 ∙ sym (length-of _ _ (exact s)),
-      λ i. rw (exact s) (exact-within (start s .args .f) (now (start s .args .w)) (start s .pre .1 .1 .1) mostRounded (lit≤ tt) i),
+      λ i. rw (exact s) (exact-within (start s .args .figure) (now (start s .args .w)) (start s .pre .1 .1 .1) mostRounded (lit≤ tt) i),
     )
 
 returns : tie.Need-returns
 returns c =
     let s = c .before .before .before .before .before in
-    (exact s, tenths-are (start s .args .f) (now (start s .args .w)) (exact s) (c .before .rounded-into .ensures))
+    (exact s, tenths-are (start s .args .figure) (now (start s .args .w)) (exact s) (c .before .rounded-into .ensures))
 
 pub corrections-into-spec : {M : Type 1} → statement M
 corrections-into-spec = tie.close (tie.spec (λ c κs. tt) rounded-into-requires (λ c. search needs) (λ c. search needs) returns)

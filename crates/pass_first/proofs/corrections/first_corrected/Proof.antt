@@ -14,8 +14,8 @@ use Rattle.refusals.specs.Order.{verdictOf, judged}
 use Rattle.refusals.specs.Table.{lengthsRow, resultsRow}
 use Rattle.judging.specs.Searches.{resultsOf}
 use Rattle.figures.proofs.Figures.{angle-bound}
-use Rattle.method.specs.FirstPass.{firstResultLengths}
-use Rattle.method.specs.Promises.{firstLent, firstResultsLent}
+use Rattle.pass_rules.specs.FirstPass.{firstResultLengths}
+use Rattle.pass_rules.specs.Promises.{firstLent, firstResultsLent}
 use Rattle.pass_steps.specs.Premises.{mostSummed}
 use Rattle.pass_steps.specs.Steps.{numeratorsFrom, resultsRows, resultsFrom}
 use Rattle.pass_steps.proofs.Judged.{lengths-pass, first-passes, kept, written, taken}
@@ -27,7 +27,7 @@ use Rattle.pass_first.proofs.corrections.first_corrected.Statement.{sta
 use Rattle.pass_first.proofs.corrections.first_corrected.Tie as tie
 
 few : (s : tie.Start) → length (now (s .args .angles)) ≤ 24
-few s = omega (arith, s .pre .0, angle-bound (s .args .f))
+few s = omega (arith, s .pre .0, angle-bound (s .args .figure))
 
 lent : (s : tie.Start) → length (now (s .args .angles)) ≡ length (take (length (now (s .args .angles))) (replicate 24 (pos 0)))
 lent s = lent-length _ (replicate 24 (pos 0)) (few s)
@@ -35,7 +35,7 @@ lent s = lent-length _ (replicate 24 (pos 0)) (few s)
 -- the slices for the results, by their places in the list of lengths
 room : (s : tie.Start) (k : ℕ)
     → getD (firstResultsLent (firstLent (now (s .args .misclosures)) (now (s .args .numerators)) (now (s .args .rounded)) (now (s .args .corrected)) (now (s .args .rests)))) k 0
-    ≡ getD (firstResultLengths (s .args .f)) k 0
+    ≡ getD (firstResultLengths (s .args .figure)) k 0
 room s k = ap (λ (l : List ℕ). getD l k 0) (s .pre .1 .1 .0)
 
 corrections-into-requires : tie.Need-corrections-into-requires
@@ -80,14 +80,14 @@ module _ (c : tie.After-corrections-into) where
   abbrev w : List ℤ
   w = now (start .args .w)
 
-  exact : again exactPart ≡ numeratorsFrom (start .args .f) w
+  exact : again exactPart ≡ numeratorsFrom (start .args .figure) w
   exact = is-part exactPart exact-kept ∙ c .corrections-into .ensures .0
 
-  tenths : again tenthsPart ≡ tenthsOf (start .args .f) w
+  tenths : again tenthsPart ≡ tenthsOf (start .args .figure) w
   tenths = is-part tenthsPart tenths-kept ∙ c .corrections-into .ensures .1
 
   abbrev verdict : Verdict
-  verdict = verdictOf (resultsRow (resultsOf (now (start .args .angles)) (tenthsOf (start .args .f) w)))
+  verdict = verdictOf (resultsRow (resultsOf (now (start .args .angles)) (tenthsOf (start .args .figure) w)))
 
   -- the lengths are right, so that number 7 decides
   decided : judged (resultsRows (now (start .args .angles)) (again tenthsPart) (length (now (start .args .corrected)))) ≡ verdict
@@ -114,7 +114,7 @@ store-first-requires c κs =
               room s 1,
               (
                 room s 2,
-                (room s 4, (s .pre .1 .1 .1, λ i. rw (tenths k) (tenths-within (s .args .f) (w k) (s .pre .1 .1 .1) mostSummed (lit≤ tt) i))),
+                (room s 4, (s .pre .1 .1 .1, λ i. rw (tenths k) (tenths-within (s .args .figure) (w k) (s .pre .1 .1 .1) mostSummed (lit≤ tt) i))),
               ),
             ),
           ),
@@ -128,7 +128,7 @@ returns c =
     let asked = told .before .before .before .before in
     let k = asked .before .before .before .before .before in
     let s = start k in
-    let f = s .args .f in
+    let f = s .args .figure in
     let held = c .before .before .before .before .store-first .ensures in
     let answered = asked .results-into .ensures .answered ∙ decided k in
     let passed = sym answered ∙ told .enum-told .given .1 in
@@ -154,7 +154,7 @@ returns-2 c =
       answered = answered;
       leaves =
           (λ i. firstLent (now (s .args .misclosures)) (now (s .args .numerators)) (now (s .args .rounded)) (untouched i) (now (s .args .rests)))
-          ∙ kept (verdict k) (firstFrom (s .args .f) (now (s .args .angles)) (w k)) _ _ failed;
+          ∙ kept (verdict k) (firstFrom (s .args .figure) (now (s .args .angles)) (w k)) _ _ failed;
     }
 
 pub first-corrected-spec : {M : Type 1} → statement M

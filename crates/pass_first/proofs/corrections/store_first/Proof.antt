@@ -17,9 +17,9 @@ module _ (k : tie.After-condition-sums) where
   abbrev start : tie.Start
   start = k .before .before .before .before .before .before .before .before .before .before .before
 
-  sums : k .condition-sums .last .1 .1 .0 ≡ listed (conditionCount (start .args .f)) (conditionSum (start .args .f) (vector (now (start .args .tenths))))
+  sums : k .condition-sums .last .1 .1 .0 ≡ listed (conditionCount (start .args .figure)) (conditionSum (start .args .figure) (vector (now (start .args .tenths))))
   sums =
-      sums-are (start .args .f) (now (start .args .tenths)) (start .pre .1 .1 .1 .1 .1 .1 .1 .1) _ (now (start .args .rests)) refl (start .pre .1 .1 .0) (start .pre .1 .1 .1 .1 .1 .1 .0)
+      sums-are (start .args .figure) (now (start .args .tenths)) (start .pre .1 .1 .1 .1 .1 .1 .1 .1) _ (now (start .args .rests)) refl (start .pre .1 .1 .0) (start .pre .1 .1 .1 .1 .1 .1 .0)
       (k .condition-sums .ensures)
 
 add-misclosures-requires : tie.Need-add-misclosures-requires
@@ -29,7 +29,7 @@ add-misclosures-requires c κs =
       length-of _ _ (sums k) ∙ sym (s .pre .0),
       (
         s .pre .1 .1 .1 .1 .1 .1 .1 .0,
-        λ j. rw (sums k) (totals-within (s .args .f) (now (s .args .tenths)) (s .pre .1 .1 .1 .1 .1 .1 .1 .1) j),
+        λ j. rw (sums k) (totals-within (s .args .figure) (now (s .args .tenths)) (s .pre .1 .1 .1 .1 .1 .1 .1 .1) j),
       ),
     )
 
@@ -47,7 +47,7 @@ returns c =
       rounded-are = third .store-signed3 .ensures ∙ copied (now (s .args .tenths)) (now (s .args .rounded)) (pre .1 .1 .0 ∙ sym (pre .1 .1 .1 .1 .1 .0));
       rests-are =
           c .before .add-misclosures .ensures
-          ∙ listed-after (conditionCount (s .args .f)) (conditionSum (s .args .f) (vector (now (s .args .tenths)))) _ (λ j z. vector (now (s .args .w)) j +ℤ z) (sums k) (pre .0);
+          ∙ listed-after (conditionCount (s .args .figure)) (conditionSum (s .args .figure) (vector (now (s .args .tenths)))) _ (λ j z. vector (now (s .args .w)) j +ℤ z) (sums k) (pre .0);
     }
 
 pub store-first-spec : {M : Type 1} → statement M

@@ -2,7 +2,7 @@
 use mathlib.Core.Path.{sym, _∙_}
 use borrow.Author.Needs.{needs}
 use denote.Ref.{now}
-use Rattle.method.specs.Promises.{FirstGiven, FirstLent, firstGiven, firstLent}
+use Rattle.pass_rules.specs.Promises.{FirstGiven, FirstLent, firstGiven, firstLent}
 use Rattle.pass_first.proofs.FirstPromised.{none-named, of-figure}
 use Rattle.pass_first.proofs.first.first_pass.Statement.{statement}
 use Rattle.pass_first.proofs.first.first_pass.Tie as tie
@@ -22,7 +22,7 @@ returns-2 : tie.Need-returns-2
 returns-2 c =
     let s = c .before .before .before .before .before .before .before .before .before .before .before .before .before .before .before .before .before .before .before in
     let named = c .before .before .before .before .before .before .before .before .before .before .before .before .before in
-    of-figure (given s) (entry s) _ (sym (named .before .before .figure-of .ensures) ∙ named .f .given .1) (c .before .before .before .before .before .before .first-pass-of .ensures)
+    of-figure (given s) (entry s) _ (sym (named .before .before .figure-of .ensures) ∙ named .figure .given .1) (c .before .before .before .before .before .before .first-pass-of .ensures)
 
 pub first-pass-spec : {M : Type 1} → statement M
 first-pass-spec =

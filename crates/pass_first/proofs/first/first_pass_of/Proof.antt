@@ -13,8 +13,8 @@ use Rattle.refusals.specs.Order.{verdictOf, judged}
 use Rattle.refusals.specs.Table.{misclosuresRow}
 use Rattle.figures.specs.Figure.{conditionCount}
 use Rattle.figures.proofs.Figures.{condition-bound}
-use Rattle.method.specs.FirstPass.{limitOf, givenRows, misclosuresOf, firstResultLengths}
-use Rattle.method.specs.Promises.{FirstLent, firstLent, firstResultsLent, firstSlices}
+use Rattle.pass_rules.specs.FirstPass.{limitOf, givenRows, misclosuresOf, firstResultLengths}
+use Rattle.pass_rules.specs.Promises.{FirstLent, firstLent, firstResultsLent, firstSlices}
 use Rattle.pass_first.proofs.FirstPromised.{refused-before, length-at, small-angles, small-fixed, refused-misclosure, small-misclosures, by-results}
 use Rattle.pass_steps.proofs.Lending.{lent-length, part-again, still-few, again-length}
 use Rattle.pass_first.proofs.first.first_pass_of.Statement.{statement}
@@ -26,7 +26,7 @@ entry s = firstLent (now (s .args .misclosures)) (now (s .args .numerators)) (no
 returns : tie.Need-returns
 returns c =
     let s = c .before .before .before .before .before .before in
-    refused-before (s .args .f) (s .args .limit) (now (s .args .angles)) (now (s .args .fixed)) (entry s)
+    refused-before (s .args .figure) (s .args .limit) (now (s .args .angles)) (now (s .args .fixed)) (entry s)
     (c .before .before .first-given-verdict .result) _ (c .before .before .first-given-verdict .ensures) (c .enum-told .given .1)
 
 -- ---- the rows before the work have passed
@@ -35,7 +35,7 @@ module _ (t : tie.After-enum-told2) where
   abbrev start : tie.Start
   start = t .before .before .before .before .before .before
 
-  passed : judged (givenRows (start .args .f) (start .args .limit) (now (start .args .angles)) (now (start .args .fixed))
+  passed : judged (givenRows (start .args .figure) (start .args .limit) (now (start .args .angles)) (now (start .args .fixed))
       (firstSlices (now (start .args .angles)) (now (start .args .fixed)) (entry start))) ≡ Passed
   passed = sym (t .before .before .first-given-verdict .ensures) ∙ t .enum-told2 .given .1
 
@@ -43,11 +43,11 @@ module _ (t : tie.After-enum-told2) where
   abbrev m : ℕ
   m = length (now (start .args .misclosures))
 
-  conditions : m ≡ conditionCount (start .args .f)
-  conditions = length-at (start .args .f) (start .args .limit) (now (start .args .angles)) (now (start .args .fixed)) (entry start) passed 2
+  conditions : m ≡ conditionCount (start .args .figure)
+  conditions = length-at (start .args .figure) (start .args .limit) (now (start .args .angles)) (now (start .args .fixed)) (entry start) passed 2
 
   few : m ≤ 9
-  few = omega (arith, conditions, condition-bound (start .args .f))
+  few = omega (arith, conditions, condition-bound (start .args .figure))
 
   lent : m ≡ length (take m (replicate 9 (pos 0)))
   lent = lent-length m (replicate 9 (pos 0)) few
@@ -56,15 +56,15 @@ misclosures-into-requires : tie.Need-misclosures-into-requires
 misclosures-into-requires c κs =
     let t = c .before in
     let s = start t in
-    let at = length-at (s .args .f) (s .args .limit) (now (s .args .angles)) (now (s .args .fixed)) (entry s) (passed t) in (
+    let at = length-at (s .args .figure) (s .args .limit) (now (s .args .angles)) (now (s .args .fixed)) (entry s) (passed t) in (
       at 0,
       (
         at 1,
         (
           sym (lent t) ∙ conditions t,
           (
-            small-angles (s .args .f) (s .args .limit) (now (s .args .angles)) (now (s .args .fixed)) (entry s) (passed t),
-            small-fixed (s .args .f) (s .args .limit) (now (s .args .angles)) (now (s .args .fixed)) (entry s) (passed t),
+            small-angles (s .args .figure) (s .args .limit) (now (s .args .angles)) (now (s .args .fixed)) (entry s) (passed t),
+            small-fixed (s .args .figure) (s .args .limit) (now (s .args .angles)) (now (s .args .fixed)) (entry s) (passed t),
           ),
         ),
       ),
@@ -91,11 +91,11 @@ module _ (k : tie.After-misclosures-into) where
   aggregate : m told ≡ length again
   aggregate = again-length (m told) (replicate 9 (pos 0)) (few told) part kept
 
-  are : again ≡ misclosuresOf (start told .args .f) (now (start told .args .angles)) (now (start told .args .fixed))
+  are : again ≡ misclosuresOf (start told .args .figure) (now (start told .args .angles)) (now (start told .args .fixed))
   are = part-again (m told) (replicate 9 (pos 0)) (few told) part kept ∙ k .misclosures-into .ensures
 
   asked : (v : Verdict) (limit : ℕ) → v ≡ verdictOf (misclosuresRow limit again) → limit ≡ limitOf (start told .args .limit)
-      → v ≡ verdictOf (misclosuresRow (limitOf (start told .args .limit)) (misclosuresOf (start told .args .f) (now (start told .args .angles)) (now (start told .args .fixed))))
+      → v ≡ verdictOf (misclosuresRow (limitOf (start told .args .limit)) (misclosuresOf (start told .args .figure) (now (start told .args .angles)) (now (start told .args .fixed))))
   asked v limit e in-force = e ∙ λ i. verdictOf (misclosuresRow (in-force i) (are i))
 
 returns-2 : tie.Need-returns-2
@@ -104,12 +104,12 @@ returns-2 c =
     let t = told k in
     let s = start t in
     let v = c .before .before in
-    refused-misclosure (s .args .f) (s .args .limit) (now (s .args .angles)) (now (s .args .fixed)) (entry s) (passed t)
+    refused-misclosure (s .args .figure) (s .args .limit) (now (s .args .angles)) (now (s .args .fixed)) (entry s) (passed t)
     (v .misclosures-verdict .result) _ (asked k _ _ (v .misclosures-verdict .ensures) (v .before .limit-in-force .ensures)) (c .enum-told3 .given .1)
 
 -- number 6 has passed
 within : (c : tie.After-enum-told4) → (let k = c .before .before .before .before .before .before in let s = start (told k) in
-    verdictOf (misclosuresRow (limitOf (s .args .limit)) (misclosuresOf (s .args .f) (now (s .args .angles)) (now (s .args .fixed)))) ≡ Passed)
+    verdictOf (misclosuresRow (limitOf (s .args .limit)) (misclosuresOf (s .args .figure) (now (s .args .angles)) (now (s .args .fixed)))) ≡ Passed)
 within c =
     let v = c .before .before in
     sym (asked (c .before .before .before .before .before .before) _ _ (v .misclosures-verdict .ensures) (v .before .limit-in-force .ensures)) ∙ c .enum-told4 .given .1
@@ -119,9 +119,9 @@ first-corrected-requires c κs =
     let k = c .before .before .before .before .before .before .before .before .before .before .before .before in
     let t = told k in
     let s = start t in
-    let at = length-at (s .args .f) (s .args .limit) (now (s .args .angles)) (now (s .args .fixed)) (entry s) (passed t) in
-    let small = small-misclosures (s .args .f) (s .args .limit) (now (s .args .angles)) (now (s .args .fixed)) (entry s) (passed t) (within (c .before .before .before .before .before .before)) in
-    let lengths : firstResultsLent (entry s) ≡ firstResultLengths (s .args .f) = λ i. at 2 i ∷ at 3 i ∷ at 4 i ∷ at 5 i ∷ at 6 i ∷ [] in (
+    let at = length-at (s .args .figure) (s .args .limit) (now (s .args .angles)) (now (s .args .fixed)) (entry s) (passed t) in
+    let small = small-misclosures (s .args .figure) (s .args .limit) (now (s .args .angles)) (now (s .args .fixed)) (entry s) (passed t) (within (c .before .before .before .before .before .before)) in
+    let lengths : firstResultsLent (entry s) ≡ firstResultLengths (s .args .figure) = λ i. at 2 i ∷ at 3 i ∷ at 4 i ∷ at 5 i ∷ at 6 i ∷ [] in (
       at 0,
       (
         sym (aggregate k) ∙ conditions t,
@@ -134,7 +134,7 @@ returns-3 c =
     let k = c .before .before .before .before .before .before .before .before .before .before .before .before .before .before .before .before .before .before .before in
     let t = told k in
     let s = start t in
-    by-results (s .args .f) (s .args .limit) (now (s .args .angles)) (now (s .args .fixed)) (entry s) (passed t) (within (c .before .before .before .before .before .before .before .before .before .before .before .before .before))
+    by-results (s .args .figure) (s .args .limit) (now (s .args .angles)) (now (s .args .fixed)) (entry s) (passed t) (within (c .before .before .before .before .before .before .before .before .before .before .before .before .before))
     (again k) (are k) (c .before .before .before .before .before .before .first-corrected .ensures)
 
 pub first-pass-of-spec : {M : Type 1} → statement M

@@ -13,7 +13,7 @@ use Rattle.whole.specs.Sums.{vector}
 use Rattle.whole.proofs.Lists.{Replaced, replaced-none, replaced-more, filled-all}
 use Rattle.whole.proofs.Magnitudes.{natAbs-sub, magnitude-fits}
 use Rattle.figures.specs.Figure.{conditionCount, targetOf}
-use Rattle.method.specs.FirstPass.{shouldBe}
+use Rattle.pass_rules.specs.FirstPass.{shouldBe}
 use Rattle.pass_first.proofs.FirstSteps.{target-small}
 use Rattle.pass_first.proofs.misclosures.less_targets.Statement.{statement}
 use Rattle.pass_first.proofs.misclosures.less_targets.Tie as tie
@@ -46,7 +46,7 @@ module _ (c : tie.After-should-be Inv-loop μ-loop) where
   total = vector (now (start .args .w)) j
 
   abbrev target : ℤ
-  target = shouldBe (targetOf (start .args .f) (suc j)) (now (start .args .fixed))
+  target = shouldBe (targetOf (start .args .figure) (suc j)) (now (start .args .fixed))
 
   both : toZ w32 (ofZ w32 (vector (at .loop .w) j)) -ℤ toZ w32 (ofZ w32 (c .should-be .result)) ≡ total -ℤ target
   both =
@@ -59,7 +59,7 @@ module _ (c : tie.After-should-be Inv-loop μ-loop) where
         arith,
         natAbs-sub total target,
         start .pre .1 .1 .0 j,
-        target-small (now (start .args .fixed)) (start .pre .1 .1 .1) (targetOf (start .args .f) (suc j)),
+        target-small (now (start .args .fixed)) (start .pre .1 .1 .1) (targetOf (start .args .figure) (suc j)),
       ))
 
 sub-w : tie.Need-sub-w Inv-loop μ-loop

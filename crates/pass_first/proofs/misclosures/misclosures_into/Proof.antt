@@ -14,8 +14,8 @@ use Rattle.figures.specs.declared.Figure.{Figure}
 use Rattle.figures.specs.Figure.{angleCount, conditionCount, targetOf}
 use Rattle.figures.specs.Numerators.{conditionSum}
 use Rattle.figures.proofs.Figures.{angle-bound}
-use Rattle.method.specs.FirstPass.{shouldBe, misclosure, misclosuresOf}
-use Rattle.method.specs.Pass.{given}
+use Rattle.pass_rules.specs.FirstPass.{shouldBe, misclosure, misclosuresOf}
+use Rattle.pass_rules.specs.Pass.{given}
 use Rattle.pass_steps.specs.Premises.{Within, mostSummed}
 use Rattle.pass_steps.proofs.Held.{totals-within, sums-are}
 use Rattle.pass_steps.proofs.Lending.{lent-length, part-again, still-few, again-length}
@@ -24,7 +24,7 @@ use Rattle.pass_first.proofs.misclosures.misclosures_into.Statement.{st
 use Rattle.pass_first.proofs.misclosures.misclosures_into.Tie as tie
 
 few : (s : tie.Start) → length (now (s .args .angles)) ≤ 24
-few s = omega (arith, s .pre .0, angle-bound (s .args .f))
+few s = omega (arith, s .pre .0, angle-bound (s .args .figure))
 
 signed-into-requires : tie.Need-signed-into-requires
 signed-into-requires c κs =
@@ -62,9 +62,9 @@ module _ (k : tie.After-condition-sums) where
   abbrev signed : tie.After-signed-into
   signed = k .before .before .before .before
 
-  sums : k .condition-sums .last .1 .1 .0 ≡ listed (conditionCount (start signed .args .f)) (conditionSum (start signed .args .f) (vector (observed signed)))
+  sums : k .condition-sums .last .1 .1 .0 ≡ listed (conditionCount (start signed .args .figure)) (conditionSum (start signed .args .figure) (vector (observed signed)))
   sums =
-      sums-are (start signed .args .f) (observed signed) (small signed) (lent signed) (now (start signed .args .w)) (again signed) (sym (again-size signed) ∙ start signed .pre .0) (start signed .pre .1 .1 .0)
+      sums-are (start signed .args .figure) (observed signed) (small signed) (lent signed) (now (start signed .args .w)) (again signed) (sym (again-size signed) ∙ start signed .pre .0) (start signed .pre .1 .1 .0)
       (k .condition-sums .ensures)
 
 less-targets-requires : tie.Need-less-targets-requires
@@ -72,7 +72,7 @@ less-targets-requires c κs =
     let k = c .before .before in
     let s = signed k in
     let pre = start s .pre in
-    (pre .1 .0, (length-of _ _ (sums k), (λ j. rw (sums k) (totals-within (start s .args .f) (observed s) (small s) j), pre .1 .1 .1 .1)))
+    (pre .1 .0, (length-of _ _ (sums k), (λ j. rw (sums k) (totals-within (start s .args .figure) (observed s) (small s) j), pre .1 .1 .1 .1)))
 
 -- the sums over the conditions look at the figure's own angles
 less : (f : Figure) (x : List ℤ) (angles fixed : List ℕ) → length angles ≡ angleCount f → x ≡ listed (conditionCount f) (conditionSum f (vector (listed (length angles) (given angles))))
@@ -87,7 +87,7 @@ returns : tie.Need-returns
 returns c =
     let k = c .before .before .before .before in
     let s = start (signed k) in
-    c .before .less-targets .ensures ∙ less (s .args .f) _ (now (s .args .angles)) (now (s .args .fixed)) (s .pre .0) (sums k)
+    c .before .less-targets .ensures ∙ less (s .args .figure) _ (now (s .args .angles)) (now (s .args .fixed)) (s .pre .0) (sums k)
 
 pub misclosures-into-spec : {M : Type 1} → statement M
 misclosures-into-spec =

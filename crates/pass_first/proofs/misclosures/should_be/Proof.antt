@@ -13,7 +13,7 @@ use Rattle.figures.specs.declared.Target.{Target}
 use Rattle.figures.specs.declared.Target.the-variants.{HalfTurn, FullTurn, FixedAngle}
 use Rattle.figures.specs.Figure.{description, targetOf, conditionCount, fixedCount}
 use Rattle.figures.proofs.Families.{isPolygon, polygon, quadrilateral-target, triangle-target, corner-target}
-use Rattle.method.specs.FirstPass.{shouldBe}
+use Rattle.pass_rules.specs.FirstPass.{shouldBe}
 use Rattle.pass_steps.proofs.Polygons.{is-polygon}
 use Rattle.pass_first.proofs.misclosures.should_be.Statement.{statement}
 use Rattle.pass_first.proofs.misclosures.should_be.Tie as tie
@@ -66,30 +66,30 @@ cast-result c =
 returns : tie.Need-returns
 returns c =
     let start = c .before .before in
-    told (start .args .f) (start .args .j) _ HalfTurn (quadrilateral (start .args .f) (c .enum-told .given .1) (start .args .j) (omega arith))
+    told (start .args .figure) (start .args .j) _ HalfTurn (quadrilateral (start .args .figure) (c .enum-told .given .1) (start .args .j) (omega arith))
 
 returns-2 : tie.Need-returns-2
 returns-2 c =
     let start = c .before .before .before in
-    told (start .args .f) (start .args .j) _ HalfTurn (point-triangle (start .args .f) (c .before .enum-told2 .given .1) (start .args .j) (omega arith))
+    told (start .args .figure) (start .args .j) _ HalfTurn (point-triangle (start .args .figure) (c .before .enum-told2 .given .1) (start .args .j) (omega arith))
 
 returns-3 : tie.Need-returns-3
 returns-3 c =
     let start = c .before .before .before .before in
     let j = start .args .j in
     toZ-pos w32 (omega (arith, start .pre .1 .1 .1 (j - 3)))
-    ∙ told (start .args .f) j _ (FixedAngle (suc (j - 3))) (point-corner (start .args .f) (c .before .before .enum-told2 .given .1) j (omega arith) (omega arith))
+    ∙ told (start .args .figure) j _ (FixedAngle (suc (j - 3))) (point-corner (start .args .figure) (c .before .before .enum-told2 .given .1) j (omega arith) (omega arith))
 
 returns-4 : tie.Need-returns-4
 returns-4 c =
     let start = c .before .before in
-    let f = start .args .f in
+    let f = start .args .figure in
     told f (start .args .j) _ HalfTurn (polygon-triangle f (is-polygon f (c .before .match .keys3)) (start .args .j) (omega arith))
 
 returns-5 : tie.Need-returns-5
 returns-5 c =
     let start = c .before .before in
-    let f = start .args .f in
+    let f = start .args .figure in
     told f (start .args .j) _ FullTurn (polygon-horizon f (is-polygon f (c .before .match .keys3)) (start .args .j) (omega arith) (omega arith))
 
 pub should-be-spec : {M : Type 1} → statement M

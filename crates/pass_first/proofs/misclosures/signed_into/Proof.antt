@@ -4,7 +4,7 @@ use native.Mathlib.Omega.{arith}
 use lib.ListN.{length}
 use mir.Syntax.{w32}
 use mir.Facts.{toZ-pos}
-use Rattle.method.specs.Pass.{given}
+use Rattle.pass_rules.specs.Pass.{given}
 use Rattle.whole.proofs.Lists.{Filled, filled-none, filled-more, filled-all}
 use Rattle.pass_first.proofs.misclosures.signed_into.Statement.{statement}
 use Rattle.pass_first.proofs.misclosures.signed_into.Tie as tie

@@ -23,7 +23,7 @@ use Rattle.pass_second.proofs.corrections.corrections_into.Tie as tie
 factor-requires : tie.Need-factor-requires
 factor-requires c κs =
     let start = c .before in (
-      rw (c .counts-of .ensures) (denominator-bound (start .args .f)),
+      rw (c .counts-of .ensures) (denominator-bound (start .args .figure)),
       rw (toZ-ofZ w64 (start .args .misclosure) (start .fits .misclosure)) (start .pre .1 .1 .1 .0),
     )
 
@@ -31,7 +31,7 @@ module _ (c : tie.After-factor) where
   abbrev start : tie.Start
   start = c .before .before
 
-  factor-is : toZ w64 (ofZ w64 (c .factor .result)) ≡ negℤ (pos 100) *ℤ pos (denominator (start .args .f)) *ℤ start .args .misclosure
+  factor-is : toZ w64 (ofZ w64 (c .factor .result)) ≡ negℤ (pos 100) *ℤ pos (denominator (start .args .figure)) *ℤ start .args .misclosure
   factor-is =
       toZ-ofZ w64 (c .factor .result) (record { sfits = c .factor .ok }) ∙ c .factor .ensures
       ∙ ap₂ (λ (n : Counts) (w : ℤ). negℤ (pos 100) *ℤ pos (n .denominator) *ℤ w) (c .before .counts-of .ensures)
@@ -39,9 +39,9 @@ module _ (c : tie.After-factor) where
 
   factor-small : natAbs (toZ w64 (ofZ w64 (c .factor .result))) ≤ 100 * mostDenominator * mostMisclosure
   factor-small =
-      let d = pos (denominator (start .args .f)) in
+      let d = pos (denominator (start .args .figure)) in
       rw factor-is (product-magnitude (negℤ (pos 100) *ℤ d) (start .args .misclosure) (100 * mostDenominator) mostMisclosure
-      (product-magnitude (negℤ (pos 100)) d 100 mostDenominator (le-refl 100) (denominator-bound (start .args .f))) (start .pre .1 .1 .1 .0))
+      (product-magnitude (negℤ (pos 100)) d 100 mostDenominator (le-refl 100) (denominator-bound (start .args .figure))) (start .pre .1 .1 .1 .0))
 
 scaled-into-requires : tie.Need-scaled-into-requires
 scaled-into-requires c κs =
@@ -52,8 +52,8 @@ module _ (c : tie.After-scaled-into) where
   abbrev made : tie.After-factor
   made = c .before .before
 
-  exact : c .scaled-into .last .1 .1 .0 ≡ listed (angleCount (start made .args .f)) (exactFrom (start made .args .f) (start made .args .misclosure) (now (start made .args .a)))
-  exact = exact-are (start made .args .f) (start made .args .misclosure) (now (start made .args .a)) (start made .pre .0) (factor-is made) (c .scaled-into .ensures)
+  exact : c .scaled-into .last .1 .1 .0 ≡ listed (angleCount (start made .args .figure)) (exactFrom (start made .args .figure) (start made .args .misclosure) (now (start made .args .a)))
+  exact = exact-are (start made .args .figure) (start made .args .misclosure) (now (start made .args .a)) (start made .pre .0) (factor-is made) (c .scaled-into .ensures)
 
 module _ (c : tie.After-magnitude) where
   divisor : c .magnitude .result ≡ natAbs (start (made (c .before .before)) .args .squares)
@@ -65,7 +65,7 @@ rounded-into-requires c κs =
     let scaled = m .before .before in
     let s = start (made scaled) in (
       s .pre .1 .1 .0 ∙ sym (length-of _ _ (exact scaled)),
-      rounded-small (s .args .f) (s .args .misclosure) (now (s .args .a)) (s .args .squares) (s .pre .1 .1 .1 .1 .1) (exact scaled) (divisor m),
+      rounded-small (s .args .figure) (s .args .misclosure) (now (s .args .a)) (s .args .squares) (s .pre .1 .1 .1 .1 .1) (exact scaled) (divisor m),
     )
 
 module _ (c : tie.After-rounded-into) where
@@ -76,9 +76,9 @@ module _ (c : tie.After-rounded-into) where
   begun = start (made (divided .before .before))
 
   tenths : c .rounded-into .last .1 .1 .0
-      ≡ secondTenthsOf (begun .args .f) (begun .args .misclosure) (begun .args .squares) (now (begun .args .a))
+      ≡ secondTenthsOf (begun .args .figure) (begun .args .misclosure) (begun .args .squares) (now (begun .args .a))
   tenths =
-      second-tenths-are (begun .args .f) (begun .args .misclosure) (now (begun .args .a)) (begun .args .squares) (exact (divided .before .before)) (divisor divided)
+      second-tenths-are (begun .args .figure) (begun .args .misclosure) (now (begun .args .a)) (begun .args .squares) (exact (divided .before .before)) (divisor divided)
       (c .rounded-into .ensures)
 
 returns : tie.Need-returns

@@ -20,8 +20,8 @@ use Rattle.judging.specs.Searches.{resultsOf}
 use Rattle.figures.specs.Figure.{angleCount, conditionCount}
 use Rattle.figures.specs.Numerators.{conditionSum}
 use Rattle.figures.proofs.Figures.{angle-bound}
-use Rattle.method.specs.SecondPass.{secondResultLengths}
-use Rattle.method.specs.Promises.{secondLent, secondResultsLent}
+use Rattle.pass_rules.specs.SecondPass.{secondResultLengths}
+use Rattle.pass_rules.specs.Promises.{secondLent, secondResultsLent}
 use Rattle.pass_steps.specs.Steps.{resultsRows, resultsFrom}
 use Rattle.pass_steps.proofs.Judged.{lengths-pass, first-passes, kept, written, taken}
 use Rattle.pass_steps.proofs.Lending.{lent-length, part-again, still-few, again-length}
@@ -32,7 +32,7 @@ use Rattle.pass_second.proofs.corrections.second_corrected.Statement.{s
 use Rattle.pass_second.proofs.corrections.second_corrected.Tie as tie
 
 few : (s : tie.Start) → length (now (s .args .angles)) ≤ 24
-few s = omega (arith, s .pre .0, angle-bound (s .args .f))
+few s = omega (arith, s .pre .0, angle-bound (s .args .figure))
 
 lent : (s : tie.Start) → length (now (s .args .angles)) ≡ length (take (length (now (s .args .angles))) (replicate 24 (pos 0)))
 lent s = lent-length _ (replicate 24 (pos 0)) (few s)
@@ -40,7 +40,7 @@ lent s = lent-length _ (replicate 24 (pos 0)) (few s)
 -- the slices for the results, by their places in the list of lengths
 room : (s : tie.Start) (k : ℕ)
     → getD (secondResultsLent (secondLent (now (s .args .reduced)) (now (s .args .numerators)) (now (s .args .rounded)) (now (s .args .adjusted)) (now (s .args .rests)))) k 0
-    ≡ getD (secondResultLengths (s .args .f)) k 0
+    ≡ getD (secondResultLengths (s .args .figure)) k 0
 room s k = ap (λ (l : List ℕ). getD l k 0) (s .pre .1 .1 .0)
 
 -- W and S, read back from their bits
@@ -92,20 +92,20 @@ module _ (c : tie.After-corrections-into) where
   tenths-kept = c .corrections-into .kept .1 .1 .1 .1 .1 .0
 
   abbrev given : ℕ → ℤ
-  given = exactFrom (start .args .f) (start .args .misclosure) (now (start .args .a))
+  given = exactFrom (start .args .figure) (start .args .misclosure) (now (start .args .a))
 
   abbrev rounded : List ℤ
-  rounded = secondTenthsOf (start .args .f) (start .args .misclosure) (start .args .squares) (now (start .args .a))
+  rounded = secondTenthsOf (start .args .figure) (start .args .misclosure) (start .args .squares) (now (start .args .a))
 
-  exact : again exactPart ≡ listed (angleCount (start .args .f)) given
+  exact : again exactPart ≡ listed (angleCount (start .args .figure)) given
   exact =
       is-part exactPart exact-kept ∙ c .corrections-into .ensures .0
-      ∙ ap (λ (z : ℤ). listed (angleCount (start .args .f)) (exactFrom (start .args .f) z (now (start .args .a)))) (w-is start)
+      ∙ ap (λ (z : ℤ). listed (angleCount (start .args .figure)) (exactFrom (start .args .figure) z (now (start .args .a)))) (w-is start)
 
   tenths : again tenthsPart ≡ rounded
   tenths =
       is-part tenthsPart tenths-kept ∙ c .corrections-into .ensures .1
-      ∙ ap₂ (λ (z y : ℤ). secondTenthsOf (start .args .f) z y (now (start .args .a))) (w-is start) (s-is start)
+      ∙ ap₂ (λ (z y : ℤ). secondTenthsOf (start .args .figure) z y (now (start .args .a))) (w-is start) (s-is start)
 
   abbrev verdict : Verdict
   verdict = verdictOf (resultsRow (resultsOf (now (start .args .angles)) rounded))
@@ -140,7 +140,7 @@ store-second-requires c κs =
                 room s 2,
                 (
                   room s 4,
-                  λ i. rw (tenths k) (tenths-summed (s .args .f) (now (s .args .angles)) (s .args .misclosure) (s .args .squares) (now (s .args .a)) (s .pre .0) (s .pre .1 .1 .1 .0) passed i),
+                  λ i. rw (tenths k) (tenths-summed (s .args .figure) (now (s .args .angles)) (s .args .misclosure) (s .args .squares) (now (s .args .a)) (s .pre .0) (s .pre .1 .1 .1 .0) passed i),
                 ),
               ),
             ),
@@ -155,7 +155,7 @@ returns c =
     let asked = told .before .before .before .before in
     let k = asked .before .before .before .before .before in
     let s = start k in
-    let f = s .args .f in
+    let f = s .args .figure in
     let held = c .before .before .before .before .store-second .ensures in
     let answered = asked .results-into .ensures .answered ∙ decided k in
     let passed = sym answered ∙ told .enum-told .given .1 in
@@ -182,7 +182,7 @@ returns-2 c =
       answered = answered;
       leaves =
           (λ i. secondLent (now (s .args .reduced)) (now (s .args .numerators)) (now (s .args .rounded)) (untouched i) (now (s .args .rests)))
-          ∙ kept (verdict k) (secondFrom (s .args .f) (now (s .args .angles)) (s .args .misclosure) (s .args .squares) (now (s .args .a))) _ _ failed;
+          ∙ kept (verdict k) (secondFrom (s .args .figure) (now (s .args .angles)) (s .args .misclosure) (s .args .squares) (now (s .args .a))) _ _ failed;
     }
 
 pub second-corrected-spec : {M : Type 1} → statement M

@@ -20,7 +20,7 @@ returns c =
       numerators-are = second .store-wide2 .ensures;
       rounded-are = third .store-signed .ensures ∙ copied (now (s .args .tenths)) (now (s .args .rounded)) (pre .1 .1 .0 ∙ sym (pre .1 .1 .1 .1 .1 .0));
       rests-are =
-          sums-are (s .args .f) (now (s .args .tenths)) (pre .1 .1 .1 .1 .1 .1 .1) _ (now (s .args .rests)) refl (pre .1 .1 .0) (pre .1 .1 .1 .1 .1 .1 .0)
+          sums-are (s .args .figure) (now (s .args .tenths)) (pre .1 .1 .1 .1 .1 .1 .1) _ (now (s .args .rests)) refl (pre .1 .1 .0) (pre .1 .1 .1 .1 .1 .1 .0)
           (fourth .condition-sums .ensures);
     }
 

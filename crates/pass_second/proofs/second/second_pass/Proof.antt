@@ -2,7 +2,7 @@
 use mathlib.Core.Path.{sym, _∙_}
 use borrow.Author.Needs.{needs}
 use denote.Ref.{now}
-use Rattle.method.specs.Promises.{SecondGiven, SecondLent, secondGiven, secondLent}
+use Rattle.pass_rules.specs.Promises.{SecondGiven, SecondLent, secondGiven, secondLent}
 use Rattle.pass_second.proofs.SecondPromised.{none-named, of-figure}
 use Rattle.pass_second.proofs.second.second_pass.Statement.{statement}
 use Rattle.pass_second.proofs.second.second_pass.Tie as tie
@@ -22,7 +22,7 @@ returns-2 : tie.Need-returns-2
 returns-2 c =
     let s = c .before .before .before .before .before .before .before .before .before .before .before .before .before .before .before .before .before .before .before in
     let named = c .before .before .before .before .before .before .before .before .before .before .before .before .before in
-    of-figure (given s) (entry s) _ (sym (named .before .before .figure-of .ensures) ∙ named .f .given .1) (c .before .before .before .before .before .before .second-pass-of .ensures)
+    of-figure (given s) (entry s) _ (sym (named .before .before .figure-of .ensures) ∙ named .figure .given .1) (c .before .before .before .before .before .before .second-pass-of .ensures)
 
 pub second-pass-spec : {M : Type 1} → statement M
 second-pass-spec =

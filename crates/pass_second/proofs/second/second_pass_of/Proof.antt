@@ -1,5 +1,5 @@
 -- `pass_second::second::second_pass_of` meets its contract: each row in its order, and a refusal before any store.
-use mathlib.Core.Path.{_≡_, sym, ap, _∙_, subst}
+use mathlib.Core.Path.{_≡_, refl, sym, ap, _∙_, subst}
 use mathlib.Core.List.{List, [], _∷_, _++_}
 use Prim.Native.Nat.{ℕ, _≤_, _<_, _^_}
 use native.Mathlib.Omega.{arith}
@@ -16,9 +16,9 @@ use Rattle.refusals.specs.Order.{judged}
 use Rattle.figures.specs.declared.Figure.{Figure}
 use Rattle.figures.specs.Figure.{angleCount}
 use Rattle.figures.proofs.Figures.{angle-bound}
-use Rattle.method.specs.SecondPass.{sineMisclosure, sumOfSquares, differenceSquares, reducedOf, secondResultLengths, entryRows, sineRows}
+use Rattle.pass_rules.specs.SecondPass.{sineMisclosure, sumOfSquares, differenceSquares, reducedOf, secondResultLengths, entryRows, sineRows}
 use Rattle.pass_second.specs.declared.sines.Sines.{Sines}
-use Rattle.method.specs.Promises.{SecondLent, secondLent, secondResultsLent, secondSlices}
+use Rattle.pass_rules.specs.Promises.{SecondLent, secondLent, secondResultsLent, secondSlices}
 use Rattle.pass_steps.proofs.Lending.{lent-length, part-again, still-few, again-length}
 use Rattle.pass_second.proofs.SecondPromised as promised
 use Rattle.pass_second.proofs.SineBounds.{misclosure-magnitude, squares-natural, squares-magnitude}
@@ -31,7 +31,7 @@ entry s = secondLent (now (s .args .reduced)) (now (s .args .numerators)) (now (
 returns : tie.Need-returns
 returns c =
     let s = c .before .before .before .before .before .before .before in
-    promised.refused-before (s .args .f) (s .args .tolerance) (now (s .args .angles)) (now (s .args .log-sines)) (now (s .args .differences)) (entry s) _
+    promised.refused-before (s .args .figure) (s .args .tolerance) (now (s .args .angles)) (now (s .args .log-sines)) (now (s .args .differences)) (entry s) _
     (sym (c .before .before .before .second-given-verdict .ensures) ∙ c .before .before2 .given .1)
 
 -- ---- the rows before the work have passed
@@ -41,7 +41,7 @@ module _ (t : tie.After-enum-told) where
   start = t .before .before .before .before .before .before
 
   abbrev f : Figure
-  f = start .args .f
+  f = start .args .figure
 
   abbrev tolerance : ℕ
   tolerance = start .args .tolerance
@@ -216,19 +216,11 @@ returns-3 c =
     let u = ready p in
     let t = first u in
     let held = p .before .struct-told2 .given in
+    let kept =
     promised.by-results (f t) (tolerance t) (angles t) (logSines t) (differences t) (entry (start t)) (passed t) (within u) _ _ (again (known (verdict u)))
     (w-is u (record { sfits = held .0 .1 })) (s-is u (record { sfits = held .1 .0 .1 })) (are (known (verdict u)))
-    (p .second-corrected .ensures) _ (c .before .outside .given .1)
-
-returns-4 : tie.Need-returns-4
-returns-4 c =
-    let p = c .before .before .before .before .before .before .before .before .before in
-    let u = ready p in
-    let t = first u in
-    let held = p .before .struct-told2 .given in
-    promised.by-results (f t) (tolerance t) (angles t) (logSines t) (differences t) (entry (start t)) (passed t) (within u) _ _ (again (known (verdict u)))
-    (w-is u (record { sfits = held .0 .1 })) (s-is u (record { sfits = held .1 .0 .1 })) (are (known (verdict u)))
-    (p .second-corrected .ensures) Passed (c .before .enum-told3 .given .1)
+    (p .second-corrected .ensures) (p .second-corrected .result) refl in
+    record { answered = c .answer-of .ensures ∙ kept .answered; leaves = kept .leaves }
 
 pub second-pass-of-spec : {M : Type 1} → statement M
 second-pass-of-spec =
@@ -254,11 +246,4 @@ second-pass-of-spec =
     (λ c. search needs)
     (λ c. search needs)
     (λ c. search needs)
-    returns-3
-    (λ c. search needs)
-    (λ c. search needs)
-    (λ c. search needs)
-    (λ c. search needs)
-    (λ c. search needs)
-    (λ c. search needs)
-    returns-4)
+    returns-3)

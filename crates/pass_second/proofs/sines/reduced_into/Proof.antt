@@ -35,11 +35,11 @@ module _ (c : tie.After-counts-of) where
   abbrev m : ℕ
   m = c .counts-of .result .conditions
 
-  conditions : m ≡ conditionCount (c .before .args .f)
+  conditions : m ≡ conditionCount (c .before .args .figure)
   conditions = ap (λ (n : Counts). n .conditions) (c .counts-of .ensures)
 
   few-conditions : m ≤ 9
-  few-conditions = rw conditions (condition-bound (c .before .args .f))
+  few-conditions = rw conditions (condition-bound (c .before .args .figure))
 
 -- the sums, where they were lent
 module _ (c : tie.After-condition-sums) where
@@ -47,7 +47,7 @@ module _ (c : tie.After-condition-sums) where
   counted = c .before .before
 
   abbrev f : Figure
-  f = counted .before .args .f
+  f = counted .before .args .figure
 
   abbrev d : List ℤ
   d = now (counted .before .args .d)

@@ -14,7 +14,7 @@ use mir.ValLaws.{toZ-ofZ}
 use Rattle.whole.specs.Sums.{sum, dot, vector}
 use Rattle.whole.proofs.Lists.{Filled, filled-none, filled-more, filled-all}
 use Rattle.refusals.specs.Ranges.{mostLogSine, mostDifference}
-use Rattle.method.specs.Pass.{given}
+use Rattle.pass_rules.specs.Pass.{given}
 use Rattle.pass_second.specs.Sines.{signedBy}
 use Rattle.pass_second.proofs.Exact.{Exact, product, wide-fits, wide-read, wide-small}
 use Rattle.pass_steps.proofs.Totals.{More, more}

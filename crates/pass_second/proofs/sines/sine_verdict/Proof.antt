@@ -7,7 +7,7 @@ use mir.Facts.{toZ-ofZ}
 use Rattle.refusals.specs.Order.{verdictOf}
 use Rattle.refusals.specs.Table.{sineMisclosureRow, sumOfSquaresRow}
 use Rattle.refusals.proofs.InSteps.{last-row, next-row}
-use Rattle.method.specs.SecondPass.{toleranceOf}
+use Rattle.pass_rules.specs.SecondPass.{toleranceOf}
 use Rattle.pass_second.proofs.sines.sine_verdict.Statement.{statement}
 use Rattle.pass_second.proofs.sines.sine_verdict.Tie as tie
 

@@ -13,7 +13,7 @@ use Rattle.whole.specs.Lists.{listed}
 use Rattle.figures.specs.declared.Figure.{Figure}
 use Rattle.figures.specs.Figure.{angleCount}
 use Rattle.figures.proofs.Figures.{angle-bound}
-use Rattle.method.specs.SecondPass.{signedDifference}
+use Rattle.pass_rules.specs.SecondPass.{signedDifference}
 use Rattle.pass_second.specs.declared.sines.SignedSums.{SignedSums}
 use Rattle.pass_steps.proofs.Lending.{lent-length, part-again, still-few, again-length}
 use Rattle.pass_second.proofs.SineSteps.{sign-small, differences-are, misclosure-is, difference-squares-are, own-reduced, own-squares, own-small}
@@ -21,7 +21,7 @@ use Rattle.pass_second.proofs.sines.sines_into.Statement.{statement}
 use Rattle.pass_second.proofs.sines.sines_into.Tie as tie
 
 few : (s : tie.Start) → length (now (s .args .differences)) ≤ 24
-few s = omega (arith, s .pre .1 .0, angle-bound (s .args .f))
+few s = omega (arith, s .pre .1 .0, angle-bound (s .args .figure))
 
 signed-into-requires : tie.Need-signed-into-requires
 signed-into-requires c κs =
@@ -34,7 +34,7 @@ signed-into-requires c κs =
         (
           few s,
           (
-            λ i h. sign-small (s .args .f) (signs .signs-of .result) (signs .signs-of .ensures) i (subst (λ (n : ℕ). i < n) (pre .1 .0) h),
+            λ i h. sign-small (s .args .figure) (signs .signs-of .result) (signs .signs-of .ensures) i (subst (λ (n : ℕ). i < n) (pre .1 .0) h),
             (pre .1 .1 .1 .0, pre .1 .1 .1 .1),
           ),
         ),
@@ -50,7 +50,7 @@ module _ (c : tie.After-signed-into) where
   start = signed .before .before
 
   abbrev f : Figure
-  f = start .args .f
+  f = start .args .figure
 
   abbrev differences : List ℤ
   differences = now (start .args .differences)

@@ -10,8 +10,8 @@ use Rattle.refusals.specs.declared.Refusal.{Refusal}
 use Rattle.refusals.specs.Order.{failsIf}
 use Rattle.refusals.specs.Questions.{lessSigned, asked}
 use Rattle.refusals.specs.Ranges.{mostTolerance}
-use Rattle.method.specs.SecondPass.{toleranceOf}
-use Rattle.method.proofs.WithinRange.{in-force-within}
+use Rattle.pass_rules.specs.SecondPass.{toleranceOf}
+use Rattle.pass_rules.proofs.WithinRange.{in-force-within}
 use Rattle.pass_second.proofs.Tolerance.{exceeds-is}
 use borrow.Author.Needs.{needs}
 use lib.Dec.{lit≤}

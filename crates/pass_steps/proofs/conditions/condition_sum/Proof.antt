@@ -41,11 +41,11 @@ point-sum-requires c κs =
     (start .pre .0 ∙ ap angleCount e, subst (λ (g : Figure). start .args .j < conditionCount g) e (start .pre .1))
 
 -- what is told of a polygon
-told : (c : tie.At-match-keys3) → Polygon (c .before .args .f)
-told c = polygon (c .before .args .f) (is-polygon (c .before .args .f) (c .match .keys3))
+told : (c : tie.At-match-keys3) → Polygon (c .before .args .figure)
+told c = polygon (c .before .args .figure) (is-polygon (c .before .args .figure) (c .match .keys3))
 
 mul-if1 : tie.Need-mul-if1
-mul-if1 c = omega (arith, condition-bound (c .before .args .f))
+mul-if1 c = omega (arith, condition-bound (c .before .args .figure))
 
 run-sum-requires-2 : tie.Need-run-sum-requires-2
 run-sum-requires-2 c κs =
@@ -58,7 +58,7 @@ run-sum-requires-3 c κs =
     let start = c .before .before in
     let p = told (c .before) in (
       λ k h. omega (arith, p .angles, p .conditions, start .pre .0, start .pre .1),
-      (omega (arith, condition-bound (start .args .f), start .pre .1), lit≤ tt),
+      (omega (arith, condition-bound (start .args .figure), start .pre .1), lit≤ tt),
     )
 
 returns : tie.Need-returns
@@ -78,12 +78,12 @@ returns-3 : tie.Need-returns-3
 returns-3 c =
     let start = c .before .before .before in
     let p = told (c .before .before) in
-    toZ-ofZ w64 _ (record { sfits = c .run-sum2 .ok }) ∙ c .run-sum2 .ensures ∙ sym (triangle-sum (start .args .f) (vector (now (start .args .x))) (start .args .j) (omega (arith, p .angles, start .pre .0)))
+    toZ-ofZ w64 _ (record { sfits = c .run-sum2 .ok }) ∙ c .run-sum2 .ensures ∙ sym (triangle-sum (start .args .figure) (vector (now (start .args .x))) (start .args .j) (omega (arith, p .angles, start .pre .0)))
 
 returns-4 : tie.Need-returns-4
 returns-4 c =
     let start = c .before .before .before in
-    let f = start .args .f in
+    let f = start .args .figure in
     let p = told (c .before .before) in
     let x = vector (now (start .args .x)) in
     let last : start .args .j ≡ description f .n = omega (arith, p .angles, p .conditions, start .pre .0, start .pre .1) in

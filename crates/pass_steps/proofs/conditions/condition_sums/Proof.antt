@@ -11,10 +11,10 @@ use Rattle.pass_steps.proofs.conditions.condition_sums.Statement.{state
 use Rattle.pass_steps.proofs.conditions.condition_sums.Tie as tie
 
 module _ (c : tie.After-counts-of) where
-  angles : c .counts-of .result .angles ≡ angleCount (c .before .args .f)
+  angles : c .counts-of .result .angles ≡ angleCount (c .before .args .figure)
   angles = ap (λ (n : Counts). n .angles) (c .counts-of .ensures)
 
-  conditions : c .counts-of .result .conditions ≡ conditionCount (c .before .args .f)
+  conditions : c .counts-of .result .conditions ≡ conditionCount (c .before .args .figure)
   conditions = ap (λ (n : Counts). n .conditions) (c .counts-of .ensures)
 
 sums-into-requires : tie.Need-sums-into-requires
@@ -42,7 +42,7 @@ returns-3 : tie.Need-returns-3
 returns-3 c =
     let counted = c .before .before in
     let args = counted .before .args in
-    first-unfit (length (now (args .x))) (angleCount (args .f)) (length (now (args .sums))) (conditionCount (args .f)) (sumsOf (args .f) (now (args .x))) (now (args .sums))
+    first-unfit (length (now (args .x))) (angleCount (args .figure)) (length (now (args .sums))) (conditionCount (args .figure)) (sumsOf (args .figure) (now (args .x))) (now (args .sums))
     (λ e. c .if1 .left (e ∙ sym (angles counted)))
 
 pub condition-sums-spec : {M : Type 1} → statement M

@@ -17,10 +17,10 @@ use Rattle.pass_steps.proofs.numerators.numerators_into.Statement.{stat
 use Rattle.pass_steps.proofs.numerators.numerators_into.Tie as tie
 
 module _ (c : tie.After-counts-of) where
-  angles : c .counts-of .result .angles ≡ angleCount (c .before .args .f)
+  angles : c .counts-of .result .angles ≡ angleCount (c .before .args .figure)
   angles = ap (λ (n : Counts). n .angles) (c .counts-of .ensures)
 
-  conditions : c .counts-of .result .conditions ≡ conditionCount (c .before .args .f)
+  conditions : c .counts-of .result .conditions ≡ conditionCount (c .before .args .figure)
   conditions = ap (λ (n : Counts). n .conditions) (c .counts-of .ensures)
 
 table-applied-requires : tie.Need-table-applied-requires
@@ -60,16 +60,16 @@ returns-3 c =
     let first = c .before .before in
     let counted = first .before .before in
     let args = counted .before .args in
-    second-unfit (length (now (args .w))) (conditionCount (args .f)) (length (now (args .numerators))) (angleCount (args .f))
-    (stored (verdictOf (misclosuresRow mostApplied (now (args .w)))) (numeratorsFrom (args .f) (now (args .w))) (now (args .numerators))) (now (args .numerators))
+    second-unfit (length (now (args .w))) (conditionCount (args .figure)) (length (now (args .numerators))) (angleCount (args .figure))
+    (stored (verdictOf (misclosuresRow mostApplied (now (args .w)))) (numeratorsFrom (args .figure) (now (args .w))) (now (args .numerators))) (now (args .numerators))
     (first .if1 .taken ∙ conditions counted) (λ e. c .if2 .left (e ∙ sym (angles counted)))
 
 returns-4 : tie.Need-returns-4
 returns-4 c =
     let counted = c .before .before in
     let args = counted .before .args in
-    first-unfit (length (now (args .w))) (conditionCount (args .f)) (length (now (args .numerators))) (angleCount (args .f))
-    (stored (verdictOf (misclosuresRow mostApplied (now (args .w)))) (numeratorsFrom (args .f) (now (args .w))) (now (args .numerators))) (now (args .numerators))
+    first-unfit (length (now (args .w))) (conditionCount (args .figure)) (length (now (args .numerators))) (angleCount (args .figure))
+    (stored (verdictOf (misclosuresRow mostApplied (now (args .w)))) (numeratorsFrom (args .figure) (now (args .w))) (now (args .numerators))) (now (args .numerators))
     (λ e. c .if1 .left (e ∙ sym (conditions counted)))
 
 pub numerators-into-spec : {M : Type 1} → statement M

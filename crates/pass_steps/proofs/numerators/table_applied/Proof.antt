@@ -2,9 +2,15 @@
 use borrow.Author.Needs.{needs}
 use denote.Ref.{now}
 use Rattle.figures.specs.declared.Figure.{Figure}
+use Rattle.pass_steps.proofs.Polygons.{has-five}
 use Rattle.pass_steps.proofs.Tables.{told-numerators, told-lengths}
 use Rattle.pass_steps.proofs.numerators.table_applied.Statement.{statement}
 use Rattle.pass_steps.proofs.numerators.table_applied.Tie as tie
+
+polygon-applied-requires : tie.Need-polygon-applied-requires
+polygon-applied-requires c κs =
+    let start = c .before .before in
+    (start .pre .0, (start .pre .1 .0, (start .pre .1 .1, has-five (start .args .figure) (c .before .match .keys5))))
 
 pub table-applied-spec : {M : Type 1} → statement M
 table-applied-spec =
@@ -22,18 +28,7 @@ table-applied-spec =
     (λ c. search needs)
     (λ c κs. search needs)
     (λ c κs. let pre = c .before .before .before .before .pre in told-lengths _ Figure.CentralQuadrilateral (c .before .before .enum-told4 .given .1) (pre .0) (pre .1 .0) (pre .1 .1))
-    (λ c. search needs)
-    (λ c κs. search needs)
-    (λ c κs. let pre = c .before .before .before .before .pre in told-lengths _ Figure.CentralPentagon (c .before .before .enum-told5 .given .1) (pre .0) (pre .1 .0) (pre .1 .1))
-    (λ c. search needs)
-    (λ c κs. search needs)
-    (λ c κs. let pre = c .before .before .before .before .pre in told-lengths _ Figure.CentralHexagon (c .before .before .enum-told6 .given .1) (pre .0) (pre .1 .0) (pre .1 .1))
-    (λ c. search needs)
-    (λ c κs. search needs)
-    (λ c κs. let pre = c .before .before .before .before .pre in told-lengths _ Figure.CentralHeptagon (c .before .before .enum-told7 .given .1) (pre .0) (pre .1 .0) (pre .1 .1))
-    (λ c. search needs)
-    (λ c κs. search needs)
-    (λ c κs. let pre = c .before .before .before .before .pre in told-lengths _ Figure.CentralOctagon (c .before .before .enum-told8 .given .1) (pre .0) (pre .1 .0) (pre .1 .1))
+    polygon-applied-requires
     (λ c. search needs)
     (λ c. told-numerators _ Figure.Quadrilateral (c .before .before .before .before .enum-told .given .1) _ (now (c .before .before .before .before .before .before .args .w)) _ (c .before .before .before .rows .ensures) (c .before .rows-applied .ensures))
     (λ c. search needs)
@@ -43,10 +38,4 @@ table-applied-spec =
     (λ c. search needs)
     (λ c. told-numerators _ Figure.CentralQuadrilateral (c .before .before .before .before .enum-told4 .given .1) _ (now (c .before .before .before .before .before .before .args .w)) _ (c .before .before .before .rows4 .ensures) (c .before .rows-applied4 .ensures))
     (λ c. search needs)
-    (λ c. told-numerators _ Figure.CentralPentagon (c .before .before .before .before .enum-told5 .given .1) _ (now (c .before .before .before .before .before .before .args .w)) _ (c .before .before .before .rows5 .ensures) (c .before .rows-applied5 .ensures))
-    (λ c. search needs)
-    (λ c. told-numerators _ Figure.CentralHexagon (c .before .before .before .before .enum-told6 .given .1) _ (now (c .before .before .before .before .before .before .args .w)) _ (c .before .before .before .rows6 .ensures) (c .before .rows-applied6 .ensures))
-    (λ c. search needs)
-    (λ c. told-numerators _ Figure.CentralHeptagon (c .before .before .before .before .enum-told7 .given .1) _ (now (c .before .before .before .before .before .before .args .w)) _ (c .before .before .before .rows7 .ensures) (c .before .rows-applied7 .ensures))
-    (λ c. search needs)
-    (λ c. told-numerators _ Figure.CentralOctagon (c .before .before .before .before .enum-told8 .given .1) _ (now (c .before .before .before .before .before .before .args .w)) _ (c .before .before .before .rows8 .ensures) (c .before .rows-applied8 .ensures)))
+    (λ c. c .before .polygon-applied .ensures))

@@ -1,0 +1,78 @@
+// The published examples, of code 1: the sheets of these names in sheets/, whose values stand as the books have them in sheets/values.py. Where a book
+// gives no value, the one expected is that of the independent computation.
+ghost use Prim.Native.Nat.{_≤_};
+use crate::comparing::tell_sheet;
+
+pub fn book_000_example_1() -> u64
+    ensures { λ count. ⌜ count ≤ 2 ⌝ }
+{
+    // The book has 11 for angle 6, one tenth less by eye, so that its corrected angles close; the exact correction is 93 / 8.
+    let first = tell_sheet(
+        b"000 example 1: misclosures 38, -5, -45; last tenth of angle 6 by eye, exact values compared",
+        b"\x11\x00\x00\x9a\x0f\x89\xc2\xcb\x73\xd3\xa1\xa5\x35\x3c\x4c\xa4\x6b\x96\x25\xa6\x30\x39\x38\x6d\x54\xe8",
+        b"figure 1 0 denominator 8\n\
+          1 1262065 -79 -10 1262055\n2 1846455 -79 -10 1846445\n3 2006285 -73 -9 2006276\n4 1365233 -73 -9 1365224\n\
+          5 1657047 93 12 1657059\n6 1451430 93 12 1451442\n7 1580188 87 11 1580199\n8 1791290 87 11 1791301\n\
+          condition 1 38 0\ncondition 2 -5 1\ncondition 3 -45 1\n",
+    );
+    // The book's own corrections also serve its second base line, a condition that is not built here. W and the reduced coefficients, which it has as
+    // A / 800 to two decimals, know nothing of it.
+    let second = tell_sheet(
+        b"000 example 1: W = -148 and the reduced coefficients",
+        b"\x21\x00\x09\xa0\xf3\xdd\x12\x31\x60\x25\x87\x0b\x2b\x6f\x2b\x87\xb8\x0a\x93\xd3\xa0\x97\xa4\xf8\x58\x04\x79\x4d\x4e\x8b\xab\x3d\xd0\x04\x3c\xca\x47\x1d\xe0\x14\xe5\x01\x96\x58\x96\xc6\xec\x83\x93\x80\xf8\x30\x39\x4f\x77\x66\xf0\x80\x6d\x9b\x55\x45\xbc\x7f\x6c\x20\x2c\x80",
+        b"figure 1 0 W -148 S 24315176\n\
+          1 1262055 2049 242601600 10 1262065\n2 1846445 -1703 -201635200 -8 1846437\n3 2006276 1483 175587200 7 2006283\n4 1365224 -1829 -216553600 -9 1365215\n\
+          5 1657059 1977 234076800 10 1657069\n6 1451441 -1631 -193110400 -8 1451433\n7 1580199 1415 167536000 7 1580206\n8 1791301 -1761 -208502400 -9 1791292\n\
+          condition 1 0\ncondition 2 0\ncondition 3 0\n",
+    );
+    first + second
+}
+
+pub fn book_000_example_2() -> u64
+    ensures { λ count. ⌜ count ≤ 2 ⌝ }
+{
+    // The book has 0 for angle 5, one tenth more by eye, and 9 for angle 8, one less; the exact corrections are -4 / 8 and 76 / 8.
+    let first = tell_sheet(
+        b"000 example 2: misclosures 16, 19, -18; last tenths of angles 5 and 8 by eye, exact values compared",
+        b"\x11\x00\x01\x5f\x4f\xb1\x2a\x6b\x12\xc1\xe6\x63\x90\x2d\x84\x6f\xeb\x35\xb0\xd4\x2a\xb1\x2e\x3b\xdc\xb4",
+        b"figure 1 0 denominator 8\n\
+          1 2877942 8 1 2877943\n2 1222321 8 1 1222322\n3 1445683 -72 -9 1445674\n4 934070 -72 -9 934061\n\
+          5 581590 -4 -1 581589\n6 3518676 -4 -1 3518675\n7 1398935 76 10 1398945\n8 980781 76 10 980791\n\
+          condition 1 16 0\ncondition 2 19 -1\ncondition 3 -18 0\n",
+    );
+    // The book has 6 for angle 8, one tenth less by eye, which keeps the sum of angles 5 to 8; the exact correction is 351792000 / 54096480, that is
+    // 6.503.
+    let second = tell_sheet(
+        b"000 example 2: second corrections; last tenth of angle 8 by eye, exact values compared",
+        b"\x21\x00\x15\xf4\xfb\xdf\x4d\xa4\xd0\x04\xa4\xa9\xac\xae\x7a\x3d\x30\x13\x92\xc1\xe5\x57\x63\x3c\x64\x07\xd0\xe4\x0a\xdb\x7e\x33\x6e\x06\xc4\x46\xfe\xb5\xa1\x1a\xba\x05\xae\xd6\xc3\x4e\xfa\xa2\xd9\x7f\xe4\x2a\xb1\x43\x75\xbf\x3d\x40\x82\x8e\xf7\x36\xb8\x43\x31\x00\x66\x40",
+        b"figure 1 0 W 126 S 54096480\n\
+          1 2877943 2210 -222768000 -4 2877939\n2 1222322 -590 59472000 1 1222323\n3 1445674 1922 -193737600 -4 1445670\n4 934061 -3542 357033600 7 934068\n\
+          5 581590 3606 -363484800 -7 581583\n6 3518675 -1986 200188800 4 3518679\n7 1398945 1870 -188496000 -3 1398942\n8 980790 -3490 351792000 7 980797\n\
+          condition 1 0\ncondition 2 0\ncondition 3 1\n",
+    );
+    first + second
+}
+
+pub fn book_001_example_8_1() -> u64
+    ensures { λ count. ⌜ count ≤ 2 ⌝ }
+{
+    // The book gives the misclosures and no corrections.
+    let first = tell_sheet(
+        b"001 example 8-1: misclosures 18, -29, -13",
+        b"\x11\x00\x00\xe2\xe4\xf9\x50\x1c\x72\x0c\xcd\x88\x46\xf0\x0a\x79\x70\x9c\x6b\x56\x42\x51\xe2\x41\x65\x2c",
+        b"figure 1 0 denominator 8\n\
+          1 1858719 -99 -12 1858707\n2 1376711 -99 -12 1376699\n3 1074796 27 3 1074799\n4 2169792 27 3 2169795\n\
+          5 1372897 89 11 1372908\n6 1862486 89 11 1862497\n7 2173169 -37 -5 2173164\n8 1071435 -37 -5 1071430\n\
+          condition 1 18 0\ncondition 2 -29 -1\ncondition 3 -13 -1\n",
+    );
+    // The book goes no further than W.
+    let second = tell_sheet(
+        b"001 example 8-1: W = -70",
+        b"\x21\x00\x0e\x2e\x4f\xde\x5c\x16\x10\x14\xe5\x40\x71\xee\xb0\xbb\xc8\x10\xb2\x0c\xcd\x97\x1e\x9e\xa8\x0b\x7a\x11\xbc\x0b\xd9\x0e\x10\x01\xe0\xa7\x97\x0d\xd5\xef\x99\x02\x18\x71\xad\x5a\xf2\xec\xee\x00\xa6\x42\x51\xe3\x7b\x25\xb7\x40\x3c\x10\x59\x4b\xb8\xee\xed\x40\x5c\x00",
+        b"figure 1 0 W -70 S 27264872\n\
+          1 1858719 1739 97384000 4 1858723\n2 1376711 -1733 -97048000 -4 1376707\n3 1074796 1945 108920000 4 1074800\n4 2169792 -1951 -109256000 -4 2169788\n\
+          5 1372897 1739 97384000 4 1372901\n6 1862486 -1733 -97048000 -4 1862482\n7 2173169 1949 109144000 4 2173173\n8 1071435 -1955 -109480000 -4 1071431\n\
+          condition 1 0\ncondition 2 0\ncondition 3 0\n",
+    );
+    first + second
+}

@@ -1,0 +1,132 @@
+-- Sheets of the first pass as the definitions answer them: document 01, "Sheets worked through", case 8, and the edges of its ranges; and accepted sheets
+-- of codes 2 and 3, whose values were worked out apart from the definitions (tests/independent.py). Assumes nothing.
+use mathlib.Core.Path.{_≡_, refl}
+use mathlib.Core.List.{List, [], _∷_, map}
+use Prim.Native.Nat.{ℕ}
+use lib.IntN.{ℤ, pos, negℤ}
+use lib.ListN.{replicate}
+use Rattle.whole.specs.Lists.{listed}
+use Rattle.whole.specs.Quotient.{roundedQuotient, nearest}
+use Rattle.whole.specs.Sums.{sum, dot, applied}
+use Rattle.refusals.specs.Numbers.{Told, told, verdictTold}
+use Rattle.refusals.specs.Order.{answerOf, lowestPlace}
+use Rattle.figures.specs.declared.Figure.{Figure}
+use Rattle.figures.specs.declared.Figure.the-variants.{PointInTriangle, CentralQuadrilateral}
+use Rattle.figures.specs.Figure.{figureOf}
+use Rattle.figures.specs.Numerators.{sumOver, conditionSum, numerator}
+use Rattle.pass_rules.specs.FirstPass.{misclosure, firstNumerator, firstRounded, corrected, firstRest, misclosuresOf, numeratorsOf, roundedOf, correctedOf, restsOf, firstRows, firstPassRows, firstPassVerdict}
+
+abbrev minus : ℕ → ℤ
+minus n = negℤ (pos n)
+
+-- ---- what is answered
+
+record Sheet : Type 0 where
+  code : ℕ
+  n : ℕ
+  limit : ℕ
+  angles : List ℕ
+  fixed : List ℕ
+  lent : List ℕ
+  answer : Told
+
+abbrev sheet : (code n limit : ℕ) → (angles fixed lent : List ℕ) → Told → Sheet
+sheet code n limit angles fixed lent answer = record {
+  code = code;
+  n = n;
+  limit = limit;
+  angles = angles;
+  fixed = fixed;
+  lent = lent;
+  answer = answer;
+}
+
+-- a sheet of code 1 with its first angle given, the others 45°
+abbrev opened : (limit first : ℕ) → Told → Sheet
+opened limit first = sheet 1 0 limit (first ∷ replicate 7 1620000) [] (8 ∷ 0 ∷ 3 ∷ 8 ∷ 8 ∷ 8 ∷ 3 ∷ [])
+
+-- a sheet of code 1 that closes, with the lengths lent
+abbrev lengths-off : List ℕ → Sheet
+lengths-off lent = sheet 1 0 0 (replicate 8 1620000) [] lent (told 2 0)
+
+abbrev in-triangle : List ℕ
+in-triangle = 4320021 ∷ 1080000 ∷ 1079990 ∷ 4320000 ∷ 1080007 ∷ 1080013 ∷ 4319980 ∷ 1080000 ∷ 1080004 ∷ []
+
+abbrev corners : List ℕ
+corners = 2160003 ∷ 2160000 ∷ 2159999 ∷ []
+
+abbrev round-point : List ℕ
+round-point =
+    3240010 ∷ 1620000 ∷ 1619995 ∷ 3240000 ∷ 1620012 ∷ 1620003 ∷ 3239985 ∷ 1620000 ∷ 1620000 ∷ 3240008 ∷ 1619990 ∷ 1620001 ∷ []
+
+abbrev sheets : List Sheet
+sheets =
+    opened 150 1619850 (told 0 0)
+    ∷ opened 150 1619849 (told 6 1)
+    ∷ opened 150 1620151 (told 6 1)
+    ∷ opened 0 1620150 (told 0 0)
+    ∷ opened 0 1620151 (told 6 1)
+    ∷ opened 600 1620600 (told 0 0)
+    ∷ opened 601 1620000 (told 3 0)
+    ∷ opened 0 0 (told 4 1)
+    ∷ opened 0 6480000 (told 4 1)
+    -- a correction of −2 to an angle of 1
+    ∷ sheet 1 0 0 (1 ∷ 3240003 ∷ replicate 6 1620000) [] (8 ∷ 0 ∷ 3 ∷ 8 ∷ 8 ∷ 8 ∷ 3 ∷ []) (told 7 1)
+    ∷ lengths-off (7 ∷ 0 ∷ 3 ∷ 8 ∷ 8 ∷ 8 ∷ 3 ∷ [])
+    ∷ lengths-off (8 ∷ 1 ∷ 3 ∷ 8 ∷ 8 ∷ 8 ∷ 3 ∷ [])
+    ∷ lengths-off (8 ∷ 0 ∷ 4 ∷ 8 ∷ 8 ∷ 8 ∷ 3 ∷ [])
+    ∷ lengths-off (8 ∷ 0 ∷ 3 ∷ 9 ∷ 8 ∷ 8 ∷ 3 ∷ [])
+    ∷ lengths-off (8 ∷ 0 ∷ 3 ∷ 8 ∷ 7 ∷ 8 ∷ 3 ∷ [])
+    ∷ lengths-off (8 ∷ 0 ∷ 3 ∷ 8 ∷ 8 ∷ 9 ∷ 3 ∷ [])
+    ∷ lengths-off (8 ∷ 0 ∷ 3 ∷ 8 ∷ 8 ∷ 8 ∷ 2 ∷ [])
+    ∷ sheet 2 3 0 in-triangle corners (9 ∷ 3 ∷ 6 ∷ 9 ∷ 9 ∷ 9 ∷ 6 ∷ []) (told 0 0)
+    ∷ sheet 2 3 0 in-triangle (2160003 ∷ 0 ∷ 2159999 ∷ []) (9 ∷ 3 ∷ 6 ∷ 9 ∷ 9 ∷ 9 ∷ 6 ∷ []) (told 5 2)
+    ∷ sheet 3 4 0 round-point [] (12 ∷ 0 ∷ 5 ∷ 12 ∷ 12 ∷ 12 ∷ 5 ∷ []) (told 0 0)
+    ∷ sheet 3 9 0 round-point [] (12 ∷ 0 ∷ 5 ∷ 12 ∷ 12 ∷ 12 ∷ 5 ∷ []) (told 1 0)
+    ∷ []
+
+abbrev answerTo : Sheet → Told
+answerTo s = verdictTold (firstPassVerdict (s .code) (s .n) (s .limit) (s .angles) (s .fixed) (s .lent))
+
+answered : map answerTo sheets ≡ map (λ (s : Sheet). s .answer) sheets
+unfolding firstPassVerdict firstPassRows firstRows answerOf lowestPlace figureOf listed misclosure firstNumerator firstRounded corrected conditionSum sumOver numerator applied dot sum roundedQuotient nearest
+answered = refl
+
+-- ---- what the accepted sheets of codes 2 and 3 give
+
+record Values : Type 0 where
+  misclosures : List ℤ
+  numerators : List ℤ
+  rounded : List ℤ
+  results : List ℕ
+  rests : List ℤ
+
+abbrev valuesOf : Figure → (angles fixed : List ℕ) → Values
+valuesOf f angles fixed = record {
+  misclosures = misclosuresOf f angles fixed;
+  numerators = numeratorsOf f angles fixed;
+  rounded = roundedOf f angles fixed;
+  results = correctedOf f angles fixed;
+  rests = restsOf f angles fixed;
+}
+
+in-triangle-worked : valuesOf PointInTriangle in-triangle corners ≡ record {
+  misclosures = pos 11 ∷ pos 20 ∷ minus 16 ∷ pos 1 ∷ minus 3 ∷ pos 14 ∷ [];
+  numerators = minus 54 ∷ minus 76 ∷ pos 20 ∷ minus 64 ∷ pos 10 ∷ minus 146 ∷ pos 88 ∷ pos 6 ∷ pos 66 ∷ [];
+  rounded = minus 5 ∷ minus 8 ∷ pos 2 ∷ minus 6 ∷ pos 1 ∷ minus 15 ∷ pos 9 ∷ pos 1 ∷ pos 7 ∷ [];
+  results = 4320016 ∷ 1079992 ∷ 1079992 ∷ 4319994 ∷ 1080008 ∷ 1079998 ∷ 4319989 ∷ 1080001 ∷ 1080011 ∷ [];
+  rests = pos 0 ∷ pos 0 ∷ pos 1 ∷ pos 0 ∷ pos 0 ∷ pos 0 ∷ [];
+}
+unfolding listed misclosure firstNumerator firstRounded corrected firstRest conditionSum sumOver numerator applied dot sum roundedQuotient nearest
+in-triangle-worked = refl
+
+round-point-worked : valuesOf CentralQuadrilateral round-point [] ≡ record {
+  misclosures = pos 5 ∷ pos 15 ∷ minus 15 ∷ minus 1 ∷ pos 3 ∷ [];
+  numerators = minus 50 ∷ minus 35 ∷ minus 35 ∷ minus 130 ∷ minus 115 ∷ minus 115 ∷ pos 110 ∷ pos 125 ∷ pos 125 ∷ minus 2 ∷ pos 13 ∷ pos 13 ∷ [];
+  rounded = minus 2 ∷ minus 1 ∷ minus 1 ∷ minus 5 ∷ minus 5 ∷ minus 5 ∷ pos 5 ∷ pos 5 ∷ pos 5 ∷ pos 0 ∷ pos 1 ∷ pos 1 ∷ [];
+  results =
+      3240008 ∷ 1619999 ∷ 1619994 ∷ 3239995 ∷ 1620007 ∷ 1619998 ∷ 3239990 ∷ 1620005 ∷ 1620005 ∷ 3240008 ∷ 1619991 ∷ 1620002 ∷ [];
+  rests = pos 1 ∷ pos 0 ∷ pos 0 ∷ pos 1 ∷ pos 1 ∷ [];
+}
+unfolding listed misclosure firstNumerator firstRounded corrected firstRest conditionSum sumOver numerator applied dot sum roundedQuotient nearest
+round-point-worked = refl

@@ -1,0 +1,46 @@
+-- The orders of both passes, for demand 1: every row is in the table, and the second pass's answer tells what its rows are judged to be. Of every code, n and
+-- sheet. Assumes nothing.
+use mathlib.Core.List.{List}
+use mathlib.Core.Path.{_≡_, refl, sym, ap}
+use Prim.Native.Nat.{ℕ}
+use lib.Dec.{T}
+use lib.IntN.{ℤ}
+use Rattle.refusals.specs.declared.Refusal.{Refusal}
+use Rattle.refusals.specs.declared.Verdict.{Verdict}
+use Rattle.refusals.specs.declared.Verdict.the-variants.{Passed, Failed}
+use Rattle.refusals.specs.Numbers.{verdictTold}
+use Rattle.refusals.specs.Order.{allInTable}
+use Rattle.figures.specs.declared.Named.{Named}
+use Rattle.figures.specs.declared.Named.the-variants.{As, Nothing}
+use Rattle.figures.specs.Figure.{figureOf, ofNamed}
+use Rattle.pass_rules.specs.declared.second.SecondAnswer.the-variants.{Refused}
+use Rattle.pass_rules.specs.FirstPass.{firstRows, firstPassRows}
+use Rattle.pass_rules.specs.SecondPass.{sineMisclosure, sumOfSquares, secondRows, secondPassRows, secondPassVerdict, secondAnswerOf, secondPassAnswer, secondTold}
+use Rattle.pass_rules.proofs.PassRows.{rows-in-table, none-judged}
+
+module _ (code n limit : ℕ) (angles fixed lent : List ℕ) where
+  pub first-in-table : T (allInTable (firstPassRows code n limit angles fixed lent))
+  unfolding firstPassRows firstRows
+  first-in-table = rows-in-table code n (λ f. firstRows f limit angles fixed lent) (λ f. tt)
+
+module _ (code n tolerance : ℕ) (angles logSines : List ℕ) (differences : List ℤ) (lent : List ℕ) where
+  pub second-in-table : T (allInTable (secondPassRows code n tolerance angles logSines differences lent))
+  unfolding secondPassRows secondRows
+  second-in-table = rows-in-table code n (λ f. secondRows f tolerance angles logSines differences lent) (λ f. tt)
+
+  -- the answer tells what the verdict does
+  pub second-tells : secondTold (secondPassAnswer code n tolerance angles logSines differences lent)
+      ≡ verdictTold (secondPassVerdict code n tolerance angles logSines differences lent)
+  unfolding secondPassAnswer secondPassVerdict secondPassRows
+  second-tells = go (figureOf code n) refl
+    where
+      go : (m : Named) → figureOf code n ≡ m
+          → secondTold (ofNamed m (Refused Refusal.NoSuchFigure)
+          (λ f. secondAnswerOf (secondPassVerdict code n tolerance angles logSines differences lent) (sineMisclosure f logSines) (sumOfSquares f differences)))
+          ≡ verdictTold (secondPassVerdict code n tolerance angles logSines differences lent)
+      go Nothing e = sym (ap verdictTold (none-judged code n (λ f. secondRows f tolerance angles logSines differences lent) e))
+      go (As f) e = by-verdict (secondPassVerdict code n tolerance angles logSines differences lent)
+        where
+          by-verdict : (v : Verdict) → secondTold (secondAnswerOf v (sineMisclosure f logSines) (sumOfSquares f differences)) ≡ verdictTold v
+          by-verdict Passed = refl
+          by-verdict (Failed refusal) = refl

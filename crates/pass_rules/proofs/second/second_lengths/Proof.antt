@@ -1,0 +1,19 @@
+-- `pass_rules::second::second_lengths` meets its contract: the results' lengths one by one.
+use mathlib.Core.List.{List, _∷_}
+use mathlib.Core.Path.{ap}
+use Prim.Native.Nat.{ℕ}
+use native.Mathlib.Omega.{arith}
+use borrow.Author.Needs.{needs}
+use Rattle.pass_rules.proofs.ResultLengths.{one-by-one}
+use Rattle.pass_rules.proofs.second.second_lengths.Statement.{statement}
+use Rattle.pass_rules.proofs.second.second_lengths.Tie as tie
+
+returns : tie.Need-returns
+returns c =
+    let args = c .args in
+    ap (λ (l : List ℕ). args .angles ∷ args .log-sines ∷ args .differences ∷ l) (one-by-one (args .t4) (omega arith))
+
+pub second-lengths-spec : {M : Type 1} → statement M
+second-lengths-spec =
+    tie.close
+    (tie.spec (λ c. search needs) (λ c. search needs) (λ c. search needs) (λ c. search needs) (λ c. search needs) returns)

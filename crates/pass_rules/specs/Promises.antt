@@ -1,0 +1,177 @@
+-- What the two passes promise: document 01, "The two passes" and "What the promises must decide". What is given, what is lent, what is answered, and what
+-- everything lent holds in the end.
+use Prim.Native.Nat.{ℕ}
+use mathlib.Core.List.{List, [], _∷_}
+use lib.IntN.{ℤ}
+use lib.ListN.{length}
+use Rattle.refusals.specs.declared.Verdict.{Verdict}
+use Rattle.refusals.specs.Order.{Row, judged}
+use Rattle.refusals.specs.Promise.{Promised, stored}
+use Rattle.figures.specs.declared.Figure.{Figure}
+use Rattle.figures.specs.Figure.{figureOf, ofNamed}
+use Rattle.pass_rules.specs.declared.second.SecondAnswer.{SecondAnswer}
+use Rattle.pass_rules.specs.FirstPass.{firstRows, firstPassRows, firstPassVerdict, misclosuresOf, numeratorsOf, roundedOf, correctedOf, restsOf}
+use Rattle.pass_rules.specs.SecondPass.{sineMisclosure, sumOfSquares, secondRows, secondPassRows, secondPassVerdict, secondAnswerOf, secondPassAnswer, reducedOf, secondNumeratorsOf, secondRoundedOf, adjustedOf, secondRestsOf}
+
+-- ---- the first pass
+
+pub record FirstGiven : Type 0 where
+  pub code : ℕ
+  pub n : ℕ
+  pub limit : ℕ
+  pub angles : List ℕ
+  pub fixed : List ℕ
+
+abbrev pub firstGiven : (code n limit : ℕ) → (angles fixed : List ℕ) → FirstGiven
+firstGiven code n limit angles fixed = record { code = code; n = n; limit = limit; angles = angles; fixed = fixed }
+
+pub record FirstLent : Type 0 where
+  pub misclosures : List ℤ
+  pub numerators : List ℤ
+  pub rounded : List ℤ
+  pub corrected : List ℕ
+  pub rests : List ℤ
+
+abbrev pub firstLent : (misclosures numerators rounded : List ℤ) → (corrected : List ℕ) → (rests : List ℤ) → FirstLent
+firstLent misclosures numerators rounded corrected rests = record {
+  misclosures = misclosures;
+  numerators = numerators;
+  rounded = rounded;
+  corrected = corrected;
+  rests = rests;
+}
+
+-- the lengths of all slices, for number 2
+abbrev pub firstResultsLent : FirstLent → List ℕ
+firstResultsLent lent =
+    length (lent .misclosures) ∷ length (lent .numerators) ∷ length (lent .rounded) ∷ length (lent .corrected) ∷ length (lent .rests) ∷ []
+
+abbrev pub firstSlices : (angles fixed : List ℕ) → FirstLent → List ℕ
+firstSlices angles fixed lent = length angles ∷ length fixed ∷ firstResultsLent lent
+
+abbrev pub firstLengthsLent : FirstGiven → FirstLent → List ℕ
+firstLengthsLent given lent = firstSlices (given .angles) (given .fixed) lent
+
+-- its order
+abbrev pub firstRowsOf : FirstGiven → FirstLent → List Row
+firstRowsOf given lent =
+    firstPassRows (given .code) (given .n) (given .limit) (given .angles) (given .fixed) (firstLengthsLent given lent)
+
+abbrev pub firstAnswer : FirstGiven → FirstLent → Verdict
+firstAnswer given lent =
+    firstPassVerdict (given .code) (given .n) (given .limit) (given .angles) (given .fixed) (firstLengthsLent given lent)
+
+-- what a figure's sheet gives
+abbrev pub firstValuesOf : Figure → (angles fixed : List ℕ) → FirstLent
+firstValuesOf f angles fixed =
+    firstLent (misclosuresOf f angles fixed) (numeratorsOf f angles fixed) (roundedOf f angles fixed) (correctedOf f angles fixed) (restsOf f angles fixed)
+
+abbrev pub firstValues : Figure → FirstGiven → FirstLent
+firstValues f given = firstValuesOf f (given .angles) (given .fixed)
+
+-- everything lent in the end: the values of the figure that code and n name where no row holds, and else what it held
+abbrev pub firstLeft : FirstGiven → FirstLent → FirstLent
+firstLeft given lent =
+    ofNamed (figureOf (given .code) (given .n)) lent (λ f. stored (firstAnswer given lent) (firstValues f given) lent)
+
+abbrev pub FirstPromise : FirstGiven → (entry : FirstLent) → (answer : Verdict) → (exit : FirstLent) → Type 0
+FirstPromise given entry answer exit = Promised (firstAnswer given entry) (firstLeft given entry) answer exit
+
+-- of a figure that is named already: 2, 3, 4, 5, 6, 7
+abbrev pub firstVerdictOf : Figure → (limit : ℕ) → (angles fixed : List ℕ) → FirstLent → Verdict
+firstVerdictOf f limit angles fixed lent = judged (firstRows f limit angles fixed (firstSlices angles fixed lent))
+
+abbrev pub FirstPromiseOf : Figure → (limit : ℕ) → (angles fixed : List ℕ) → (entry : FirstLent) → (answer : Verdict) → (exit : FirstLent) → Type 0
+FirstPromiseOf f limit angles fixed entry answer exit =
+    Promised (firstVerdictOf f limit angles fixed entry) (stored (firstVerdictOf f limit angles fixed entry) (firstValuesOf f angles fixed) entry) answer exit
+
+-- ---- the second pass
+
+pub record SecondGiven : Type 0 where
+  pub code : ℕ
+  pub n : ℕ
+  pub tolerance : ℕ
+  pub angles : List ℕ
+  pub logSines : List ℕ
+  pub differences : List ℤ
+
+abbrev pub secondGiven : (code n tolerance : ℕ) → (angles logSines : List ℕ) → (differences : List ℤ) → SecondGiven
+secondGiven code n tolerance angles logSines differences = record {
+  code = code;
+  n = n;
+  tolerance = tolerance;
+  angles = angles;
+  logSines = logSines;
+  differences = differences;
+}
+
+pub record SecondLent : Type 0 where
+  pub reduced : List ℤ
+  pub numerators : List ℤ
+  pub rounded : List ℤ
+  pub adjusted : List ℕ
+  pub rests : List ℤ
+
+abbrev pub secondLent : (reduced numerators rounded : List ℤ) → (adjusted : List ℕ) → (rests : List ℤ) → SecondLent
+secondLent reduced numerators rounded adjusted rests = record {
+  reduced = reduced;
+  numerators = numerators;
+  rounded = rounded;
+  adjusted = adjusted;
+  rests = rests;
+}
+
+-- the lengths of all slices, for number 2
+abbrev pub secondResultsLent : SecondLent → List ℕ
+secondResultsLent lent =
+    length (lent .reduced) ∷ length (lent .numerators) ∷ length (lent .rounded) ∷ length (lent .adjusted) ∷ length (lent .rests) ∷ []
+
+abbrev pub secondSlices : (angles logSines : List ℕ) → (differences : List ℤ) → SecondLent → List ℕ
+secondSlices angles logSines differences lent = length angles ∷ length logSines ∷ length differences ∷ secondResultsLent lent
+
+abbrev pub secondLengthsLent : SecondGiven → SecondLent → List ℕ
+secondLengthsLent given lent = secondSlices (given .angles) (given .logSines) (given .differences) lent
+
+-- its order
+abbrev pub secondRowsOf : SecondGiven → SecondLent → List Row
+secondRowsOf given lent =
+    secondPassRows (given .code) (given .n) (given .tolerance) (given .angles) (given .logSines) (given .differences)
+    (secondLengthsLent given lent)
+
+abbrev pub secondVerdict : SecondGiven → SecondLent → Verdict
+secondVerdict given lent =
+    secondPassVerdict (given .code) (given .n) (given .tolerance) (given .angles) (given .logSines) (given .differences)
+    (secondLengthsLent given lent)
+
+abbrev pub secondAnswer : SecondGiven → SecondLent → SecondAnswer
+secondAnswer given lent =
+    secondPassAnswer (given .code) (given .n) (given .tolerance) (given .angles) (given .logSines) (given .differences)
+    (secondLengthsLent given lent)
+
+-- what a figure's sheet gives
+abbrev pub secondValuesOf : Figure → (angles logSines : List ℕ) → (differences : List ℤ) → SecondLent
+secondValuesOf f angles logSines differences =
+    secondLent (reducedOf f differences) (secondNumeratorsOf f logSines differences) (secondRoundedOf f logSines differences)
+    (adjustedOf f angles logSines differences) (secondRestsOf f logSines differences)
+
+abbrev pub secondValues : Figure → SecondGiven → SecondLent
+secondValues f given = secondValuesOf f (given .angles) (given .logSines) (given .differences)
+
+-- everything lent in the end: the values of the figure that code and n name where no row holds, and else what it held
+abbrev pub secondLeft : SecondGiven → SecondLent → SecondLent
+secondLeft given lent =
+    ofNamed (figureOf (given .code) (given .n)) lent (λ f. stored (secondVerdict given lent) (secondValues f given) lent)
+
+abbrev pub SecondPromise : SecondGiven → (entry : SecondLent) → (answer : SecondAnswer) → (exit : SecondLent) → Type 0
+SecondPromise given entry answer exit = Promised (secondAnswer given entry) (secondLeft given entry) answer exit
+
+-- of a figure that is named already: 2, 3, 4, 8, 10, 9, 7
+abbrev pub secondVerdictOf : Figure → (tolerance : ℕ) → (angles logSines : List ℕ) → (differences : List ℤ) → SecondLent → Verdict
+secondVerdictOf f tolerance angles logSines differences lent =
+    judged (secondRows f tolerance angles logSines differences (secondSlices angles logSines differences lent))
+
+abbrev pub SecondPromiseOf : Figure → (tolerance : ℕ) → (angles logSines : List ℕ) → (differences : List ℤ)
+    → (entry : SecondLent) → (answer : SecondAnswer) → (exit : SecondLent) → Type 0
+SecondPromiseOf f tolerance angles logSines differences entry answer exit =
+    Promised (secondAnswerOf (secondVerdictOf f tolerance angles logSines differences entry) (sineMisclosure f logSines) (sumOfSquares f differences))
+    (stored (secondVerdictOf f tolerance angles logSines differences entry) (secondValuesOf f angles logSines differences) entry) answer exit

@@ -1,0 +1,76 @@
+// The order of the first pass: document 01, "Numbers given when a sheet is turned back".
+ghost use mathlib.Core.Path.{_≡_};
+ghost use mathlib.Core.List.{_∷_};
+ghost use lib.ListN.{length};
+ghost use Rattle.refusals.specs.Order.{judged};
+ghost use Rattle.pass_rules.specs.FirstPass.{limitOf, firstResultLengths, givenRows};
+use crate::ResultLengths;
+use crate::in_force;
+use figures::Figure;
+use judging::angles_verdict;
+use judging::fixed_verdict;
+use judging::lengths_verdict;
+use judging::limit_or_tolerance_verdict;
+use refusals::MOST_LIMIT;
+use refusals::Verdict;
+use refusals::first_to_fail;
+
+// Document 01, "Units and ranges": the misclosure limit, in tenths, that 0 stands for.
+const DEFAULT_LIMIT: u32 = 150;
+
+// L in force.
+pub fn limit_in_force(limit: u32) -> u32
+    ensures { λ force. ⌜ force ≡ limitOf limit ⌝ }
+{
+    in_force(limit, DEFAULT_LIMIT)
+}
+
+// Of misclosures, numerators, rounded corrections, corrected angles and rests.
+pub fn first_result_lengths(figure: Figure) -> ResultLengths
+    ensures { λ lengths. ⌜ lengths ≡ firstResultLengths figure ⌝ }
+{
+    let counts = figure_tables::counts_of(figure);
+    let angles = counts.angles;
+    let conditions = counts.conditions;
+    [conditions, angles, angles, angles, conditions]
+}
+
+// Of angles, fixed angles and results.
+fn first_lengths(angles: usize, fixed: usize, results: ResultLengths) -> [usize; 7]
+    ensures { λ lengths. ⌜ lengths ≡ angles ∷ fixed ∷ results ⌝ }
+{
+    [
+        angles,
+        fixed,
+        results[0],
+        results[1],
+        results[2],
+        results[3],
+        results[4],
+    ]
+}
+
+// Numbers 2 to 5: what can be said before any work.
+pub fn first_given_verdict(
+    figure: Figure,
+    limit: u32,
+    angles: &[u32],
+    fixed: &[u32],
+    results: ResultLengths,
+) -> Verdict
+    ensures { λ verdict.
+        ⌜ verdict ≡ judged (givenRows figure limit (now (angles .entry)) (now (fixed .entry))
+        (length (now (angles .entry)) ∷ length (now (fixed .entry)) ∷ results)) ⌝ }
+{
+    let counts = figure_tables::counts_of(figure);
+    let lent = first_lengths(angles.len(), fixed.len(), results);
+    let own = first_lengths(counts.angles, counts.fixed, first_result_lengths(figure));
+    let lengths = lengths_verdict(&lent, &own);
+    let range = limit_or_tolerance_verdict(limit, MOST_LIMIT);
+    let angle = angles_verdict(angles);
+    let fixed_angle = fixed_verdict(fixed);
+    first_to_fail(
+        lengths,
+        first_to_fail(range, first_to_fail(angle, fixed_angle)),
+    )
+}

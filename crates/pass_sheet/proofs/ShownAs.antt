@@ -1,0 +1,99 @@
+-- A sheet worked through is shown in one of three ways: as a worked figure of either kind, whose order has passed, or as a refusal. Assumes nothing.
+use Prim.Native.Nat.{ℕ}
+use mathlib.Core.List.{List, []}
+use mathlib.Core.Logic.{_⊎_, inl, inr}
+use mathlib.Core.Path.{_≡_, refl, sym, ap, subst}
+use lib.IntN.{ℤ}
+use Rattle.refusals.specs.declared.Refusal.{Refusal}
+use Rattle.refusals.specs.declared.Verdict.{Verdict}
+use Rattle.refusals.specs.declared.Verdict.the-variants.{Passed, Failed}
+use Rattle.refusals.specs.Order.{judged}
+use Rattle.figures.specs.declared.Figure.{Figure}
+use Rattle.sheet_layout.specs.declared.Kind.{Kind}
+use Rattle.sheet_layout.specs.declared.Kind.the-variants.{FirstPass, SecondPass}
+use Rattle.sheet_layout.specs.declared.head.Look.{Look}
+use Rattle.sheet_layout.specs.declared.head.Look.the-variants.{Head}
+use Rattle.sheet_layout.specs.Head.{lookOf, ofHead}
+use Rattle.sheet_rules.specs.declared.Reading.{Reading}
+use Rattle.sheet_rules.specs.Sheet.{valuesRead}
+use Rattle.sheet_rules.specs.Judging.{ownLengths, bodyRows, readingAfter}
+use Rattle.sheet_rules.proofs.Accepted.{head-found}
+use Rattle.pass_rules.specs.FirstPass.{firstRows}
+use Rattle.pass_rules.specs.SecondPass.{secondRows}
+use Rattle.pass_sheet.specs.Worked.{WorkedSheet, firstSheetLengths, secondSheetLengths, refusedSheet, shownIf, firstShown, firstSheet, secondShown, secondSheet, workedRead, workedLook, workedOf, differencesIn}
+
+pub record FirstShown (worked : WorkedSheet) : Type 0 where
+  pub figure : Figure
+  pub limit : ℕ
+  pub angles : List ℕ
+  pub fixed : List ℕ
+  pub passed : judged (firstRows figure limit angles fixed (firstSheetLengths figure angles fixed)) ≡ Passed
+  pub is : worked ≡ firstShown figure angles fixed
+
+pub record SecondShown (sheet : List ℕ) (worked : WorkedSheet) : Type 0 where
+  pub figure : Figure
+  pub tolerance : ℕ
+  pub angles : List ℕ
+  pub logSines : List ℕ
+  pub differences : List ℤ
+  pub held : differencesIn sheet ≡ differences
+  pub passed : judged (secondRows figure tolerance angles logSines differences (secondSheetLengths figure angles logSines differences)) ≡ Passed
+  pub is : worked ≡ secondShown figure angles logSines differences
+
+pub record RefusedShown (worked : WorkedSheet) : Type 0 where
+  pub refusal : Refusal
+  pub is : worked ≡ refusedSheet refusal
+
+abbrev pub ShownAs : (sheet : List ℕ) → WorkedSheet → Type 0
+ShownAs sheet worked = FirstShown worked ⊎ (SecondShown sheet worked ⊎ RefusedShown worked)
+
+module _ (sheet : List ℕ) where
+  refused-shown : (refusal : Refusal) → ShownAs sheet (refusedSheet refusal)
+  refused-shown refusal = inr (inr (record { refusal = refusal; is = refl }))
+
+  first-shown : (f : Figure) (limit : ℕ) (angles fixed : List ℕ) → ShownAs sheet (firstSheet f limit angles fixed)
+  unfolding firstSheet
+  first-shown f limit angles fixed = go (judged (firstRows f limit angles fixed (firstSheetLengths f angles fixed))) refl
+    where
+      go : (v : Verdict) → judged (firstRows f limit angles fixed (firstSheetLengths f angles fixed)) ≡ v
+          → ShownAs sheet (shownIf v (firstShown f angles fixed))
+      go Passed e = inl (record { figure = f; limit = limit; angles = angles; fixed = fixed; passed = e; is = refl })
+      go (Failed refusal) e = refused-shown refusal
+
+  second-shown : (f : Figure) (tolerance : ℕ) (angles logSines : List ℕ) (differences : List ℤ) → differencesIn sheet ≡ differences
+      → ShownAs sheet (secondSheet f tolerance angles logSines differences)
+  unfolding secondSheet
+  second-shown f tolerance angles logSines differences held = go (judged (secondRows f tolerance angles logSines differences (secondSheetLengths f angles logSines differences))) refl
+    where
+      go : (v : Verdict) → judged (secondRows f tolerance angles logSines differences (secondSheetLengths f angles logSines differences)) ≡ v
+          → ShownAs sheet (shownIf v (secondShown f angles logSines differences))
+      go Passed e = inr (inl (record {
+        figure = f;
+        tolerance = tolerance;
+        angles = angles;
+        logSines = logSines;
+        differences = differences;
+        held = held;
+        passed = e;
+        is = refl;
+      }))
+      go (Failed refusal) e = refused-shown refusal
+
+  read-shown : (kind : Kind) (f : Figure) → differencesIn sheet ≡ valuesRead kind f sheet .differences → (v : Verdict)
+      → ShownAs sheet (workedRead (readingAfter v kind f sheet) sheet)
+  read-shown FirstPass f held Passed = first-shown f (valuesRead FirstPass f sheet .limitOrTolerance) (valuesRead FirstPass f sheet .angles) (valuesRead FirstPass f sheet .fixed)
+  read-shown FirstPass f held (Failed refusal) = refused-shown refusal
+  read-shown SecondPass f held Passed =
+      second-shown f (valuesRead SecondPass f sheet .limitOrTolerance) (valuesRead SecondPass f sheet .angles) (valuesRead SecondPass f sheet .logSines)
+      (valuesRead SecondPass f sheet .differences) held
+  read-shown SecondPass f held (Failed refusal) = refused-shown refusal
+
+  look-shown : (found : Look) → lookOf sheet ≡ found → ShownAs sheet (workedLook found sheet)
+  look-shown (Head kind f) e =
+      subst (λ (reading : Reading). ShownAs sheet (workedRead reading sheet)) (sym (head-found sheet (ownLengths kind f) kind f e))
+      (read-shown kind f (ap (λ (found : Look). ofHead found [] (λ k g. valuesRead k g sheet .differences)) e) (judged (bodyRows kind f sheet (ownLengths kind f))))
+  look-shown (Look.Refused refusal) e = refused-shown refusal
+
+  pub shown-as : ShownAs sheet (workedOf sheet)
+  unfolding workedOf
+  shown-as = look-shown (lookOf sheet) refl

@@ -1,0 +1,159 @@
+-- `pass_sheet::first_sheet` meets its contract: the lines of what the pass left, or its refusal.
+use mathlib.Core.Path.{_≡_, sym, ap, _∙_, subst}
+use mathlib.Core.List.{List, [], _∷_, _++_}
+use Prim.Native.Nat.{ℕ, _≤_}
+use native.Mathlib.Omega.{arith}
+use borrow.Author.Needs.{needs}
+use denote.Ref.{now}
+use lib.IntN.{ℤ, pos}
+use lib.ListN.{length, take, drop, replicate}
+use Rattle.whole.specs.Sums.{vector, naturals}
+use Rattle.text.specs.Holds.{Holds}
+use Rattle.lines.specs.Lines.{firstText}
+use Rattle.figures.specs.declared.Counts.{Counts}
+use Rattle.figures.specs.Figure.{angleCount, conditionCount}
+use Rattle.figures.proofs.Figures.{angle-bound, condition-bound}
+use Rattle.pass_rules.specs.FirstPass.{firstResultLengths}
+use Rattle.pass_rules.specs.Promises.{FirstLent, firstLent, firstResultsLent}
+use Rattle.pass_steps.proofs.Again.{Again, again}
+use Rattle.pass_steps.proofs.Lending.{lent-length}
+use Rattle.pass_sheet.proofs.Sheets.{first-refused, first-worked}
+use Rattle.pass_sheet.proofs.first_sheet.Statement.{statement}
+use Rattle.pass_sheet.proofs.first_sheet.Tie as tie
+
+module _ (c : tie.After-counts-of) where
+  abbrev n : ℕ
+  n = c .counts-of .result .angles
+
+  abbrev m : ℕ
+  m = c .counts-of .result .conditions
+
+  n-is : n ≡ angleCount (c .before .before .before .before .args .figure)
+  n-is = ap (λ (k : Counts). k .angles) (c .counts-of .ensures)
+
+  m-is : m ≡ conditionCount (c .before .before .before .before .args .figure)
+  m-is = ap (λ (k : Counts). k .conditions) (c .counts-of .ensures)
+
+  few-angles : n ≤ 24
+  few-angles = omega (arith, n-is, angle-bound (c .before .before .before .before .args .figure))
+
+  few-conditions : m ≤ 9
+  few-conditions = omega (arith, m-is, condition-bound (c .before .before .before .before .args .figure))
+
+-- what the pass left, each at the start of its array
+module _ (p : tie.After-first-pass-of) where
+  abbrev counts : tie.After-counts-of
+  counts = p .before .before .before .before .before .before
+
+  abbrev start : tie.Start
+  start = counts .before .before .before .before
+
+  abbrev misclosures : List ℤ
+  misclosures = p .first-pass-of .last .1 .1 .1 .1 .0
+
+  abbrev numerators : List ℤ
+  numerators = p .first-pass-of .last .1 .1 .1 .1 .1 .0
+
+  abbrev rounded : List ℤ
+  rounded = p .first-pass-of .last .1 .1 .1 .1 .1 .1 .0
+
+  abbrev corrected : List ℕ
+  corrected = p .first-pass-of .last .1 .1 .1 .1 .1 .1 .1 .0
+
+  abbrev rests : List ℤ
+  rests = p .first-pass-of .last .1 .1 .1 .1 .1 .1 .1 .1 .0
+
+  by-angle : {A : Type 0} (zero : A) (part : List A) → length part ≡ length (take (n counts) (replicate 24 zero)) → Again (n counts) (replicate 24 zero) part
+  by-angle zero part kept = again (n counts) (replicate 24 zero) (few-angles counts) part kept
+
+  by-condition : (part : List ℤ) → length part ≡ length (take (m counts) (replicate 9 (pos 0))) → Again (m counts) (replicate 9 (pos 0)) part
+  by-condition part kept = again (m counts) (replicate 9 (pos 0)) (few-conditions counts) part kept
+
+  misclosures-again : Again (m counts) (replicate 9 (pos 0)) misclosures
+  misclosures-again = by-condition misclosures (p .first-pass-of .kept .1 .1 .1 .1 .0)
+
+  numerators-again : Again (n counts) (replicate 24 (pos 0)) numerators
+  numerators-again = by-angle (pos 0) numerators (p .first-pass-of .kept .1 .1 .1 .1 .1 .0)
+
+  rounded-again : Again (n counts) (replicate 24 (pos 0)) rounded
+  rounded-again = by-angle (pos 0) rounded (p .first-pass-of .kept .1 .1 .1 .1 .1 .1 .0)
+
+  corrected-again : Again (n counts) (replicate 24 0) corrected
+  corrected-again = by-angle 0 corrected (p .first-pass-of .kept .1 .1 .1 .1 .1 .1 .1 .0)
+
+  rests-again : Again (m counts) (replicate 9 (pos 0)) rests
+  rests-again = by-condition rests (p .first-pass-of .kept .1 .1 .1 .1 .1 .1 .1 .1 .0)
+
+  abbrev entry : FirstLent
+  entry =
+      firstLent (take (m counts) (replicate 9 (pos 0))) (take (n counts) (replicate 24 (pos 0))) (take (n counts) (replicate 24 (pos 0)))
+      (take (n counts) (replicate 24 0)) (take (m counts) (replicate 9 (pos 0)))
+
+  lengths : firstResultsLent entry ≡ firstResultLengths (start .args .figure)
+  lengths =
+      let angles = sym (lent-length (n counts) (replicate 24 (pos 0)) (few-angles counts)) ∙ n-is counts in
+      let naturals = sym (lent-length {A = ℕ} (n counts) (replicate 24 0) (few-angles counts)) ∙ n-is counts in
+      let conditions = sym (lent-length (m counts) (replicate 9 (pos 0)) (few-conditions counts)) ∙ m-is counts in
+      λ i. conditions i ∷ angles i ∷ angles i ∷ naturals i ∷ conditions i ∷ []
+
+returns : tie.Need-returns
+returns c =
+    let p = c .before .before .before .before .before .before .before .before .before .before .before .before in
+    let s = start p in
+    let refused = c .before .before in
+    subst (λ (t : List ℕ). Holds (now (s .args .buffer)) t (refused .refused-lines .last .0) (refused .refused-lines .result))
+    (first-refused (s .args .figure) (s .args .limit) (now (s .args .angles)) (now (s .args .fixed)) (entry p) _ (p .first-pass-of .result) (p .first-pass-of .ensures) (lengths p) _
+    (c .before .before .before .before .before .verdict .given .1))
+    (refused .refused-lines .ensures)
+
+returns-2 : tie.Need-returns-2
+returns-2 c =
+    let p = c .before .before .before .before .before .before .before .before .before .before .before .before .before .before .before .before in
+    let s = start p in
+    let printed = c .before .before in
+    let read : firstText (s .args .figure) (naturals (now (s .args .angles))) (vector (take (n (counts p)) (numerators p ++ drop (n (counts p)) (replicate 24 (pos 0)))))
+    (vector (take (n (counts p)) (rounded p ++ drop (n (counts p)) (replicate 24 (pos 0))))) (naturals (take (n (counts p)) (corrected p ++ drop (n (counts p)) (replicate 24 0))))
+    (vector (take (m (counts p)) (misclosures p ++ drop (m (counts p)) (replicate 9 (pos 0))))) (vector (take (m (counts p)) (rests p ++ drop (m (counts p)) (replicate 9 (pos 0)))))
+    ≡ firstText (s .args .figure) (naturals (now (s .args .angles))) (vector (numerators p)) (vector (rounded p)) (naturals (corrected p)) (vector (misclosures p)) (vector (rests p)) =
+    λ i. firstText (s .args .figure) (naturals (now (s .args .angles))) (vector (numerators-again p .is i)) (vector (rounded-again p .is i))
+    (naturals (corrected-again p .is i)) (vector (misclosures-again p .is i)) (vector (rests-again p .is i)) in
+    subst (λ (t : List ℕ). Holds (now (s .args .buffer)) t (printed .first-lines .last .0) (printed .first-lines .result))
+    (read ∙ first-worked (s .args .figure) (s .args .limit) (now (s .args .angles)) (now (s .args .fixed)) (entry p)
+    (firstLent (misclosures p) (numerators p) (rounded p) (corrected p) (rests p)) (p .first-pass-of .result) (p .first-pass-of .ensures) (lengths p)
+    (c .before .before .before .before .before .before .before .before .before .enum-told .given .1))
+    (printed .first-lines .ensures)
+
+pub first-sheet-spec : {M : Type 1} → statement M
+first-sheet-spec =
+    tie.close
+    (tie.spec
+    (λ c κs. search needs)
+    (λ c. few-conditions c)
+    (λ c. lent-length (m (c .before)) (replicate 9 (pos 0)) (few-conditions (c .before)))
+    (λ c. few-angles (c .before))
+    (λ c. lent-length (n (c .before .before)) (replicate 24 (pos 0)) (few-angles (c .before .before)))
+    (λ c. few-angles (c .before .before))
+    (λ c. lent-length (n (c .before .before .before)) (replicate 24 (pos 0)) (few-angles (c .before .before .before)))
+    (λ c. few-angles (c .before .before .before))
+    (λ c. lent-length (n (c .before .before .before .before)) (replicate 24 0) (few-angles (c .before .before .before .before)))
+    (λ c. few-conditions (c .before .before .before .before))
+    (λ c. lent-length (m (c .before .before .before .before .before)) (replicate 9 (pos 0)) (few-conditions (c .before .before .before .before .before)))
+    (λ c κs. search needs)
+    (λ c. search needs)
+    (λ c κs. search needs)
+    (λ c. search needs)
+    (λ c. numerators-again (c .before .before .before .before .before .before .before .before) .few)
+    (λ c. numerators-again (c .before .before .before .before .before .before .before .before .before) .size)
+    (λ c. rounded-again (c .before .before .before .before .before .before .before .before .before) .few)
+    (λ c. rounded-again (c .before .before .before .before .before .before .before .before .before .before) .size)
+    (λ c. corrected-again (c .before .before .before .before .before .before .before .before .before .before) .few)
+    (λ c. corrected-again (c .before .before .before .before .before .before .before .before .before .before .before) .size)
+    (λ c. misclosures-again (c .before .before .before .before .before .before .before .before .before .before .before) .few)
+    (λ c. misclosures-again (c .before .before .before .before .before .before .before .before .before .before .before .before) .size)
+    (λ c. rests-again (c .before .before .before .before .before .before .before .before .before .before .before .before) .few)
+    (λ c. rests-again (c .before .before .before .before .before .before .before .before .before .before .before .before .before) .size)
+    (λ c κs. search needs)
+    (λ c. search needs)
+    returns
+    (λ c. search needs)
+    returns-2)

@@ -1,0 +1,175 @@
+-- A sheet worked through.
+use Prim.Native.Nat.{ℕ}
+use mathlib.Core.Path.{_≡_}
+use mathlib.Core.List.{List, [], _∷_, _++_}
+use lib.IntN.{ℤ}
+use lib.ListN.{length, take}
+use Rattle.refusals.specs.declared.Refusal.{Refusal}
+use Rattle.refusals.specs.declared.Verdict.{Verdict}
+use Rattle.refusals.specs.declared.Verdict.the-variants.{Passed, Failed}
+use Rattle.refusals.specs.Numbers.{Told, told, refusalTold}
+use Rattle.refusals.specs.Order.{Row, judged}
+use Rattle.figures.specs.Numerators.{mostAngles}
+use Rattle.figures.specs.declared.Figure.{Figure}
+use Rattle.figures.specs.Figure.{angleCount}
+use Rattle.sheet_layout.specs.declared.Kind.{Kind}
+use Rattle.sheet_layout.specs.declared.Kind.the-variants.{FirstPass, SecondPass}
+use Rattle.sheet_layout.specs.declared.head.Look.{Look}
+use Rattle.sheet_layout.specs.declared.head.Look.the-variants.{Head}
+use Rattle.sheet_layout.specs.Head.{headRows, lookOf, ofHead}
+use Rattle.sheet_layout.specs.Layout.{fixedIn, sineEntriesIn}
+use Rattle.sheet_rules.specs.declared.Reading.{Reading}
+use Rattle.sheet_rules.specs.declared.Reading.the-variants.{Read}
+use Rattle.sheet_rules.specs.Judging.{ownLengths, bodyRows, readingOf, readingAfter, afterReading}
+use Rattle.sheet_rules.specs.Sheet.{Values, valuesRead}
+use Rattle.pass_sheet.specs.declared.SheetValues.{SheetValues}
+use Rattle.pass_rules.specs.FirstPass.{firstResultLengths, firstRows, misclosuresOf, numeratorsOf, roundedOf, correctedOf, restsOf}
+use Rattle.pass_rules.specs.SecondPass.{sineMisclosure, sumOfSquares, secondResultLengths, secondRows, reducedOf, secondNumeratorsOf, secondRoundedOf, adjustedOf, secondRestsOf}
+
+-- no figure has more fixed angles
+abbrev pub mostFixed : ℕ
+mostFixed = 3
+
+-- the arrays have their whole length
+pub record FullArrays (r : SheetValues) : Type 0 where
+  pub angles-full : length (r .angles) ≡ mostAngles
+  pub fixed-full : length (r .fixed) ≡ mostFixed
+  pub log-sines-full : length (r .«log_sines») ≡ mostAngles
+  pub differences-full : length (r .differences) ≡ mostAngles
+
+-- the reader's answer, and its values at the start of each array
+pub record ReadInto (sheet : List ℕ) (kind : Kind) (f : Figure) (r : SheetValues) : Type 0 where
+  pub full : FullArrays r
+  pub reading-is : r .reading ≡ readingAfter (judged (bodyRows kind f sheet (ownLengths kind f))) kind f sheet
+  pub angles-are : take (angleCount f) (r .angles) ≡ afterReading (r .reading) (λ k g. valuesRead k g sheet .angles) (take (angleCount f) (r .angles))
+  pub fixed-are : take (fixedIn kind f) (r .fixed) ≡ afterReading (r .reading) (λ k g. valuesRead k g sheet .fixed) (take (fixedIn kind f) (r .fixed))
+  pub log-sines-are : take (sineEntriesIn kind f) (r .«log_sines») ≡ afterReading (r .reading) (λ k g. valuesRead k g sheet .logSines) (take (sineEntriesIn kind f) (r .«log_sines»))
+  pub differences-are :
+      take (sineEntriesIn kind f) (r .differences) ≡ afterReading (r .reading) (λ k g. valuesRead k g sheet .differences) (take (sineEntriesIn kind f) (r .differences))
+
+-- ---- what is shown of a sheet
+
+-- what became of it
+pub data Outcome : Type 0 where
+  First : Figure → Outcome
+  Second : Figure → (w s : ℤ) → Outcome
+  Refused : Refusal → Outcome
+
+-- and a list for each thing that its lines show, in the order of the numbers of angles or conditions; none where a kind has none
+pub record WorkedSheet : Type 0 where
+  pub outcome : Outcome
+  pub given : List ℕ
+  pub misclosures : List ℤ
+  pub reduced : List ℤ
+  pub numerators : List ℤ
+  pub rounded : List ℤ
+  pub results : List ℕ
+  pub rests : List ℤ
+
+abbrev pub refusedSheet : Refusal → WorkedSheet
+refusedSheet r = record {
+  outcome = Outcome.Refused r;
+  given = [];
+  misclosures = [];
+  reduced = [];
+  numerators = [];
+  rounded = [];
+  results = [];
+  rests = [];
+}
+
+abbrev pub firstShown : Figure → (angles fixed : List ℕ) → WorkedSheet
+firstShown f angles fixed = record {
+  outcome = First f;
+  given = angles;
+  misclosures = misclosuresOf f angles fixed;
+  reduced = [];
+  numerators = numeratorsOf f angles fixed;
+  rounded = roundedOf f angles fixed;
+  results = correctedOf f angles fixed;
+  rests = restsOf f angles fixed;
+}
+
+abbrev pub shownIf : Verdict → WorkedSheet → WorkedSheet
+shownIf Passed shown = shown
+shownIf (Failed r) shown = refusedSheet r
+
+-- kind 1: the first pass of the figure, with slices of the right lengths lent for the results
+abbrev pub firstSheetLengths : Figure → (angles fixed : List ℕ) → List ℕ
+firstSheetLengths f angles fixed = length angles ∷ length fixed ∷ firstResultLengths f
+
+unfoldable pub firstSheet : Figure → (limit : ℕ) → (angles fixed : List ℕ) → WorkedSheet
+firstSheet f limit angles fixed =
+    shownIf (judged (firstRows f limit angles fixed (firstSheetLengths f angles fixed))) (firstShown f angles fixed)
+
+abbrev pub secondShown : Figure → (angles logSines : List ℕ) → (differences : List ℤ) → WorkedSheet
+secondShown f angles logSines differences = record {
+  outcome = Second f (sineMisclosure f logSines) (sumOfSquares f differences);
+  given = angles;
+  misclosures = [];
+  reduced = reducedOf f differences;
+  numerators = secondNumeratorsOf f logSines differences;
+  rounded = secondRoundedOf f logSines differences;
+  results = adjustedOf f angles logSines differences;
+  rests = secondRestsOf f logSines differences;
+}
+
+-- kind 2: the second pass of the figure, with slices of the right lengths lent for the results
+abbrev pub secondSheetLengths : Figure → (angles logSines : List ℕ) → (differences : List ℤ) → List ℕ
+secondSheetLengths f angles logSines differences = length angles ∷ length logSines ∷ length differences ∷ secondResultLengths f
+
+unfoldable pub secondSheet : Figure → (tolerance : ℕ) → (angles logSines : List ℕ) → (differences : List ℤ) → WorkedSheet
+secondSheet f tolerance angles logSines differences =
+    shownIf (judged (secondRows f tolerance angles logSines differences (secondSheetLengths f angles logSines differences)))
+    (secondShown f angles logSines differences)
+
+-- ---- from what the reader answered
+
+abbrev pub workedKind : Kind → Figure → (limitOrTolerance : ℕ) → (angles fixed logSines : List ℕ) → (differences : List ℤ) → WorkedSheet
+workedKind FirstPass f limit angles fixed logSines differences = firstSheet f limit angles fixed
+workedKind SecondPass f tolerance angles fixed logSines differences = secondSheet f tolerance angles logSines differences
+
+abbrev pub workedReading : Reading → (angles fixed logSines : List ℕ) → (differences : List ℤ) → WorkedSheet
+workedReading (Reading.Refused r) angles fixed logSines differences = refusedSheet r
+workedReading (Read kind f limitOrTolerance) angles fixed logSines differences = workedKind kind f limitOrTolerance angles fixed logSines differences
+
+abbrev pub workedFrom : Kind → Figure → SheetValues → WorkedSheet
+workedFrom kind f v =
+    workedReading (v .reading) (take (angleCount f) (v .angles)) (take (fixedIn kind f) (v .fixed)) (take (sineEntriesIn kind f) (v .«log_sines»)) (take (sineEntriesIn kind f) (v .differences))
+
+-- the values that the reader gives, where it gives them
+abbrev pub workedRead : Reading → List ℕ → WorkedSheet
+workedRead (Reading.Refused r) sheet = refusedSheet r
+workedRead (Read kind f limitOrTolerance) sheet =
+    workedKind kind f limitOrTolerance (valuesRead kind f sheet .angles) (valuesRead kind f sheet .fixed)
+    (valuesRead kind f sheet .logSines) (valuesRead kind f sheet .differences)
+
+abbrev pub workedLook : Look → List ℕ → WorkedSheet
+workedLook (Look.Refused r) sheet = refusedSheet r
+workedLook (Head kind f) sheet = workedRead (readingOf sheet (ownLengths kind f)) sheet
+
+-- a sheet worked through, from any bytes
+unfoldable pub workedOf : List ℕ → WorkedSheet
+workedOf sheet = workedLook (lookOf sheet) sheet
+
+-- ---- the order of a sheet worked through: the reader's rows, in slices of the right lengths, and then those of the pass that its kind is for
+
+abbrev pub passRows : Kind → Figure → Values → List Row
+passRows FirstPass f v = firstRows f (v .limitOrTolerance) (v .angles) (v .fixed) (firstSheetLengths f (v .angles) (v .fixed))
+passRows SecondPass f v =
+    secondRows f (v .limitOrTolerance) (v .angles) (v .logSines) (v .differences) (secondSheetLengths f (v .angles) (v .logSines) (v .differences))
+
+unfoldable pub sheetRows : List ℕ → List Row
+sheetRows sheet =
+    headRows sheet
+    ++ ofHead (lookOf sheet) [] (λ kind f. bodyRows kind f sheet (ownLengths kind f) ++ passRows kind f (valuesRead kind f sheet))
+
+-- the number and place of an outcome
+abbrev pub outcomeTold : Outcome → Told
+outcomeTold (First f) = told 0 0
+outcomeTold (Second f w s) = told 0 0
+outcomeTold (Outcome.Refused refusal) = refusalTold refusal
+
+-- the sine differences that a sheet holds
+abbrev pub differencesIn : List ℕ → List ℤ
+differencesIn sheet = ofHead (lookOf sheet) [] (λ kind f. valuesRead kind f sheet .differences)

@@ -1,0 +1,208 @@
+// A sheet worked through, straight to its lines: document 01, "Sheets worked through". Looked at and read once, then worked by the pass of
+// its kind, and its lines laid from what was read and worked.
+ghost use mathlib.Core.Path.{_≡_};
+ghost use Rattle.text.specs.Holds.{Holds};
+ghost use Rattle.pass_sheet.specs.Texts.{textOf, workedText};
+ghost use Rattle.pass_sheet.specs.Worked.{ReadInto, FullArrays, firstSheet, secondSheet, workedFrom};
+use figures::Figure;
+use figures::MOST_ANGLES;
+use figures::MOST_CONDITIONS;
+use lines::first_lines;
+use lines::refused_lines;
+use lines::second_lines;
+use pass_first::first_pass_of;
+use pass_rules::SecondAnswer;
+use pass_second::second_pass_of;
+use refusals::Verdict;
+use sheet_rules::Kind;
+use sheet_rules::Look;
+use sheet_rules::Reading;
+
+// No figure has more fixed angles.
+const MOST_FIXED: usize = 3;
+
+// What the reader answered, and the values that it stored from the start of each array.
+struct SheetValues {
+    reading: Reading,
+    angles: [u32; MOST_ANGLES],
+    fixed: [u32; MOST_FIXED],
+    log_sines: [u32; MOST_ANGLES],
+    differences: [i32; MOST_ANGLES],
+}
+
+fn values_of(sheet: &[u8], kind: Kind, figure: Figure) -> SheetValues
+    ensures { λ values. ⌜ ReadInto (now (sheet .entry)) kind figure values ⌝ }
+{
+    let lengths = sheet_rules::lengths_of(kind, figure);
+    let n = lengths.angles;
+    let k = lengths.fixed;
+    let m = lengths.log_sines;
+    let mut angles = [0u32; MOST_ANGLES];
+    let mut fixed = [0u32; MOST_FIXED];
+    let mut log_sines = [0u32; MOST_ANGLES];
+    let mut differences = [0i32; MOST_ANGLES];
+    let reading = sheet_reader::read_body(
+        sheet,
+        kind,
+        figure,
+        &mut angles[..n],
+        &mut fixed[..k],
+        &mut log_sines[..m],
+        &mut differences[..m],
+    );
+    SheetValues {
+        reading,
+        angles,
+        fixed,
+        log_sines,
+        differences,
+    }
+}
+
+// A sheet of kind 1.
+fn first_sheet(
+    buffer: &mut [u8],
+    figure: Figure,
+    limit: u32,
+    angles: &[u32],
+    fixed: &[u32],
+) -> usize
+    ensures { λ next. ⌜ Holds (now (buffer .entry)) (textOf (firstSheet figure limit (now (angles .entry)) (now (fixed .entry))))
+        (now (buffer .exit)) next ⌝ }
+{
+    let counts = figure_tables::counts_of(figure);
+    let n = counts.angles;
+    let m = counts.conditions;
+    let mut misclosures = [0i32; MOST_CONDITIONS];
+    let mut numerators = [0i32; MOST_ANGLES];
+    let mut rounded = [0i32; MOST_ANGLES];
+    let mut corrected = [0u32; MOST_ANGLES];
+    let mut rests = [0i32; MOST_CONDITIONS];
+    let verdict = first_pass_of(
+        figure,
+        limit,
+        angles,
+        fixed,
+        &mut misclosures[..m],
+        &mut numerators[..n],
+        &mut rounded[..n],
+        &mut corrected[..n],
+        &mut rests[..m],
+    );
+    match verdict {
+        Verdict::Failed(refusal) => refused_lines(buffer, refusal),
+        Verdict::Passed => first_lines(
+            buffer,
+            figure,
+            angles,
+            &numerators[..n],
+            &rounded[..n],
+            &corrected[..n],
+            &misclosures[..m],
+            &rests[..m],
+        ),
+    }
+}
+
+// A sheet of kind 2.
+fn second_sheet(
+    buffer: &mut [u8],
+    figure: Figure,
+    tolerance: u32,
+    angles: &[u32],
+    log_sines: &[u32],
+    differences: &[i32],
+) -> usize
+    ensures { λ next. ⌜ Holds (now (buffer .entry))
+        (textOf (secondSheet figure tolerance (now (angles .entry)) (now («log_sines» .entry)) (now (differences .entry))))
+        (now (buffer .exit)) next ⌝ }
+{
+    let counts = figure_tables::counts_of(figure);
+    let n = counts.angles;
+    let m = counts.conditions;
+    let mut reduced = [0i64; MOST_ANGLES];
+    let mut numerators = [0i64; MOST_ANGLES];
+    let mut rounded = [0i32; MOST_ANGLES];
+    let mut adjusted = [0u32; MOST_ANGLES];
+    let mut rests = [0i32; MOST_CONDITIONS];
+    let answer = second_pass_of(
+        figure,
+        tolerance,
+        angles,
+        log_sines,
+        differences,
+        &mut reduced[..n],
+        &mut numerators[..n],
+        &mut rounded[..n],
+        &mut adjusted[..n],
+        &mut rests[..m],
+    );
+    match answer {
+        SecondAnswer::Refused(refusal) => refused_lines(buffer, refusal),
+        SecondAnswer::Done(w, s) => second_lines(
+            buffer,
+            figure,
+            w,
+            s,
+            angles,
+            &reduced[..n],
+            &numerators[..n],
+            &rounded[..n],
+            &adjusted[..n],
+            &rests[..m],
+        ),
+    }
+}
+
+// What the reader stored, worked by the pass of the kind that it read.
+fn values_lines(buffer: &mut [u8], kind: Kind, figure: Figure, values: SheetValues) -> usize
+    requires { ⌜ FullArrays values ⌝ }
+    ensures { λ next. ⌜ Holds (now (buffer .entry)) (textOf (workedFrom kind figure values)) (now (buffer .exit)) next ⌝ }
+{
+    let lengths = sheet_rules::lengths_of(kind, figure);
+    let n = lengths.angles;
+    let k = lengths.fixed;
+    let m = lengths.log_sines;
+    let angles = values.angles;
+    let fixed = values.fixed;
+    let log_sines = values.log_sines;
+    let differences = values.differences;
+    let reading = values.reading;
+    match reading {
+        Reading::Refused(refusal) => refused_lines(buffer, refusal),
+        Reading::Read {
+            kind: read,
+            figure: f,
+            limit_or_tolerance,
+        } => match read {
+            Kind::FirstPass => first_sheet(
+                buffer,
+                f,
+                limit_or_tolerance,
+                &angles[..n],
+                &fixed[..k],
+            ),
+            Kind::SecondPass => second_sheet(
+                buffer,
+                f,
+                limit_or_tolerance,
+                &angles[..n],
+                &log_sines[..m],
+                &differences[..m],
+            ),
+        },
+    }
+}
+
+// The text of any bytes, from the start of a lent slice: the reader's refusal, the pass's refusal, or the lines of the worked figure. It
+// answers as `lines` does.
+pub fn worked_lines(buffer: &mut [u8], sheet: &[u8]) -> usize
+    ensures { λ next. ⌜ Holds (now (buffer .entry)) (workedText (now (sheet .entry))) (now (buffer .exit)) next ⌝ }
+{
+    match sheet_rules::look_at(sheet) {
+        Look::Refused(refusal) => refused_lines(buffer, refusal),
+        Look::Head(kind, figure) => {
+            values_lines(buffer, kind, figure, values_of(sheet, kind, figure))
+        }
+    }
+}

@@ -1,0 +1,103 @@
+// The layout of packed sheets: document 01, "Packed sheets". Which fields a sheet has is the definition `layout` of specs/Layout.antt; what
+// the numbers of its head name stands in specs/Head.antt.
+ghost use mathlib.Core.Path.{_≡_};
+ghost use Rattle.sheet_layout.specs.Layout.{lengthsOf, bitCount, sheetSize};
+
+mod head;
+
+use figure_tables::counts_of;
+use figures::Figure;
+pub use head::Look;
+pub use head::NamedKind;
+pub use head::look_at;
+pub use head::named_head;
+pub use head::number_of_kind;
+
+// What a sheet is for, and so which values it holds: kind 1 and kind 2.
+pub enum Kind {
+    FirstPass,
+    SecondPass,
+}
+
+// How many values of each sort.
+pub struct Lengths {
+    pub angles: usize,
+    pub fixed: usize,
+    pub log_sines: usize,
+    pub differences: usize,
+}
+
+// The widths of the fields, in bits.
+pub const KIND_WIDTH: u32 = 4;
+
+pub const CODE_WIDTH: u32 = 4;
+
+pub const N_WIDTH: u32 = 4;
+
+pub const LIMIT_WIDTH: u32 = 10;
+
+pub const TOLERANCE_WIDTH: u32 = 6;
+
+pub const ANGLE_WIDTH: u32 = 23;
+
+pub const LOG_SINE_WIDTH: u32 = 27;
+
+pub const DIFFERENCE_WIDTH: u32 = 15;
+
+// Where the fields of the head begin, and L or e after them.
+pub const CODE_AT: usize = KIND_WIDTH as usize;
+
+pub const N_AT: usize = CODE_AT + CODE_WIDTH as usize;
+
+pub const LIMIT_OR_TOLERANCE_AT: usize = N_AT + N_WIDTH as usize;
+
+// Where the first angle begins.
+pub const FIRST_PASS_BODY_AT: usize = LIMIT_OR_TOLERANCE_AT + LIMIT_WIDTH as usize;
+
+pub const SECOND_PASS_BODY_AT: usize = LIMIT_OR_TOLERANCE_AT + TOLERANCE_WIDTH as usize;
+
+// An angle's bits in the body: kind 1 has the angle, kind 2 its log-sine and difference too.
+pub const FIRST_PASS_STEP: usize = ANGLE_WIDTH as usize;
+
+pub const SECOND_PASS_STEP: usize = FIRST_PASS_STEP
+    + LOG_SINE_WIDTH as usize
+    + DIFFERENCE_WIDTH as usize;
+
+// How many values of each sort a sheet holds, and so how long each slice of values is.
+pub fn lengths_of(kind: Kind, figure: Figure) -> Lengths
+    ensures { λ lengths. ⌜ lengths ≡ lengthsOf kind figure ⌝ }
+{
+    let counts = counts_of(figure);
+    match kind {
+        Kind::FirstPass => Lengths {
+            angles: counts.angles,
+            fixed: counts.fixed,
+            log_sines: 0,
+            differences: 0,
+        },
+        Kind::SecondPass => Lengths {
+            angles: counts.angles,
+            fixed: 0,
+            log_sines: counts.angles,
+            differences: counts.angles,
+        },
+    }
+}
+
+// How many bits the fields take, without the filling.
+pub fn bit_count(kind: Kind, figure: Figure) -> usize
+    ensures { λ count. ⌜ count ≡ bitCount kind figure ⌝ }
+{
+    let counts = counts_of(figure);
+    match kind {
+        Kind::FirstPass => FIRST_PASS_BODY_AT + FIRST_PASS_STEP * (counts.angles + counts.fixed),
+        Kind::SecondPass => SECOND_PASS_BODY_AT + SECOND_PASS_STEP * counts.angles,
+    }
+}
+
+// How many bytes a sheet has.
+pub fn sheet_size(kind: Kind, figure: Figure) -> usize
+    ensures { λ size. ⌜ size ≡ sheetSize kind figure ⌝ }
+{
+    (bit_count(kind, figure) + 7) / 8
+}

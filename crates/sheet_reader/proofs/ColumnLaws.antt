@@ -1,0 +1,170 @@
+-- The columns of the reader are those of the layout, by tests that antt computes over all kinds and figures, and hold the values of the sheet.
+-- Assumes nothing.
+use Prim.Native.Nat.{ℕ, suc, _+_, _*_, _≤_, _<_}
+use mathlib.Core.Bool.{Bool, _&&_}
+use mathlib.Core.List.{List}
+use mathlib.Core.Path.{_≡_, refl, sym, ap, ap₂, _∙_}
+use native.Mathlib.Omega.{arith}
+use lib.Dec.{T, eqb, eqb→eq}
+use lib.IntN.{ℤ}
+use lib.ListN.{take}
+use Rattle.whole.specs.Lists.{every, everyBelow}
+use Rattle.whole.proofs.Computed.{and-left, and-right, every-below}
+use Rattle.whole.proofs.Lists.{listed-ext}
+use Rattle.bits.specs.Bits.{fieldAt}
+use Rattle.bits.specs.Complement.{signedOf}
+use Rattle.figures.specs.declared.Figure.{Figure}
+use Rattle.figures.specs.Figure.{allFigures, angleCount}
+use Rattle.figures.proofs.Figures.{angle-bound}
+use Rattle.sheet_layout.specs.declared.Kind.{Kind}
+use Rattle.sheet_layout.specs.declared.Kind.the-variants.{FirstPass, SecondPass}
+use Rattle.sheet_layout.specs.declared.Lengths.{Lengths}
+use Rattle.sheet_layout.specs.Layout.{Item, angle, fixedAngle, logSine, difference, widthOf, layout, lengthsOf, limitOrToleranceItem, fixedIn, sineEntriesIn, sort, numberOfItem, same, positionOf, held}
+use Rattle.sheet_layout.proofs.Sizes.{fixed-bound}
+use Rattle.sheet_rules.specs.Sheet.{valuesRead}
+use Rattle.sheet_rules.proofs.Positions.{each}
+use Rattle.sheet_reader.specs.declared.columns.Column.{Column}
+use Rattle.sheet_reader.specs.Columns.{angleColumn, fixedColumn, logSineColumn, differenceColumn, ColumnFits, columnValues, signedColumnValues}
+
+-- ---- items in columns
+
+-- an item that is counted stands where its column says
+pub record InColumn (kind : Kind) (f : Figure) (p : Item) (c : Column) (i : ℕ) : Type 0 where
+  pub position : positionOf p (layout kind f) ≡ c .start + c .step * i
+  pub width : widthOf p ≡ c .width
+
+module _ (item : ℕ → Item) (count : Kind → Figure → ℕ) (column : Kind → Figure → Column) where
+  isInColumn : Kind → Figure → ℕ → Bool
+  isInColumn kind f i =
+      eqb (positionOf (item (suc i)) (layout kind f)) (column kind f .start + column kind f .step * i)
+      && eqb (widthOf (item (suc i))) (column kind f .width)
+
+  isColumn : Kind → Figure → Bool
+  isColumn kind f = everyBelow (count kind f) (isInColumn kind f)
+
+  in-column : T (every (isColumn FirstPass) allFigures && every (isColumn SecondPass) allFigures)
+      → (kind : Kind) (f : Figure) (i : ℕ) → i < count kind f → InColumn kind f (item (suc i)) (column kind f) i
+  unfolding isColumn isInColumn
+  in-column t kind f i h =
+      let p : Item = item (suc i) in
+      let first : Bool = eqb (positionOf p (layout kind f)) (column kind f .start + column kind f .step * i) in
+      let second : Bool = eqb (widthOf p) (column kind f .width) in
+      let all : T (first && second) = every-below (count kind f) (isInColumn kind f) (each isColumn t kind f) i h in
+      record {
+        position = eqb→eq (positionOf p (layout kind f)) (column kind f .start + column kind f .step * i) (and-left first second all);
+        width = eqb→eq (widthOf p) (column kind f .width) (and-right first second all);
+      }
+
+pub angle-in-column : (kind : Kind) (f : Figure) (i : ℕ) → i < angleCount f → InColumn kind f (angle (suc i)) (angleColumn kind) i
+unfolding layout positionOf same sort numberOfItem isColumn isInColumn
+angle-in-column = in-column angle (λ kind f. angleCount f) (λ kind f. angleColumn kind) tt
+
+pub fixed-in-column : (kind : Kind) (f : Figure) (i : ℕ) → i < fixedIn kind f → InColumn kind f (fixedAngle (suc i)) (fixedColumn f) i
+unfolding layout positionOf same sort numberOfItem isColumn isInColumn
+fixed-in-column = in-column fixedAngle fixedIn (λ kind f. fixedColumn f) tt
+
+pub log-sine-in-column : (kind : Kind) (f : Figure) (i : ℕ) → i < sineEntriesIn kind f → InColumn kind f (logSine (suc i)) logSineColumn i
+unfolding layout positionOf same sort numberOfItem isColumn isInColumn
+log-sine-in-column = in-column logSine sineEntriesIn (λ kind f. logSineColumn) tt
+
+pub difference-in-column : (kind : Kind) (f : Figure) (i : ℕ) → i < sineEntriesIn kind f → InColumn kind f (difference (suc i)) differenceColumn i
+unfolding layout positionOf same sort numberOfItem isColumn isInColumn
+difference-in-column = in-column difference sineEntriesIn (λ kind f. differenceColumn) tt
+
+-- what is held as an item of a column
+held-in-column : (kind : Kind) (f : Figure) (s : List ℕ) (p : Item) (c : Column) (i : ℕ) → InColumn kind f p c i
+    → held (layout kind f) s p ≡ fieldAt s (c .start + c .step * i) (c .width)
+unfolding held
+held-in-column kind f s p c i h = ap₂ (fieldAt s) (h .position) (h .width)
+
+module _ (kind : Kind) (f : Figure) (s : List ℕ) where
+  pub angles-read : valuesRead kind f s .angles ≡ columnValues s (angleColumn kind) (angleCount f)
+  unfolding valuesRead columnValues
+  angles-read =
+      listed-ext (angleCount f) (λ i. held (layout kind f) s (angle (suc i))) (λ i. fieldAt s (angleColumn kind .start + angleColumn kind .step * i) (angleColumn kind .width))
+      (λ i h. held-in-column kind f s (angle (suc i)) (angleColumn kind) i (angle-in-column kind f i h))
+
+  pub fixed-read : valuesRead kind f s .fixed ≡ columnValues s (fixedColumn f) (fixedIn kind f)
+  unfolding valuesRead columnValues
+  fixed-read =
+      listed-ext (fixedIn kind f) (λ i. held (layout kind f) s (fixedAngle (suc i))) (λ i. fieldAt s (fixedColumn f .start + fixedColumn f .step * i) (fixedColumn f .width))
+      (λ i h. held-in-column kind f s (fixedAngle (suc i)) (fixedColumn f) i (fixed-in-column kind f i h))
+
+  pub log-sines-read : valuesRead kind f s .logSines ≡ columnValues s logSineColumn (sineEntriesIn kind f)
+  unfolding valuesRead columnValues
+  log-sines-read =
+      listed-ext (sineEntriesIn kind f) (λ i. held (layout kind f) s (logSine (suc i))) (λ i. fieldAt s (logSineColumn .start + logSineColumn .step * i) (logSineColumn .width))
+      (λ i h. held-in-column kind f s (logSine (suc i)) logSineColumn i (log-sine-in-column kind f i h))
+
+  pub differences-read : valuesRead kind f s .differences ≡ signedColumnValues s differenceColumn (sineEntriesIn kind f)
+  unfolding valuesRead signedColumnValues
+  differences-read =
+      listed-ext (sineEntriesIn kind f) (λ i. signedOf 15 (held (layout kind f) s (difference (suc i))))
+      (λ i. signedOf 15 (fieldAt s (differenceColumn .start + differenceColumn .step * i) (differenceColumn .width)))
+      (λ i h. ap (signedOf 15) (held-in-column kind f s (difference (suc i)) differenceColumn i (difference-in-column kind f i h)))
+
+-- L or e stands after the head
+pub limit-or-tolerance-read : (kind : Kind) (f : Figure) (s : List ℕ) → valuesRead kind f s .limitOrTolerance ≡ fieldAt s 12 (widthOf (limitOrToleranceItem kind))
+unfolding valuesRead held positionOf layout same sort numberOfItem
+limit-or-tolerance-read FirstPass f s = refl
+limit-or-tolerance-read SecondPass f s = refl
+
+-- ---- columns of a kind and a figure
+
+-- there are at most 24 values of each sort
+pub few-of-each : (kind : Kind) (f : Figure) {lengths : Lengths} → lengths ≡ lengthsOf kind f
+    → (lengths .angles ≤ 24) × (lengths .fixed ≤ 24) × (lengths .«log_sines» ≤ 24) × (lengths .differences ≤ 24)
+few-of-each kind f e = rw e (go kind)
+  where
+    go : (kind : Kind) → (angleCount f ≤ 24) × (fixedIn kind f ≤ 24) × (sineEntriesIn kind f ≤ 24) × (sineEntriesIn kind f ≤ 24)
+    go FirstPass = omega (arith, angle-bound f, fixed-bound f)
+    go SecondPass = omega (arith, angle-bound f)
+
+module _ (kind : Kind) (f : Figure) {lengths : Lengths} (is-lengths : lengths ≡ lengthsOf kind f) {c : Column} where
+  -- they are short and end early
+  pub angles-fit : c ≡ angleColumn kind → ColumnFits c (lengths .angles)
+  angles-fit e = rw (is-lengths, e) (go kind)
+    where
+      go : (kind : Kind) → ColumnFits (angleColumn kind) (lengthsOf kind f .angles)
+      go FirstPass = (angle-bound f, omega (arith, angle-bound f))
+      go SecondPass = (angle-bound f, omega (arith, angle-bound f))
+
+  pub fixed-fit : c ≡ fixedColumn f → ColumnFits c (lengths .fixed)
+  fixed-fit e = rw (is-lengths, e) (go kind)
+    where
+      go : (kind : Kind) → ColumnFits (fixedColumn f) (lengthsOf kind f .fixed)
+      go FirstPass = (omega (arith, fixed-bound f), omega (arith, angle-bound f, fixed-bound f))
+      go SecondPass = (omega arith, omega (arith, angle-bound f))
+
+  pub log-sines-fit : c ≡ logSineColumn → ColumnFits c (lengths .«log_sines»)
+  log-sines-fit e = rw (is-lengths, e) (go kind)
+    where
+      go : (kind : Kind) → ColumnFits logSineColumn (lengthsOf kind f .«log_sines»)
+      go FirstPass = (omega arith, omega arith)
+      go SecondPass = (angle-bound f, omega (arith, angle-bound f))
+
+  pub differences-fit : c ≡ differenceColumn → ColumnFits c (lengths .differences)
+  differences-fit e = rw (is-lengths, e) (go kind)
+    where
+      go : (kind : Kind) → ColumnFits differenceColumn (lengthsOf kind f .differences)
+      go FirstPass = (omega arith, omega arith)
+      go SecondPass = (angle-bound f, omega (arith, angle-bound f))
+
+  -- and hold the values of the sheet
+  module _ (s values : List ℕ) where
+    pub angles-held : c ≡ angleColumn kind → take (lengths .angles) values ≡ columnValues s c (lengths .angles)
+        → take (angleCount f) values ≡ valuesRead kind f s .angles
+    angles-held e is = (rw (is-lengths, e) at is) ∙ sym (angles-read kind f s)
+
+    pub fixed-held : c ≡ fixedColumn f → take (lengths .fixed) values ≡ columnValues s c (lengths .fixed)
+        → take (fixedIn kind f) values ≡ valuesRead kind f s .fixed
+    fixed-held e is = (rw (is-lengths, e) at is) ∙ sym (fixed-read kind f s)
+
+    pub log-sines-held : c ≡ logSineColumn → take (lengths .«log_sines») values ≡ columnValues s c (lengths .«log_sines»)
+        → take (sineEntriesIn kind f) values ≡ valuesRead kind f s .logSines
+    log-sines-held e is = (rw (is-lengths, e) at is) ∙ sym (log-sines-read kind f s)
+
+  pub differences-held : (s : List ℕ) (values : List ℤ) → c ≡ differenceColumn
+      → take (lengths .differences) values ≡ signedColumnValues s c (lengths .differences)
+      → take (sineEntriesIn kind f) values ≡ valuesRead kind f s .differences
+  differences-held s values e is = (rw (is-lengths, e) at is) ∙ sym (differences-read kind f s)

@@ -1,0 +1,86 @@
+-- `sheet_reader::read::filling_verdict` meets its contract: the filling begins where the fields end, and is less than a byte wide.
+use borrow.Author.Needs.{needs}
+use Prim.Native.Nat.{ℕ, _-_, _*_}
+use mathlib.Core.Bool.{Bool, true, false, not}
+use mathlib.Core.List.{List}
+use mathlib.Core.Path.{_≡_, sym, ap, _∙_}
+use native.Mathlib.Omega.{arith}
+use borrow.Author.Tests.{eq-eqb, ne-eqb}
+use lib.Dec.{eqb}
+use Rattle.refusals.specs.declared.Refusal.{Refusal}
+use Rattle.refusals.specs.Order.{failsIf, verdictOf}
+use Rattle.refusals.specs.Table.{fillingRow}
+use Rattle.bits.specs.Bits.{fieldAt, fillingWidth}
+use Rattle.figures.specs.declared.Figure.{Figure}
+use Rattle.sheet_layout.specs.declared.Kind.{Kind}
+use Rattle.sheet_layout.specs.Layout.{bitCount, sheetSize}
+use Rattle.sheet_layout.proofs.Sizes.{few-bits, bits-within, bits-nearly}
+use Rattle.sheet_rules.specs.Judging.{fillingBits}
+use Rattle.sheet_rules.proofs.Filling.{filling-asked}
+use Rattle.sheet_reader.proofs.read.filling_verdict.Statement.{statement}
+use Rattle.sheet_reader.proofs.read.filling_verdict.Tie as tie
+
+-- the field between the end of the fields and the end of the bytes
+rest : (kind : Kind) (f : Figure) (s : List ℕ) {end size : ℕ} → end ≡ bitCount kind f → size ≡ sheetSize kind f
+    → fieldAt s end (8 * size - end) ≡ fieldAt s (bitCount kind f) (fillingWidth (bitCount kind f))
+unfolding sheetSize fillingWidth
+rest kind f s b z = rw (b, z)
+
+-- what was read there is the filling
+found : (c : tie.After-field)
+    → (let a = c .before .before .before .before .args in c .field .result ≡ fieldAt (a .sheet .now) (bitCount (a .kind) (a .figure)) (fillingWidth (bitCount (a .kind) (a .figure))))
+found c =
+    let a = c .before .before .before .before .args in
+    c .field .ensures ∙ rest (a .kind) (a .figure) (a .sheet .now) (c .before .before .bit-count .ensures) (c .before .sheet-size .ensures)
+
+bit-count-requires : tie.Need-bit-count-requires
+bit-count-requires c κs = search needs
+
+sheet-size-requires : tie.Need-sheet-size-requires
+sheet-size-requires c κs = search needs
+
+mul-left : tie.Need-mul-left
+mul-left c =
+    let a = c .before .before .before .args in
+    omega (arith, few-bits (a .kind) (a .figure), bits-nearly (a .kind) (a .figure), c .sheet-size .ensures)
+
+sub-left : tie.Need-sub-left
+sub-left c =
+    let a = c .before .before .before .args in
+    omega (arith, bits-within (a .kind) (a .figure), c .sheet-size .ensures, c .before .bit-count .ensures)
+
+cast-field : tie.Need-cast-field
+cast-field c =
+    let a = c .before .before .before .args in
+    omega (arith, bits-nearly (a .kind) (a .figure), c .sheet-size .ensures, c .before .bit-count .ensures)
+
+field-requires : tie.Need-field-requires
+field-requires c κs = search needs
+
+-- the row's question is whether the filling is not 0
+asked-so : (c : tie.After-field) (t : Bool) → not (eqb (c .field .result) 0) ≡ t
+    → (let a = c .before .before .before .before .args in failsIf t Refusal.FillingBitSet ≡ verdictOf (fillingRow (fillingBits (a .kind) (a .figure) (a .sheet .now))))
+asked-so c t e =
+    let start = c .before .before .before .before in
+    let a = start .args in
+    sym (ap (λ (b : Bool). failsIf b Refusal.FillingBitSet)
+    (filling-asked (a .kind) (a .figure) (a .sheet .now) (start .pre) ∙ ap (λ (n : ℕ). not (eqb n 0)) (sym (found c)) ∙ e))
+
+returns : tie.Need-returns
+returns c = asked-so (c .before) true (ap not (ne-eqb _ 0 (c .if1 .taken)))
+
+returns-2 : tie.Need-returns-2
+returns-2 c = asked-so (c .before) false (ap not (eq-eqb _ 0 (c .if1 .left)))
+
+pub filling-verdict-spec : {M : Type 1} → statement M
+filling-verdict-spec =
+    tie.close
+    (tie.spec
+    bit-count-requires
+    sheet-size-requires
+    mul-left
+    sub-left
+    cast-field
+    field-requires
+    returns
+    returns-2)

@@ -1,0 +1,82 @@
+-- `sheet_reader::read::shape_verdict` meets its contract: the branches are the tests in their order.
+use Prim.Native.Nat.{ℕ}
+use mathlib.Core.List.{List, [], _∷_}
+use mathlib.Core.Path.{_≡_, sym, ap, ap₂, _∙_}
+use borrow.Author.Needs.{needs}
+use borrow.Author.Tests.{eq-eqb, ne-eqb}
+use lib.ListN.{length}
+use Rattle.refusals.specs.declared.Refusal.{Refusal}
+use Rattle.refusals.specs.declared.Verdict.{Verdict}
+use Rattle.refusals.specs.declared.Verdict.the-variants.{Failed}
+use Rattle.refusals.specs.Order.{answerOf, verdictOf, judged}
+use Rattle.refusals.specs.Table.{lengthsRow, fillingRow}
+use Rattle.figures.specs.declared.Figure.{Figure}
+use Rattle.sheet_layout.specs.declared.Kind.{Kind}
+use Rattle.sheet_layout.specs.declared.Lengths.{Lengths}
+use Rattle.sheet_layout.specs.Layout.{lengthsOf, sheetSize}
+use Rattle.sheet_rules.specs.Judging.{fillingBits}
+use Rattle.sheet_reader.specs.Parts.{shapeRows}
+use Rattle.sheet_reader.proofs.read.shape_verdict.Statement.{statement}
+use Rattle.sheet_reader.proofs.read.shape_verdict.Tie as tie
+
+module _ (kind : Kind) (f : Figure) (s lent : List ℕ) where
+  wrong-size : (length s ≡ sheetSize kind f → ⊥) → Failed Refusal.WrongSheetLength ≡ judged (shapeRows kind f s lent)
+  unfolding answerOf
+  wrong-size h = rw (ne-eqb (length s) (sheetSize kind f) h)
+
+  -- where the size is right the other two decide
+  right-size : {lengths filling verdict : Verdict} {own : Lengths} → length s ≡ sheetSize kind f → own ≡ lengthsOf kind f
+      → lengths ≡ verdictOf (lengthsRow lent (own .angles ∷ own .fixed ∷ own .«log_sines» ∷ own .differences ∷ []))
+      → filling ≡ verdictOf (fillingRow (fillingBits kind f s)) → verdict ≡ answerOf (lengths ∷ filling ∷ []) → verdict ≡ judged (shapeRows kind f s lent)
+  unfolding answerOf
+  right-size size is a b e =
+      rw (eq-eqb (length s) (sheetSize kind f) size)
+      (e ∙ ap₂ (λ (x y : Verdict). answerOf (x ∷ y ∷ []))
+      (a ∙ ap (λ (l : Lengths). verdictOf (lengthsRow lent (l .angles ∷ l .fixed ∷ l .«log_sines» ∷ l .differences ∷ []))) is) b)
+
+sheet-size-requires : tie.Need-sheet-size-requires
+sheet-size-requires c κs = search needs
+
+returns : tie.Need-returns
+returns c =
+    let a = c .before .before .before .before .args in
+    wrong-size (a .kind) (a .figure) (a .sheet .now) (a .lent .now) (λ e. c .if1 .taken (e ∙ sym (c .before .sheet-size .ensures)))
+
+lengths-of-requires : tie.Need-lengths-of-requires
+lengths-of-requires c κs = search needs
+
+slice-aggregate-lengths-verdict : tie.Need-slice-aggregate-lengths-verdict
+slice-aggregate-lengths-verdict c = search needs
+
+lengths-verdict-requires : tie.Need-lengths-verdict-requires
+lengths-verdict-requires c κs = search needs
+
+-- the first test has left the right size
+sized : (c : tie.Else1) → (let a = c .before .before .before .before .args in length (a .sheet .now) ≡ sheetSize (a .kind) (a .figure))
+sized c = c .if1 .left ∙ c .before .sheet-size .ensures
+
+filling-verdict-requires : tie.Need-filling-verdict-requires
+filling-verdict-requires c κs = sized (c .before .before .before)
+
+first-to-fail-requires : tie.Need-first-to-fail-requires
+first-to-fail-requires c κs = search needs
+
+returns-2 : tie.Need-returns-2
+returns-2 c =
+    let left = c .before .before .before .before .before in
+    let a = left .before .before .before .before .args in
+    right-size (a .kind) (a .figure) (a .sheet .now) (a .lent .now) (sized left) (c .before .before .before .before .lengths-of .ensures)
+    (c .before .before .lengths-verdict .ensures) (c .before .filling-verdict .ensures) (c .first-to-fail .ensures)
+
+pub shape-verdict-spec : {M : Type 1} → statement M
+shape-verdict-spec =
+    tie.close
+    (tie.spec
+    sheet-size-requires
+    returns
+    lengths-of-requires
+    slice-aggregate-lengths-verdict
+    lengths-verdict-requires
+    filling-verdict-requires
+    first-to-fail-requires
+    returns-2)

@@ -1,0 +1,34 @@
+-- What the parts of the reader answer, in the words of the whole (specs/Judging.antt and specs/Promises.antt of `sheet_rules`).
+use Prim.Native.Nat.{ℕ}
+use mathlib.Core.List.{List, [], _∷_}
+use lib.ListN.{length}
+use Rattle.refusals.specs.declared.Verdict.{Verdict}
+use Rattle.refusals.specs.declared.Verdict.the-variants.{Passed, Failed}
+use Rattle.refusals.specs.Order.{Row, judged}
+use Rattle.refusals.specs.Promise.{Promised}
+use Rattle.refusals.specs.Table.{lengthsRow, sheetSizeRow, fillingRow}
+use Rattle.figures.specs.declared.Figure.{Figure}
+use Rattle.sheet_layout.specs.declared.Kind.{Kind}
+use Rattle.sheet_layout.specs.Layout.{sheetSize}
+use Rattle.sheet_rules.specs.declared.Reading.{Reading}
+use Rattle.sheet_rules.specs.declared.Reading.the-variants.{Read}
+use Rattle.sheet_rules.specs.Sheet.{valuesRead}
+use Rattle.sheet_rules.specs.Judging.{ownLengths, fillingBits, bodyRows, readingAfter, afterReading}
+use Rattle.sheet_rules.specs.Promises.{Slices, slicesOf, lengthsLent}
+
+-- the rows of the body before those of the values: 12, 2, 13
+abbrev pub shapeRows : Kind → Figure → (sheet lent : List ℕ) → List Row
+shapeRows kind f sheet lent =
+    sheetSizeRow (length sheet) (sheetSize kind f) ∷ lengthsRow lent (ownLengths kind f) ∷ fillingRow (fillingBits kind f sheet) ∷ []
+
+abbrev pub answered : Verdict → Kind → Figure → (limitOrTolerance : ℕ) → Reading
+answered Passed kind f l = Read kind f l
+answered (Failed refusal) kind f l = Reading.Refused refusal
+
+-- what the reader promises once kind and figure are known
+abbrev pub bodyAnswer : Kind → Figure → (sheet : List ℕ) → Slices → Reading
+bodyAnswer kind f sheet lent = readingAfter (judged (bodyRows kind f sheet (lengthsLent lent))) kind f sheet
+
+abbrev pub BodyPromise : Kind → Figure → (sheet : List ℕ) → (entry : Slices) → (answer : Reading) → (exit : Slices) → Type 0
+BodyPromise kind f sheet entry answer exit =
+    Promised (bodyAnswer kind f sheet entry) (afterReading (bodyAnswer kind f sheet entry) (λ k g. slicesOf (valuesRead k g sheet)) entry) answer exit

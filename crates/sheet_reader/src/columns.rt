@@ -1,0 +1,110 @@
+// Columns of a sheet: the values of one sort, as they stand in it.
+ghost use mathlib.Core.Path.{_≡_};
+ghost use lib.ListN.{take};
+ghost use Rattle.sheet_reader.specs.Columns.{angleColumn, fixedColumn, logSineColumn, differenceColumn};
+ghost use Rattle.sheet_reader.specs.Columns.{ColumnFits, columnValues, signedColumnValues};
+use bits::field;
+use bits::signed;
+use figure_tables::counts_of;
+use figures::Figure;
+use figures::MOST_ANGLES;
+use sheet_layout::ANGLE_WIDTH;
+use sheet_layout::DIFFERENCE_WIDTH;
+use sheet_layout::FIRST_PASS_BODY_AT;
+use sheet_layout::FIRST_PASS_STEP;
+use sheet_layout::Kind;
+use sheet_layout::LOG_SINE_WIDTH;
+use sheet_layout::SECOND_PASS_BODY_AT;
+use sheet_layout::SECOND_PASS_STEP;
+
+// They stand at start, start + step, start + 2 * step and so on, each in the same width.
+pub(crate) struct Column {
+    pub(crate) start: usize,
+    pub(crate) step: usize,
+    pub(crate) width: u32,
+}
+
+// Where log-sines and differences begin in kind 2, after the first angle.
+const LOG_SINES_AT: usize = 41;
+
+const DIFFERENCES_AT: usize = 68;
+
+pub(crate) fn angle_column(kind: Kind) -> Column
+    ensures { λ column. ⌜ column ≡ angleColumn kind ⌝ }
+{
+    match kind {
+        Kind::FirstPass => Column {
+            start: FIRST_PASS_BODY_AT,
+            step: FIRST_PASS_STEP,
+            width: ANGLE_WIDTH,
+        },
+        Kind::SecondPass => Column {
+            start: SECOND_PASS_BODY_AT,
+            step: SECOND_PASS_STEP,
+            width: ANGLE_WIDTH,
+        },
+    }
+}
+
+// Fixed angles stand after the angles, in kind 1 only.
+pub(crate) fn fixed_column(figure: Figure) -> Column
+    ensures { λ column. ⌜ column ≡ fixedColumn figure ⌝ }
+{
+    Column {
+        start: FIRST_PASS_BODY_AT + FIRST_PASS_STEP * counts_of(figure).angles,
+        step: FIRST_PASS_STEP,
+        width: ANGLE_WIDTH,
+    }
+}
+
+pub(crate) fn log_sine_column() -> Column
+    ensures { λ column. ⌜ column ≡ logSineColumn ⌝ }
+{
+    Column {
+        start: LOG_SINES_AT,
+        step: SECOND_PASS_STEP,
+        width: LOG_SINE_WIDTH,
+    }
+}
+
+pub(crate) fn difference_column() -> Column
+    ensures { λ column. ⌜ column ≡ differenceColumn ⌝ }
+{
+    Column {
+        start: DIFFERENCES_AT,
+        step: SECOND_PASS_STEP,
+        width: DIFFERENCE_WIDTH,
+    }
+}
+
+// The first values of a column, each taken once.
+pub(crate) fn column_values(sheet: &[u8], column: Column, count: usize) -> [u32; MOST_ANGLES]
+    requires { ⌜ ColumnFits column count ⌝ }
+    ensures { λ values. ⌜ take count values ≡ columnValues (now (sheet .entry)) column count ⌝ }
+{
+    let mut values = [0u32; MOST_ANGLES];
+    let mut at = column.start;
+    let mut taken = 0;
+    while taken < count {
+        values[taken] = field(sheet, at, column.width);
+        at += column.step;
+        taken += 1;
+    }
+    values
+}
+
+// The same of values in two's complement.
+pub(crate) fn signed_column_values(sheet: &[u8], column: Column, count: usize) -> [i32; MOST_ANGLES]
+    requires { ⌜ ColumnFits column count ⌝ }
+    ensures { λ values. ⌜ take count values ≡ signedColumnValues (now (sheet .entry)) column count ⌝ }
+{
+    let mut values = [0i32; MOST_ANGLES];
+    let mut at = column.start;
+    let mut taken = 0;
+    while taken < count {
+        values[taken] = signed(field(sheet, at, column.width), column.width);
+        at += column.step;
+        taken += 1;
+    }
+    values
+}

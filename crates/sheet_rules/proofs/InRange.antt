@@ -1,0 +1,35 @@
+-- What the rows of the values let pass: every value lies within its range, and so fits its field. Assumes nothing.
+use Prim.Native.Nat.{ℕ, _≤_, _<_, _^_}
+use native.Mathlib.Omega.{arith}
+use lib.Dec.{leb→le}
+use lib.IntN.{ℤ, pos, negsuc, negℤ}
+use lib.ListN.{length, getD}
+use lib.Signed.{mag, _≤ℤ_}
+use Rattle.refusals.specs.Order.{NoneHolds}
+use Rattle.refusals.specs.Ranges.{leastAngle, mostAngle, leastLogSine, mostLogSine, mostDifference}
+use Rattle.refusals.proofs.Nowhere.{limit-within, angles-within, fixed-within, log-sines-within, differences-within}
+use Rattle.sheet_layout.specs.declared.Kind.{Kind}
+use Rattle.sheet_rules.specs.Sheet.{Values}
+use Rattle.sheet_rules.specs.Judging.{mostLimitOrTolerance, valueRows}
+
+pub record InRange (kind : Kind) (v : Values) : Type 0 where
+  pub limitOrTolerance : v .limitOrTolerance ≤ mostLimitOrTolerance kind
+  pub angles : (i : ℕ) → i < length (v .angles) → (leastAngle ≤ getD (v .angles) i 0) × (getD (v .angles) i 0 ≤ mostAngle)
+  pub fixed : (i : ℕ) → i < length (v .fixed) → (leastAngle ≤ getD (v .fixed) i 0) × (getD (v .fixed) i 0 ≤ mostAngle)
+  pub logSines : (i : ℕ) → i < length (v .logSines) → (leastLogSine ≤ getD (v .logSines) i 0) × (getD (v .logSines) i 0 ≤ mostLogSine)
+  pub differences : (i : ℕ) → i < length (v .logSines)
+      → (negℤ (pos mostDifference) ≤ℤ getD (v .differences) i (pos 0)) × (getD (v .differences) i (pos 0) ≤ℤ pos mostDifference)
+
+pub in-range : (kind : Kind) (v : Values) → NoneHolds (valueRows kind v) → InRange kind v
+in-range kind v none = record {
+  limitOrTolerance = limit-within (mostLimitOrTolerance kind) (v .limitOrTolerance) (none .0);
+  angles = angles-within (v .angles) (none .1 .0);
+  fixed = fixed-within (v .fixed) (none .1 .1 .0);
+  logSines = log-sines-within (v .logSines) (v .differences) (none .1 .1 .1 .0);
+  differences = differences-within (v .logSines) (v .differences) (none .1 .1 .1 .0);
+}
+
+-- a difference within its range fits 15 bits
+pub difference-fits : (d : ℤ) → negℤ (pos mostDifference) ≤ℤ d → d ≤ℤ pos mostDifference → mag d < 2 ^ 14
+difference-fits (pos n) l h = omega (arith, leb→le n 9999 (h .le))
+difference-fits (negsuc n) l h = omega (arith, leb→le n 9998 (l .le))

@@ -1,0 +1,223 @@
+-- A sheet that the writer has accepted reads back as the same kind, figure, L or e and values: for every kind and figure.
+use Prim.Native.Nat.{ℕ, zero, suc, _≤_, _<_, _^_, zero-le, suc-le-suc}
+use mathlib.Core.Bool.{false, _&&_}
+use mathlib.Core.List.{List, [], _∷_, map}
+use mathlib.Core.Path.{_≡_, refl, sym, ap, ap₂, subst, _∙_}
+use native.Mathlib.Nat.{lt-of-le-of-lt}
+use native.Mathlib.Omega.{arith}
+use lib.Dec.{T, leb, ltb, leb→le, ltb→lt, lit<, lit≤}
+use lib.IntN.{ℤ, pos}
+use lib.ListN.{length, getD, take, replicate, length-map, List·getD-map}
+use Rattle.whole.specs.Lists.{listed}
+use Rattle.whole.proofs.Computed.{and-right}
+use Rattle.whole.proofs.Lists.{listed-ext, listed-getD}
+use Rattle.refusals.specs.declared.Verdict.the-variants.{Passed}
+use Rattle.refusals.specs.Numbers.{numbered}
+use Rattle.refusals.specs.Order.{NoneHolds}
+use Rattle.bits.specs.Bits.{Field, bytesOf, byteCount, fillingWidth, fieldAt, totalWidth, widths, packedBits, AllFit}
+use Rattle.bits.specs.Complement.{signedOf}
+use Rattle.bits.proofs.Bytes.{bitsOf-bytesOf, length-bytesOf}
+use Rattle.bits.proofs.Packed.{length-packedBits, fieldAt-packed, filling-zero}
+use Rattle.bits.proofs.Complement.{signedOf-twosComplement, twosComplement-lt}
+use Rattle.figures.specs.declared.Figure.{Figure}
+use Rattle.figures.specs.Figure.{description, angleCount}
+use Rattle.figures.proofs.Figures.{each-figure}
+use Rattle.figures.proofs.Naming.{named-exactly}
+use Rattle.sheet_layout.specs.declared.Kind.{Kind}
+use Rattle.sheet_layout.specs.declared.Kind.the-variants.{FirstPass, SecondPass}
+use Rattle.sheet_layout.specs.Layout.{Item, theKind, theCode, theN, limit, tolerance, angle, fixedAngle, logSine, difference, widthOf, limitOrToleranceItem, layout, fixedIn, sineEntriesIn, bitCount, sheetSize, numberOfKind, positionOf, held}
+use Rattle.sheet_layout.specs.declared.head.Look.the-variants.{Head}
+use Rattle.sheet_layout.specs.Head.{kindNumberIn, codeIn, nIn, headOf}
+use Rattle.sheet_layout.proofs.Naming.{kind-exactly}
+use Rattle.sheet_rules.specs.declared.Reading.{Reading}
+use Rattle.sheet_rules.specs.declared.Reading.the-variants.{Read}
+use Rattle.sheet_rules.specs.Sheet.{Values, valuesFrom, numberAt, fieldOf, packedSheet, valuesRead}
+use Rattle.sheet_rules.specs.Judging.{mostLimitOrTolerance, valueRows, ownLengths, lengthsGiven, readingOf, afterReading, writingOf, writtenOf}
+use Rattle.sheet_rules.specs.Promises.{Slices, slicesOf, lengthsLent, readAnswer, readLeft}
+use Rattle.sheet_rules.proofs.Positions.{same-item, indexOf, position-by-index, item-at-index, counted, each-counted, narrow, kind-stands, code-stands, n-stands, limit-stands, angle-stands, fixed-stands, log-sine-stands, difference-stands, kind-in-head, code-in-head, n-in-head}
+use Rattle.sheet_rules.proofs.Accepted.{Accepted, AsMany, own-lengths, accepted-back, writer-accepted, sheet-written}
+use Rattle.sheet_rules.proofs.Filling.{no-filling-bit}
+use Rattle.sheet_rules.proofs.InRange.{InRange, in-range, difference-fits}
+use Rattle.sheet_rules.proofs.Layouts.{fields-widths, fields-bits}
+use Rattle.sheet_rules.proofs.ReadThenWritten.{width-at}
+
+-- ---- every number fits its field
+
+code-small : (f : Figure) → description f .code < 16
+code-small f = ltb→lt (description f .code) 16 (each-figure (λ g. ltb (description g .code) 16) tt f)
+
+n-small : (f : Figure) → description f .n < 16
+n-small f = ltb→lt (description f .n) 16 (each-figure (λ g. ltb (description g .n) 16) tt f)
+
+kind-small : (kind : Kind) → numberOfKind kind < 16
+kind-small FirstPass = lit< tt
+kind-small SecondPass = lit< tt
+
+-- a value by its number, where every value is at most `most`
+numbered-fits : (values : List ℕ) (most w count i : ℕ) → most < 2 ^ w → length values ≡ count → ((j : ℕ) → j < length values → getD values j 0 ≤ most)
+    → T (leb 1 i && leb i count) → numbered values i 0 < 2 ^ w
+numbered-fits values most w count zero m e h t = absurd t
+numbered-fits values most w count (suc j) m e h t =
+    lt-of-le-of-lt (h j (omega (arith, leb→le (suc j) count (and-right (leb 1 (suc j)) (leb (suc j) count) t)))) m
+
+module _ (kind : Kind) (f : Figure) (v : Values) (lengths : AsMany kind f v) (range : InRange kind v) where
+  limit-fits : (p : Item) → p ≡ limitOrToleranceItem kind → v .limitOrTolerance < 2 ^ widthOf p
+  limit-fits p e = subst (λ (q : Item). v .limitOrTolerance < 2 ^ widthOf q) (sym e) (go kind (range .limitOrTolerance))
+    where
+      go : (kind : Kind) → v .limitOrTolerance ≤ mostLimitOrTolerance kind → v .limitOrTolerance < 2 ^ widthOf (limitOrToleranceItem kind)
+      go FirstPass h = omega arith
+      go SecondPass h = omega arith
+
+  number-fits : (p : Item) → T (counted kind f p) → numberAt kind f v p < 2 ^ widthOf p
+  number-fits theKind t = kind-small kind
+  number-fits theCode t = code-small f
+  number-fits theN t = n-small f
+  number-fits limit t = limit-fits limit (same-item limit (limitOrToleranceItem kind) t)
+  number-fits tolerance t = limit-fits tolerance (same-item tolerance (limitOrToleranceItem kind) t)
+  number-fits (angle i) t = numbered-fits (v .angles) 6479999 23 (angleCount f) i (lit< tt) (lengths .angles) (λ j h. range .angles j h .1) t
+  number-fits (fixedAngle i) t = numbered-fits (v .fixed) 6479999 23 (fixedIn kind f) i (lit< tt) (lengths .fixed) (λ j h. range .fixed j h .1) t
+  number-fits (logSine i) t = numbered-fits (v .logSines) 100000000 27 (sineEntriesIn kind f) i (lit< tt) (lengths .logSines) (λ j h. range .logSines j h .1) t
+  number-fits (difference i) t = twosComplement-lt 15 (numbered (v .differences) i (pos 0))
+
+  all-fit : (ps : List Item) → ((k : ℕ) → k < length ps → T (counted kind f (getD ps k theKind))) → AllFit (map (fieldOf kind f v) ps)
+  unfolding AllFit
+  all-fit [] h = tt
+  all-fit (p ∷ ps) h = (number-fits p (h 0 (suc-le-suc zero-le)), all-fit ps (λ k l. h (suc k) (suc-le-suc l)))
+
+  -- ---- what is held as each item
+
+  pub held-written : (p : Item) → indexOf p (layout kind f) < length (layout kind f) → held (layout kind f) (packedSheet kind f v) p ≡ numberAt kind f v p
+  unfolding held packedSheet
+  held-written p h =
+      let items : List Item = layout kind f in
+      let g : Item → Field = fieldOf kind f v in
+      let fs : List Field = map g items in
+      let k : ℕ = indexOf p items in
+      let s : List ℕ = bytesOf (packedBits fs) in
+      let there : getD items k theKind ≡ p = item-at-index p items theKind h in
+      let width : getD (widths fs) k 0 ≡ widthOf p =
+      ap (λ (ws : List ℕ). getD ws k 0) (fields-widths kind f v items) ∙ width-at kind f k h ∙ ap widthOf there in
+      let position : totalWidth (take k (widths fs)) ≡ positionOf p items =
+      ap (λ (ws : List ℕ). totalWidth (take k ws)) (fields-widths kind f v items) ∙ sym (position-by-index p items) in
+      ap₂ (fieldAt s) (sym position) (sym width)
+      ∙ fieldAt-packed s fs (replicate (fillingWidth (length (packedBits fs))) false) k (g theKind) (bitsOf-bytesOf (packedBits fs))
+      (all-fit items (each-counted kind f)) (omega (arith, length-map items g)) (subst (λ (w : ℕ). w ≤ 32) (sym width) (narrow p))
+      ∙ ap (λ (q : Field). q .holds) (List·getD-map g items k theKind ∙ ap g there)
+
+-- ---- the values are read back
+
+limit-number : (kind : Kind) (f : Figure) (v : Values) → numberAt kind f v (limitOrToleranceItem kind) ≡ v .limitOrTolerance
+limit-number FirstPass f v = refl
+limit-number SecondPass f v = refl
+
+listed-back : {A : Type 0} (count : ℕ) (values : List A) (g : ℕ → A) (d : A) → length values ≡ count → ((i : ℕ) → i < count → g i ≡ getD values i d) → listed count g ≡ values
+listed-back count values g d e h =
+    listed-ext count g (λ i. getD values i d) h ∙ ap (λ (n : ℕ). listed n (λ i. getD values i d)) (sym e) ∙ listed-getD d values
+
+module _ (kind : Kind) (f : Figure) (v : Values) (lengths : AsMany kind f v) (range : InRange kind v) where
+  abbrev sheet : List ℕ
+  sheet = packedSheet kind f v
+
+  abbrev at : Item → ℕ
+  at p = held (layout kind f) sheet p
+
+  limit-back : at (limitOrToleranceItem kind) ≡ v .limitOrTolerance
+  limit-back = held-written kind f v lengths range (limitOrToleranceItem kind) (limit-stands kind f) ∙ limit-number kind f v
+
+  angles-back : listed (angleCount f) (λ i. at (angle (suc i))) ≡ v .angles
+  angles-back =
+      listed-back (angleCount f) (v .angles) (λ i. at (angle (suc i))) 0 (lengths .angles)
+      (λ i h. held-written kind f v lengths range (angle (suc i)) (angle-stands kind f i h))
+
+  fixed-back : listed (fixedIn kind f) (λ i. at (fixedAngle (suc i))) ≡ v .fixed
+  fixed-back =
+      listed-back (fixedIn kind f) (v .fixed) (λ i. at (fixedAngle (suc i))) 0 (lengths .fixed)
+      (λ i h. held-written kind f v lengths range (fixedAngle (suc i)) (fixed-stands kind f i h))
+
+  log-sines-back : listed (sineEntriesIn kind f) (λ i. at (logSine (suc i))) ≡ v .logSines
+  log-sines-back =
+      listed-back (sineEntriesIn kind f) (v .logSines) (λ i. at (logSine (suc i))) 0 (lengths .logSines)
+      (λ i h. held-written kind f v lengths range (logSine (suc i)) (log-sine-stands kind f i h))
+
+  differences-back : listed (sineEntriesIn kind f) (λ i. signedOf 15 (at (difference (suc i)))) ≡ v .differences
+  differences-back =
+      listed-back (sineEntriesIn kind f) (v .differences) (λ i. signedOf 15 (at (difference (suc i)))) (pos 0) (lengths .differences)
+      (λ i h.
+      let within = range .differences i (omega (arith, lengths .logSines)) in
+      ap (signedOf 15) (held-written kind f v lengths range (difference (suc i)) (difference-stands kind f i h))
+      ∙ signedOf-twosComplement 15 (lit≤ tt) (lit≤ tt) (getD (v .differences) i (pos 0)) (difference-fits (getD (v .differences) i (pos 0)) (within .0) (within .1)))
+
+  pub values-back : valuesRead kind f sheet ≡ v
+  unfolding valuesRead
+  values-back =
+      ap₂ (λ (l : ℕ) (a : List ℕ). valuesFrom l a (listed (fixedIn kind f) (λ i. at (fixedAngle (suc i)))) (listed (sineEntriesIn kind f) (λ i. at (logSine (suc i))))
+      (listed (sineEntriesIn kind f) (λ i. signedOf 15 (at (difference (suc i)))))) limit-back angles-back
+      ∙ ap₂ (λ (x l : List ℕ). valuesFrom (v .limitOrTolerance) (v .angles) x l (listed (sineEntriesIn kind f) (λ i. signedOf 15 (at (difference (suc i)))))) fixed-back log-sines-back
+      ∙ ap (λ (d : List ℤ). valuesFrom (v .limitOrTolerance) (v .angles) (v .fixed) (v .logSines) d) differences-back
+
+  -- ---- the sheet is accepted
+
+  sized : length sheet ≡ sheetSize kind f
+  unfolding packedSheet sheetSize
+  sized =
+      let fs : List Field = map (fieldOf kind f v) (layout kind f) in
+      length-bytesOf (packedBits fs) ∙ ap byteCount (length-packedBits fs ∙ fields-bits kind f v)
+
+  filled : fieldAt sheet (bitCount kind f) (fillingWidth (bitCount kind f)) ≡ 0
+  unfolding packedSheet
+  filled =
+      let fs : List Field = map (fieldOf kind f v) (layout kind f) in
+      ap (λ (n : ℕ). fieldAt (bytesOf (packedBits fs)) n (fillingWidth n)) (sym (fields-bits kind f v)) ∙ filling-zero fs
+
+  written-accepted : NoneHolds (valueRows kind v) → Accepted sheet (ownLengths kind f) kind f (v .limitOrTolerance)
+  written-accepted none = record {
+    kind-named = kind-exactly (kindNumberIn sheet) kind .1 (sym (kind-in-head kind f sheet) ∙ held-written kind f v lengths range theKind (kind-stands kind f));
+    figure-named = named-exactly (codeIn sheet) (nIn sheet) f .1
+        (sym (code-in-head kind f sheet) ∙ held-written kind f v lengths range theCode (code-stands kind f), sym (n-in-head kind f sheet) ∙ held-written kind f v lengths range theN (n-stands kind f));
+    size = sized;
+    lengths = refl;
+    filling = no-filling-bit kind f sheet sized .1 filled;
+    values = subst (λ (w : Values). NoneHolds (valueRows kind w)) (sym values-back) none;
+    as-packed = ap (λ (w : Values). w .limitOrTolerance) values-back;
+  }
+
+-- ---- a written sheet
+
+long-enough : (kind : Kind) (f : Figure) → 2 ≤ sheetSize kind f
+unfolding sheetSize byteCount bitCount layout totalWidth
+long-enough FirstPass f = leb→le 2 (sheetSize FirstPass f) (each-figure (λ g. leb 2 (sheetSize FirstPass g)) tt f)
+long-enough SecondPass f = leb→le 2 (sheetSize SecondPass f) (each-figure (λ g. leb 2 (sheetSize SecondPass g)) tt f)
+
+-- what the reader answers to a sheet, and leaves in the slices that are lent to it: the kind and the figure that the numbers name, L or e, and the values
+pub record ReadsBack (kind code n : ℕ) (v : Values) (sheet : List ℕ) (lent : Slices) : Type 0 where
+  pub kind-read : Kind
+  pub figure-read : Figure
+  pub named : headOf kind code n ≡ Head kind-read figure-read
+  pub answers : readAnswer sheet lent ≡ Read kind-read figure-read (v .limitOrTolerance)
+  pub leaves : readLeft sheet lent ≡ slicesOf v
+
+-- demand 2: "a written sheet reads back as the same values"
+pub written-then-read : (kind code n : ℕ) (v : Values) (before : List ℕ) → writingOf kind code n v (length before) ≡ Passed
+    → (lent : Slices) → lengthsLent lent ≡ lengthsGiven v
+    → ReadsBack kind code n v (writtenOf kind code n v before) lent
+written-then-read kind code n v before e lent same =
+    let given = writer-accepted kind code n v (length before) e in
+    let k : Kind = given .kind-given in
+    let f : Figure = given .figure-given in
+    let range : InRange k v = in-range k v (given .given .values) in
+    let many : AsMany k f v = given .given .lengths in
+    let written : writtenOf kind code n v before ≡ packedSheet k f v = sheet-written kind code n v before k f (given .names) e in
+    let is : Accepted (packedSheet k f v) (ownLengths k f) k f (v .limitOrTolerance) = written-accepted k f v many range (given .given .values) in
+    let answered : readAnswer (packedSheet k f v) lent ≡ Read k f (v .limitOrTolerance) =
+    ap (readingOf (packedSheet k f v)) (same ∙ own-lengths k f v many)
+    ∙ accepted-back (packedSheet k f v) (ownLengths k f) k f (v .limitOrTolerance) (omega (arith, long-enough k f, is .size)) is in
+    record {
+      kind-read = k;
+      figure-read = f;
+      named = given .names;
+      answers = ap (λ (sheet : List ℕ). readAnswer sheet lent) written ∙ answered;
+      leaves =
+          ap (λ (sheet : List ℕ). readLeft sheet lent) written
+          ∙ ap (λ (reading : Reading). afterReading reading (λ x g. slicesOf (valuesRead x g (packedSheet k f v))) lent) answered
+          ∙ ap slicesOf (values-back k f v many range);
+    }

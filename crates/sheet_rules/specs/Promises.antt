@@ -1,0 +1,43 @@
+-- What the reader and the writer of packed sheets promise: document 01, "Packed sheets" and "What the promises must decide".
+use Prim.Native.Nat.{ℕ}
+use mathlib.Core.List.{List, [], _∷_}
+use lib.IntN.{ℤ}
+use lib.ListN.{length}
+use Rattle.refusals.specs.declared.Verdict.{Verdict}
+use Rattle.refusals.specs.Promise.{Promised}
+use Rattle.sheet_rules.specs.declared.Reading.{Reading}
+use Rattle.sheet_rules.specs.Sheet.{Values, valuesRead}
+use Rattle.sheet_rules.specs.Judging.{readingOf, afterReading, writingOf, writtenOf}
+
+-- ---- the reader
+
+-- the slices that are lent for the values
+pub record Slices : Type 0 where
+  pub angles : List ℕ
+  pub fixed : List ℕ
+  pub logSines : List ℕ
+  pub differences : List ℤ
+
+abbrev pub slices : (angles fixed logSines : List ℕ) → (differences : List ℤ) → Slices
+slices angles fixed logSines differences = record { angles = angles; fixed = fixed; logSines = logSines; differences = differences }
+
+abbrev pub slicesOf : Values → Slices
+slicesOf v = slices (v .angles) (v .fixed) (v .logSines) (v .differences)
+
+-- their lengths, for number 2
+abbrev pub lengthsLent : Slices → List ℕ
+lengthsLent lent = length (lent .angles) ∷ length (lent .fixed) ∷ length (lent .logSines) ∷ length (lent .differences) ∷ []
+
+abbrev pub readAnswer : (sheet : List ℕ) → Slices → Reading
+readAnswer sheet lent = readingOf sheet (lengthsLent lent)
+
+abbrev pub readLeft : (sheet : List ℕ) → Slices → Slices
+readLeft sheet lent = afterReading (readAnswer sheet lent) (λ kind f. slicesOf (valuesRead kind f sheet)) lent
+
+abbrev pub ReaderPromise : (sheet : List ℕ) → (entry : Slices) → (answer : Reading) → (exit : Slices) → Type 0
+ReaderPromise sheet entry answer exit = Promised (readAnswer sheet entry) (readLeft sheet entry) answer exit
+
+-- ---- the writer
+
+abbrev pub WriterPromise : (kind code n : ℕ) → Values → (entry : List ℕ) → (answer : Verdict) → (exit : List ℕ) → Type 0
+WriterPromise kind code n v entry answer exit = Promised (writingOf kind code n v (length entry)) (writtenOf kind code n v entry) answer exit

@@ -1,0 +1,62 @@
+-- The values of a packed sheet and its bytes: document 01, "Packed sheets". Both follow from the layout of its kind and figure.
+use Prim.Native.Nat.{ℕ, suc}
+use mathlib.Core.List.{List, map}
+use lib.IntN.{ℤ, pos}
+use Rattle.whole.specs.Lists.{listed}
+use Rattle.refusals.specs.Numbers.{numbered}
+use Rattle.figures.specs.declared.Figure.{Figure}
+use Rattle.figures.specs.Figure.{description, angleCount}
+use Rattle.bits.specs.Bits.{Field, bytesOf, packedBits}
+use Rattle.bits.specs.Complement.{signedOf, twosComplement}
+use Rattle.sheet_layout.specs.declared.Kind.{Kind}
+use Rattle.sheet_layout.specs.Layout.{Item, theKind, theCode, theN, limit, tolerance, angle, fixedAngle, logSine, difference, numberOfKind, widthOf, limitOrToleranceItem, layout, fixedIn, sineEntriesIn, held}
+
+-- ---- the values of a sheet, and its bytes
+
+pub record Values : Type 0 where
+  pub limitOrTolerance : ℕ
+  pub angles : List ℕ
+  pub fixed : List ℕ
+  pub logSines : List ℕ
+  pub differences : List ℤ
+
+abbrev pub valuesFrom : (limitOrTolerance : ℕ) (angles fixed logSines : List ℕ) (differences : List ℤ) → Values
+valuesFrom e a f l d = record { limitOrTolerance = e; angles = a; fixed = f; logSines = l; differences = d }
+
+-- the number that stands for an item
+abbrev pub numberAt : Kind → Figure → Values → Item → ℕ
+numberAt kind f v theKind = numberOfKind kind
+numberAt kind f v theCode = description f .code
+numberAt kind f v theN = description f .n
+numberAt kind f v limit = v .limitOrTolerance
+numberAt kind f v tolerance = v .limitOrTolerance
+numberAt kind f v (angle i) = numbered (v .angles) i 0
+numberAt kind f v (fixedAngle i) = numbered (v .fixed) i 0
+numberAt kind f v (logSine i) = numbered (v .logSines) i 0
+numberAt kind f v (difference i) = twosComplement (widthOf (difference i)) (numbered (v .differences) i (pos 0))
+
+abbrev pub fieldOf : Kind → Figure → Values → Item → Field
+fieldOf kind f v item = record { width = widthOf item; holds = numberAt kind f v item }
+
+-- the bytes of a sheet: its fields one after the other, and zero bits that fill the last byte
+unfoldable pub packedSheet : Kind → Figure → Values → List ℕ
+packedSheet kind f v = bytesOf (packedBits (map (fieldOf kind f v) (layout kind f)))
+
+-- ---- what a sheet holds
+
+-- g 1, g 2, .., g count
+abbrev pub oneOfEach : {A : Type 0} → (count : ℕ) → (ℕ → A) → List A
+oneOfEach count g = listed count (λ i. g (suc i))
+
+-- the values that are read off a sheet
+unfoldable pub valuesRead : Kind → Figure → List ℕ → Values
+valuesRead kind f sheet = valuesFrom
+    (held (layout kind f) sheet (limitOrToleranceItem kind))
+    (oneOfEach (angleCount f) (λ i. held (layout kind f) sheet (angle i)))
+    (oneOfEach (fixedIn kind f) (λ i. held (layout kind f) sheet (fixedAngle i)))
+    (oneOfEach (sineEntriesIn kind f) (λ i. held (layout kind f) sheet (logSine i)))
+    (oneOfEach (sineEntriesIn kind f) (λ i. signedOf (widthOf (difference i)) (held (layout kind f) sheet (difference i))))
+
+-- a bound on the positions of reader and writer: no sheet is so long
+abbrev pub mostBits : ℕ
+mostBits = 1_700

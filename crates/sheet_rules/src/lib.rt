@@ -1,0 +1,61 @@
+// Packed sheets: document 01, "Packed sheets". The values of a sheet and its bytes are defined in specs/Sheet.antt; what is turned back, and
+// in which order, stands in specs/Judging.antt. The code here is what the reader (`sheet_reader`) and the writer (`sheet_writer`) share.
+ghost use mathlib.Core.Path.{_≡_};
+ghost use Rattle.refusals.specs.Order.{judged};
+ghost use Rattle.sheet_rules.specs.Sheet.{valuesFrom};
+ghost use Rattle.sheet_rules.specs.Judging.{mostLimitOrTolerance, valueRows};
+use figures::Figure;
+use judging::angles_verdict;
+use judging::fixed_verdict;
+use judging::limit_or_tolerance_verdict;
+use judging::sine_entries_verdict;
+use refusals::MOST_LIMIT;
+use refusals::MOST_TOLERANCE;
+use refusals::Refusal;
+use refusals::Verdict;
+use refusals::first_to_fail;
+pub use sheet_layout::Kind;
+pub use sheet_layout::Look;
+pub use sheet_layout::lengths_of;
+pub use sheet_layout::look_at;
+pub use sheet_layout::sheet_size;
+
+// What the reader answers: L or e as packed, so that 0 stays 0.
+pub enum Reading {
+    Read {
+        kind: Kind,
+        figure: Figure,
+        limit_or_tolerance: u32,
+    },
+    Refused(Refusal),
+}
+
+fn most_limit_or_tolerance(kind: Kind) -> u32
+    ensures { λ most. ⌜ most ≡ mostLimitOrTolerance kind ⌝ }
+{
+    match kind {
+        Kind::FirstPass => MOST_LIMIT,
+        Kind::SecondPass => MOST_TOLERANCE,
+    }
+}
+
+// The tests of a sheet's values, 3, 4, 5 and 8, whether they were read or are to be written.
+pub fn values_verdict(
+    kind: Kind,
+    limit_or_tolerance: u32,
+    angles: &[u32],
+    fixed: &[u32],
+    log_sines: &[u32],
+    differences: &[i32],
+) -> Verdict
+    ensures { λ verdict. ⌜ verdict ≡ judged (valueRows kind (valuesFrom «limit_or_tolerance»
+        (now (angles .entry)) (now (fixed .entry)) (now («log_sines» .entry)) (now (differences .entry)))) ⌝ }
+{
+    let limit = limit_or_tolerance_verdict(limit_or_tolerance, most_limit_or_tolerance(kind));
+    let observed = first_to_fail(limit, angles_verdict(angles));
+    let others = first_to_fail(
+        fixed_verdict(fixed),
+        sine_entries_verdict(log_sines, differences),
+    );
+    first_to_fail(observed, others)
+}

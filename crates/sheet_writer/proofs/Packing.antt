@@ -1,0 +1,160 @@
+-- Fields written one after the other, and then zero bits up to the end of the bytes, are a packed sheet. Assumes nothing.
+use Prim.Native.Nat.{ℕ, zero, suc, _+_, _*_, _≤_, _<_}
+use mathlib.Core.Bool.{true}
+use mathlib.Core.List.{List, [], _∷_, _++_, append-assoc, append-nil}
+use mathlib.Core.Path.{_≡_, refl, sym, ap, ap₂, subst, _∙_}
+use native.Mathlib.Nat.{add-zero, add-assoc, mul-zero, mul-suc}
+use native.Mathlib.Numerals.{add-one}
+use native.Mathlib.Omega.{arith}
+use lib.ListN.{length, take}
+use lib.Seq.{take-all}
+use Rattle.refusals.specs.Numbers.{numbered}
+use Rattle.bits.specs.Bits.{Field, bitsOf, bytesOf, byteCount, fillingWidth, withField, inside, widths, totalWidth, packedBits}
+use Rattle.bits.proofs.Bytes.{AreBytes, length-bitsOf}
+use Rattle.bits.proofs.Fields.{is-inside, length-withField, withField-bytes}
+use Rattle.bits.proofs.Packed.{totalWidth-append, widths-append, packed-more, packed-filled}
+use Rattle.figures.specs.Rows.{eachOf}
+use Rattle.sheet_layout.specs.declared.Kind.{Kind}
+use Rattle.sheet_layout.specs.declared.Kind.the-variants.{FirstPass, SecondPass}
+use Rattle.sheet_rules.specs.Sheet.{Values}
+use Rattle.sheet_writer.specs.Parts.{putAll, fieldFrom, columnFields, bodyFields, bodyStart, BodyFits}
+
+-- ---- fields one after the other
+
+pub put-length : (s : List ℕ) (at : ℕ) (fs : List Field) → length (putAll s at fs) ≡ length s
+unfolding putAll
+put-length s at [] = refl
+put-length s at (f ∷ fs) = put-length (withField s at (f .width) (f .holds)) (at + f .width) fs ∙ length-withField s at (f .width) (f .holds)
+
+pub put-bytes : (s : List ℕ) (at : ℕ) (fs : List Field) → AreBytes s → AreBytes (putAll s at fs)
+unfolding putAll
+put-bytes s at [] h = h
+put-bytes s at (f ∷ fs) h = put-bytes (withField s at (f .width) (f .holds)) (at + f .width) fs (withField-bytes s at (f .width) (f .holds) h)
+
+pub put-append : (s : List ℕ) (at : ℕ) (fs gs : List Field) → putAll s at (fs ++ gs) ≡ putAll (putAll s at fs) (at + totalWidth (widths fs)) gs
+unfolding putAll totalWidth widths
+put-append s at [] gs = ap (λ (n : ℕ). putAll s n gs) (sym (add-zero at))
+put-append s at (f ∷ fs) gs =
+    put-append (withField s at (f .width) (f .holds)) (at + f .width) fs gs
+    ∙ ap (λ (n : ℕ). putAll (putAll s at (f ∷ fs)) n gs) (add-assoc at (f .width) (totalWidth (widths fs)))
+
+-- ---- rows of the same width
+
+module _ (row : ℕ → List Field) (w : ℕ) (each : (i : ℕ) → totalWidth (widths (row i)) ≡ w) where
+  pub rows-width : (n : ℕ) → totalWidth (widths (eachOf n row)) ≡ w * n
+  unfolding totalWidth widths
+  rows-width zero = sym (mul-zero w)
+  rows-width (suc n) =
+      ap totalWidth (widths-append (eachOf n row) (row (suc n))) ∙ totalWidth-append (widths (eachOf n row)) (widths (row (suc n)))
+      ∙ ap₂ (λ (a b : ℕ). a + b) (rows-width n) (each (suc n)) ∙ sym (mul-suc w n)
+
+  -- a row more
+  pub put-row-more : (s : List ℕ) (at n : ℕ) → putAll s at (eachOf (n + 1) row) ≡ putAll (putAll s at (eachOf n row)) (at + w * n) (row (suc n))
+  put-row-more s at n =
+      ap (λ (k : ℕ). putAll s at (eachOf k row)) (add-one n) ∙ put-append s at (eachOf n row) (row (suc n))
+      ∙ ap (λ (k : ℕ). putAll (putAll s at (eachOf n row)) (at + k) (row (suc n))) (rows-width n)
+
+-- the invariant of a loop that writes rows: so many are written, and the next begins at `at`
+pub record Written (s : List ℕ) (start w : ℕ) (row : ℕ → List Field) (count put at : ℕ) (sheet : List ℕ) : Type 0 where
+  pub few : put ≤ count
+  pub reached : at ≡ start + w * put
+  pub rows : sheet ≡ putAll s start (eachOf put row)
+
+pub written-none : (s : List ℕ) (start w : ℕ) (row : ℕ → List Field) (count : ℕ) → Written s start w row count 0 start s
+unfolding putAll
+written-none s start w row count = record {
+  few = omega arith;
+  reached = sym (ap (λ (k : ℕ). start + k) (mul-zero w) ∙ add-zero start);
+  rows = refl;
+}
+
+module _ (s : List ℕ) (start w : ℕ) (row : ℕ → List Field) (count : ℕ) {put at : ℕ} {sheet : List ℕ} (h : Written s start w row count put at sheet) where
+  pub written-more : ((i : ℕ) → totalWidth (widths (row i)) ≡ w) → put < count → (next : List ℕ) → next ≡ putAll sheet at (row (suc put))
+      → Written s start w row count (put + 1) (at + w) next
+  written-more each l next e = record {
+    few = omega arith;
+    reached = ap (λ (k : ℕ). k + w) (h .reached) ∙ add-assoc start (w * put) w ∙ ap (λ (k : ℕ). start + k) (sym (mul-suc w put) ∙ ap (λ (k : ℕ). w * k) (sym (add-one put)));
+    rows = e ∙ ap₂ (λ (x : List ℕ) (k : ℕ). putAll x k (row (suc put))) (h .rows) (h .reached) ∙ sym (put-row-more row w each s start put);
+  }
+
+  pub written-all : count ≤ put → sheet ≡ putAll s start (eachOf count row)
+  written-all l = let all : put ≡ count = omega (arith, h .few) in h .rows ∙ ap (λ (k : ℕ). putAll s start (eachOf k row)) all
+
+  pub written-length : length sheet ≡ length s
+  written-length = ap length (h .rows) ∙ put-length s start (eachOf put row)
+
+-- ---- all fields and the filling
+
+-- no field is too wide to be written
+abbrev pub Narrow : List Field → Type 0
+Narrow [] = Unit {0}
+Narrow (f ∷ fs) = (f .width ≤ 32) × Narrow fs
+
+pub narrow-append : (fs gs : List Field) → Narrow fs → Narrow gs → Narrow (fs ++ gs)
+narrow-append [] gs h k = k
+narrow-append (f ∷ fs) gs h k = (h .0, narrow-append fs gs (h .1) k)
+
+put-bits : (s : List ℕ) (before : List Field) (at : ℕ) (fs : List Field) → take at (bitsOf s) ≡ packedBits before
+    → at + totalWidth (widths fs) ≤ 8 * length s → Narrow fs
+    → take (at + totalWidth (widths fs)) (bitsOf (putAll s at fs)) ≡ packedBits (before ++ fs)
+unfolding putAll totalWidth widths
+put-bits s before at [] e h k = ap (λ (n : ℕ). take n (bitsOf s)) (add-zero at) ∙ e ∙ ap packedBits (sym (append-nil before))
+put-bits s before at (f ∷ fs) e h k =
+    let next : List ℕ = withField s at (f .width) (f .holds) in
+    let fits : inside s at (f .width) ≡ true = is-inside s at (f .width) (omega arith) (k .0) in
+    ap (λ (n : ℕ). take n (bitsOf (putAll next (at + f .width) fs))) (sym (add-assoc at (f .width) (totalWidth (widths fs))))
+    ∙ put-bits next (before ++ (f ∷ [])) (at + f .width) fs (packed-more s before at (f .width) (f .holds) e fits)
+    (omega (arith, length-withField s at (f .width) (f .holds))) (k .1)
+    ∙ ap packedBits (append-assoc before (f ∷ []) fs)
+
+abbrev pub filling : List Field → Field
+filling fs = record { width = fillingWidth (totalWidth (widths fs)); holds = 0 }
+
+pub packed : (s : List ℕ) (fs : List Field) → AreBytes s → length s ≡ byteCount (totalWidth (widths fs)) → Narrow fs
+    → putAll s 0 (fs ++ (filling fs ∷ [])) ≡ bytesOf (packedBits fs)
+unfolding fillingWidth byteCount totalWidth widths packedBits
+packed s fs h e k =
+    let all : List Field = fs ++ (filling fs ∷ []) in
+    let written : List ℕ = putAll s 0 all in
+    let joined : totalWidth (widths all) ≡ totalWidth (widths fs) + (fillingWidth (totalWidth (widths fs)) + 0) =
+    ap totalWidth (widths-append fs (filling fs ∷ [])) ∙ totalWidth-append (widths fs) (widths (filling fs ∷ [])) in
+    let narrow : Narrow all = narrow-append fs (filling fs ∷ []) k (omega arith, tt) in
+    let end : ℕ = 0 + totalWidth (widths all) in
+    packed-filled written fs (put-bytes s 0 all h)
+    (sym (take-all end (bitsOf written) (omega (arith, length-bitsOf written, put-length s 0 all)))
+    ∙ put-bits s [] 0 all refl (omega arith) narrow)
+
+-- three fields that are written one by one
+pub put-three : (s : List ℕ) (at : ℕ) (f g h : Field) {x y z : List ℕ}
+    → x ≡ withField s at (f .width) (f .holds)
+    → y ≡ withField x (at + f .width) (g .width) (g .holds)
+    → z ≡ withField y (at + f .width + g .width) (h .width) (h .holds)
+    → z ≡ putAll s at (f ∷ g ∷ h ∷ [])
+unfolding putAll
+put-three s at f g h {x} {y} a b c =
+    c ∙ ap (λ (y : List ℕ). withField y (at + f .width + g .width) (h .width) (h .holds))
+    (b ∙ ap (λ (x : List ℕ). withField x (at + f .width) (g .width) (g .holds)) a)
+
+-- ---- the body
+
+column-width : (values : List ℕ) (n : ℕ) → totalWidth (widths (eachOf n (λ i. fieldFrom 23 (numbered values i 0) ∷ []))) ≡ 23 * n
+unfolding totalWidth widths
+column-width values n = rows-width (λ i. fieldFrom 23 (numbered values i 0) ∷ []) 23 (λ i. refl) n
+
+-- two columns, one after the other
+pub two-columns : (s : List ℕ) (angles fixed : List ℕ) {x y : List ℕ} → x ≡ putAll s 22 (columnFields angles) → y ≡ putAll x (22 + 23 * length angles) (columnFields fixed)
+    → y ≡ putAll s 22 (columnFields angles ++ columnFields fixed)
+two-columns s angles fixed a f =
+    f ∙ ap₂ (λ (x : List ℕ) (w : ℕ). putAll x (22 + w) (columnFields fixed)) a (sym (column-width angles (length angles)))
+    ∙ sym (put-append s 22 (columnFields angles) (columnFields fixed))
+
+module _ {kind : Kind} (v : Values) where
+  pub first-fits : kind ≡ FirstPass → BodyFits kind v → BodyFits FirstPass v
+  first-fits e h = subst (λ (k : Kind). BodyFits k v) e h
+
+  pub second-fits : kind ≡ SecondPass → BodyFits kind v → BodyFits SecondPass v
+  second-fits e h = subst (λ (k : Kind). BodyFits k v) e h
+
+  -- the body of the kind that was told
+  pub body-of : (s : List ℕ) {told : Kind} {x : List ℕ} → kind ≡ told → x ≡ putAll s (bodyStart told) (bodyFields told v) → x ≡ putAll s (bodyStart kind) (bodyFields kind v)
+  body-of s {x} e is = subst (λ (k : Kind). x ≡ putAll s (bodyStart k) (bodyFields k v)) (sym e) is

@@ -1,0 +1,61 @@
+-- What the parts of the writer compute, in the words of the whole (specs/Sheet.antt of `sheet_rules`).
+use Prim.Native.Nat.{ℕ, _+_, _*_, _≤_}
+use mathlib.Core.List.{List, [], _∷_, _++_}
+use mathlib.Core.Path.{_≡_}
+use lib.IntN.{ℤ, pos}
+use lib.ListN.{length}
+use Rattle.refusals.specs.declared.Verdict.{Verdict}
+use Rattle.refusals.specs.Numbers.{numbered}
+use Rattle.refusals.specs.Order.{judged}
+use Rattle.refusals.specs.Promise.{Promised}
+use Rattle.bits.specs.Bits.{Field, withField}
+use Rattle.bits.specs.Complement.{twosComplement}
+use Rattle.figures.specs.declared.Figure.{Figure}
+use Rattle.figures.specs.Rows.{eachOf}
+use Rattle.sheet_layout.specs.declared.Kind.{Kind}
+use Rattle.sheet_layout.specs.declared.Kind.the-variants.{FirstPass, SecondPass}
+use Rattle.sheet_layout.specs.Layout.{theKind, theCode, theN, widthOf}
+use Rattle.sheet_rules.specs.Sheet.{Values, packedSheet, mostBits}
+use Rattle.sheet_rules.specs.Judging.{givenRows, afterWriting}
+
+-- fields that are written one after the other, from a position on
+unfoldable pub putAll : List ℕ → ℕ → List Field → List ℕ
+putAll sheet at [] = sheet
+putAll sheet at (f ∷ later) = putAll (withField sheet at (f .width) (f .holds)) (at + f .width) later
+
+abbrev pub fieldFrom : (width holds : ℕ) → Field
+fieldFrom w v = record { width = w; holds = v }
+
+-- the fields of a sheet, part by part: the head; L or e; angles or fixed angles of kind 1; an angle, its log-sine and its difference, angle by angle
+abbrev pub headFields : (kind code n : ℕ) → List Field
+headFields kind code n = fieldFrom (widthOf theKind) kind ∷ fieldFrom (widthOf theCode) code ∷ fieldFrom (widthOf theN) n ∷ []
+
+abbrev pub columnFields : List ℕ → List Field
+columnFields values = eachOf (length values) (λ i. fieldFrom 23 (numbered values i 0) ∷ [])
+
+abbrev pub rowOf : ℕ → ℕ → ℤ → List Field
+rowOf angle logSine difference = fieldFrom 23 angle ∷ fieldFrom 27 logSine ∷ fieldFrom 15 (twosComplement 15 difference) ∷ []
+
+abbrev pub rowFields : List ℕ → List ℕ → List ℤ → List Field
+rowFields angles logSines differences =
+    eachOf (length angles) (λ i. rowOf (numbered angles i 0) (numbered logSines i 0) (numbered differences i (pos 0)))
+
+abbrev pub bodyFields : Kind → Values → List Field
+bodyFields FirstPass v = columnFields (v .angles) ++ columnFields (v .fixed)
+bodyFields SecondPass v = rowFields (v .angles) (v .logSines) (v .differences)
+
+-- where the body begins
+abbrev pub bodyStart : Kind → ℕ
+bodyStart FirstPass = 22
+bodyStart SecondPass = 18
+
+-- the slices of a body are short, and in kind 2 there is a log-sine and a difference for each angle
+abbrev pub BodyFits : Kind → Values → Type 0
+BodyFits FirstPass v = 22 + 23 * length (v .angles) + 23 * length (v .fixed) ≤ mostBits
+BodyFits SecondPass v =
+    (18 + 65 * length (v .angles) ≤ mostBits) × (length (v .logSines) ≡ length (v .angles)) × (length (v .differences) ≡ length (v .angles))
+
+-- what the writer promises once kind and figure are known
+abbrev pub GivenPromise : Kind → Figure → Values → (entry : List ℕ) → (answer : Verdict) → (exit : List ℕ) → Type 0
+GivenPromise kind f v entry answer exit =
+    Promised (judged (givenRows kind f v (length entry))) (afterWriting (judged (givenRows kind f v (length entry))) (packedSheet kind f v) entry) answer exit

@@ -1,4 +1,0 @@
-pub mod Refusals
-pub mod SheetBounds
-mod Sheets
-pub mod ShownAs

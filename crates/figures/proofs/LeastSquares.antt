@@ -97,12 +97,12 @@ module _ {N M : ℕ} {D : ℤ} {C R K : ℕ → ℕ → ℤ} (certified : Certif
         ∙ ap₂ _+ℤ_ (applied-scale N C D d j) (cancelled (applied N C d) j b)
         ∙ ring 2 (λ D s. D ⊗ s ⊕ ⊝ D ⊗ s ≐ constant (pos 0)) tt D (applied N C d j)
 
-    -- D times the sum of d·A is the sum of A²
-    pub reduced-squares : D *ℤ dot N d reduced ≡ squares N reduced
-    unfolding dot
-    reduced-squares =
-        sym (+ℤ-idr (D *ℤ dot N d reduced))
-        ∙ ap₂ _+ℤ_ (sym (sum-scale N D (λ i. d i *ℤ reduced i))) (sym (orthogonal (applied N C d) reduced reduced-closes))
-        ∙ sym (sum-add N (λ i. D *ℤ (d i *ℤ reduced i)) (λ i. applied M R (applied N C d) i *ℤ reduced i))
-        ∙ sum-ext N (λ i. D *ℤ (d i *ℤ reduced i) +ℤ applied M R (applied N C d) i *ℤ reduced i) (λ i. reduced i *ℤ reduced i)
-        (λ i b. ring 3 (λ D d n. D ⊗ (d ⊗ (D ⊗ d ⊕ n)) ⊕ n ⊗ (D ⊗ d ⊕ n) ≐ (D ⊗ d ⊕ n) ⊗ (D ⊗ d ⊕ n)) tt D (d i) (applied M R (applied N C d) i))
+  -- D times the sum of the products of d with the reduced coefficients of e is the sum of the products of both reduced coefficients
+  pub reduced-products : (d e : ℕ → ℤ) → D *ℤ dot N d (reduced e) ≡ dot N (reduced d) (reduced e)
+  unfolding dot
+  reduced-products d e =
+      sym (+ℤ-idr (D *ℤ dot N d (reduced e)))
+      ∙ ap₂ _+ℤ_ (sym (sum-scale N D (λ i. d i *ℤ reduced e i))) (sym (orthogonal (applied N C d) (reduced e) (reduced-closes e)))
+      ∙ sym (sum-add N (λ i. D *ℤ (d i *ℤ reduced e i)) (λ i. applied M R (applied N C d) i *ℤ reduced e i))
+      ∙ sum-ext N (λ i. D *ℤ (d i *ℤ reduced e i) +ℤ applied M R (applied N C d) i *ℤ reduced e i) (λ i. reduced d i *ℤ reduced e i)
+      (λ i b. ring 4 (λ D d n b. D ⊗ (d ⊗ b) ⊕ n ⊗ b ≐ (D ⊗ d ⊕ n) ⊗ b) tt D (d i) (applied M R (applied N C d) i) (reduced e i))

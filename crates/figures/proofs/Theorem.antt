@@ -10,7 +10,7 @@ use lib.Signed.{_≤ℤ_}
 use Rattle.whole.specs.Sums.{dot, squares, applied, identity, table}
 use Rattle.whole.specs.Lists.{every}
 use Rattle.whole.proofs.Computed.{and-left, and-right}
-use Rattle.whole.proofs.Sums.{dot-ext, dot-comm, dot-add, dot-zero, applied-ext, applied-scale, applied-identity}
+use Rattle.whole.proofs.Sums.{dot-ext, dot-comm, dot-add, dot-zero, applied-ext, applied-add, applied-scale, applied-identity}
 use Rattle.figures.specs.declared.Figure.{Figure}
 use Rattle.figures.specs.Figure.{Condition, description, denominator, angleCount, conditionCount, membersOf}
 use Rattle.figures.specs.Numerators.{sumOver, conditionSum, numerator, reducedCoefficient}
@@ -103,11 +103,29 @@ module _ (f : Figure) (d : ℕ → ℤ) where
       ∙ condition-scaled f c (reducedCoefficient f d) j b
       ∙ ap (λ (t : ℤ). c *ℤ t) (reduced-closes j b) ∙ *ℤ-zero c
 
-  -- D·Σ d·A = Σ A²
-  pub reduced-squares : pos (denominator f) *ℤ dot (angleCount f) d (reducedCoefficient f d) ≡ squares (angleCount f) (reducedCoefficient f d)
-  reduced-squares =
-      ap (λ (t : ℤ). pos (denominator f) *ℤ t)
-      (dot-ext (angleCount f) d (reducedCoefficient f d) d (LeastSquares.reduced (certified f) d) (λ i b. refl) (λ i b. sym (reduced-is i)))
-      ∙ LeastSquares.reduced-squares (certified f) d
-      ∙ dot-ext (angleCount f) (LeastSquares.reduced (certified f) d) (LeastSquares.reduced (certified f) d) (reducedCoefficient f d) (reducedCoefficient f d)
-      (λ i b. reduced-is i) (λ i b. reduced-is i)
+-- D·Σ d·B = Σ A·B, with A and B the reduced coefficients of d and e
+pub reduced-products : (f : Figure) (d e : ℕ → ℤ)
+    → pos (denominator f) *ℤ dot (angleCount f) d (reducedCoefficient f e) ≡ dot (angleCount f) (reducedCoefficient f d) (reducedCoefficient f e)
+reduced-products f d e =
+    ap (λ (t : ℤ). pos (denominator f) *ℤ t)
+    (dot-ext (angleCount f) d (reducedCoefficient f e) d (LeastSquares.reduced (certified f) e) (λ i b. refl) (λ i b. sym (reduced-is f e i)))
+    ∙ LeastSquares.reduced-products (certified f) d e
+    ∙ dot-ext (angleCount f) (LeastSquares.reduced (certified f) d) (LeastSquares.reduced (certified f) e) (reducedCoefficient f d) (reducedCoefficient f e)
+    (λ i b. reduced-is f d i) (λ i b. reduced-is f e i)
+
+-- D·Σ d·A = Σ A²
+pub reduced-squares : (f : Figure) (d : ℕ → ℤ)
+    → pos (denominator f) *ℤ dot (angleCount f) d (reducedCoefficient f d) ≡ squares (angleCount f) (reducedCoefficient f d)
+reduced-squares f d = reduced-products f d d
+
+-- numbers that are a sum of multiples of two sets of reduced coefficients change no condition
+pub combination-closes : (f : Figure) (d e : ℕ → ℤ) (p q : ℤ) (x : ℕ → ℤ)
+    → ((i : ℕ) → i < angleCount f → x i ≡ p *ℤ reducedCoefficient f d i +ℤ q *ℤ reducedCoefficient f e i) → (j : ℕ) → j < conditionCount f → conditionSum f x j ≡ pos 0
+combination-closes f d e p q x are j b =
+    condition-agrees f x (λ i. p *ℤ reducedCoefficient f d i +ℤ q *ℤ reducedCoefficient f e i) are j b
+    ∙ sym (condition-applied f (λ i. p *ℤ reducedCoefficient f d i +ℤ q *ℤ reducedCoefficient f e i) j b)
+    ∙ applied-add (angleCount f) (membership (description f)) (λ i. p *ℤ reducedCoefficient f d i) (λ i. q *ℤ reducedCoefficient f e i) j
+    ∙ ap₂ _+ℤ_ (multiple p d) (multiple q e)
+  where
+    multiple : (c : ℤ) (u : ℕ → ℤ) → applied (angleCount f) (membership (description f)) (λ i. c *ℤ reducedCoefficient f u i) j ≡ pos 0
+    multiple c u = condition-applied f (λ i. c *ℤ reducedCoefficient f u i) j b ∙ multiple-closes f u c (λ i. c *ℤ reducedCoefficient f u i) (λ i h. refl) j b

@@ -4,15 +4,15 @@ use mathlib.Core.Path.{_≡_, refl, sym, ap, ap₂, _∙_, subst}
 use mathlib.Core.Logic.{⊎-elim}
 use Prim.Native.Nat.{ℕ, zero, suc, _+_, _*_, _≤_, _<_, zero-le}
 use native.Mathlib.Nat.{le-of-suc-le-suc, not-suc-le-zero, eq-or-lt-of-le}
-use native.Mathlib.Numerals.{add-one}
+use native.Mathlib.Numerals.{add-one, unary-clauses}
 use native.Mathlib.Omega.{arith}
-use lib.IntN.{ℤ, pos, natAbs, _+ℤ_, _*ℤ_, +ℤ-idr, +ℤ-idl, +ℤ-comm, *ℤ-zero, zero-*ℤ, *ℤ-comm}
+use lib.IntN.{ℤ, pos, negsuc, negℤ, natAbs, _+ℤ_, _-ℤ_, _*ℤ_, +ℤ-idr, +ℤ-idl, +ℤ-comm, *ℤ-zero, zero-*ℤ, *ℤ-comm}
 use lib.Signed.{_≤ℤ_, ≤ℤ-refl}
 use Rattle.whole.specs.Sums.{sum, dot, squares, applied, composed, identity, transposed}
 use Rattle.whole.proofs.Integers.{*ℤ-distribˡ, unit-*ℤ}
-use Rattle.whole.proofs.Ring.{ring, _≐_, _⊕_, _⊗_}
+use Rattle.whole.proofs.Ring.{ring, constant, _≐_, _⊕_, _⊖_, _⊗_, ⊝_}
 use Rattle.whole.proofs.Magnitudes.{natAbs-add}
-use Rattle.whole.proofs.Order.{nonnegative-sum, square-nonnegative, square-zero, left-zero}
+use Rattle.whole.proofs.Order.{natural, zero-≤ℤ-pos, nonnegative-sum, square-nonnegative, square-zero, left-zero}
 
 -- ---- sums
 
@@ -138,6 +138,44 @@ squares-ext n u v same = dot-ext n u u v v same same
 pub squares-zero : (n : ℕ) (u : ℕ → ℤ) → squares n u ≡ pos 0 → (i : ℕ) → i < n → u i ≡ pos 0
 unfolding dot
 squares-zero n u e i b = square-zero (u i) (sum-zero-terms n (λ k. u k *ℤ u k) (λ k c. square-nonnegative (u k)) e i b)
+
+-- a number of which some positive multiple is from 0 up is so itself
+factor-natural : (k : ℕ) (z : ℤ) → pos 0 ≤ℤ (pos (suc k) *ℤ z) → pos 0 ≤ℤ z
+factor-natural k (pos n) h = zero-≤ℤ-pos n
+factor-natural k (negsuc n) h = absurd (simp unary-clauses at (h .le))
+
+-- the square of a sum of products is at most the product of the sums of squares
+module _ (n : ℕ) (u v : ℕ → ℤ) where
+  -- how far v lies from its share of u, times the sum of u²
+  abbrev apart : ℕ → ℤ
+  apart i = squares n u *ℤ v i -ℤ dot n u v *ℤ u i
+
+  apart-squares : squares n apart ≡ squares n u *ℤ (squares n u *ℤ squares n v -ℤ dot n u v *ℤ dot n u v)
+  unfolding dot
+  apart-squares =
+      let a = squares n u in
+      let c = dot n u v in
+      sum-ext n (λ i. apart i *ℤ apart i) (λ i. a *ℤ a *ℤ (v i *ℤ v i) +ℤ c *ℤ c *ℤ (u i *ℤ u i) +ℤ negℤ (a *ℤ c +ℤ a *ℤ c) *ℤ (u i *ℤ v i))
+      (λ i b. ring 4 (λ a c x y. (a ⊗ y ⊖ c ⊗ x) ⊗ (a ⊗ y ⊖ c ⊗ x) ≐ a ⊗ a ⊗ (y ⊗ y) ⊕ c ⊗ c ⊗ (x ⊗ x) ⊕ ⊝ (a ⊗ c ⊕ a ⊗ c) ⊗ (x ⊗ y)) tt a c (u i) (v i))
+      ∙ sum-add n (λ i. a *ℤ a *ℤ (v i *ℤ v i) +ℤ c *ℤ c *ℤ (u i *ℤ u i)) (λ i. negℤ (a *ℤ c +ℤ a *ℤ c) *ℤ (u i *ℤ v i))
+      ∙ ap₂ _+ℤ_
+      (sum-add n (λ i. a *ℤ a *ℤ (v i *ℤ v i)) (λ i. c *ℤ c *ℤ (u i *ℤ u i))
+      ∙ ap₂ _+ℤ_ (sum-scale n (a *ℤ a) (λ i. v i *ℤ v i)) (sum-scale n (c *ℤ c) (λ i. u i *ℤ u i)))
+      (sum-scale n (negℤ (a *ℤ c +ℤ a *ℤ c)) (λ i. u i *ℤ v i))
+      ∙ ring 3 (λ a c b. a ⊗ a ⊗ b ⊕ c ⊗ c ⊗ a ⊕ ⊝ (a ⊗ c ⊕ a ⊗ c) ⊗ c ≐ a ⊗ (a ⊗ b ⊖ c ⊗ c)) tt a c (squares n v)
+
+  pub products-within : pos 0 ≤ℤ (squares n u *ℤ squares n v -ℤ dot n u v *ℤ dot n u v)
+  products-within = go (natAbs (squares n u)) (natural (squares n u) (squares-nonnegative n u))
+    where
+      rest : ℤ
+      rest = squares n u *ℤ squares n v -ℤ dot n u v *ℤ dot n u v
+
+      go : (k : ℕ) → squares n u ≡ pos k → pos 0 ≤ℤ rest
+      go zero none =
+          let still : dot n u v ≡ pos 0 = dot-comm n u v ∙ dot-zero n v u (squares-zero n u none) in
+          subst (λ (z : ℤ). pos 0 ≤ℤ z) (ring 1 (λ b. constant (pos 0) ≐ constant (pos 0) ⊗ b ⊖ constant (pos 0) ⊗ constant (pos 0)) tt (squares n v)
+          ∙ sym (ap₂ (λ (a c : ℤ). a *ℤ squares n v -ℤ c *ℤ c) none still)) (zero-≤ℤ-pos 0)
+      go (suc k) some = factor-natural k rest (subst (λ (z : ℤ). pos 0 ≤ℤ z) (apart-squares ∙ ap (λ (a : ℤ). a *ℤ rest) some) (squares-nonnegative n apart))
 
 -- ---- tables
 

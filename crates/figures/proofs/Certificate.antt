@@ -41,10 +41,8 @@ unfoldable pub quadrilateralCorrelates : List (List ℤ)
 quadrilateralCorrelates = rowOf quadrilateral 1 ∷ difference (rowOf quadrilateral 3) (rowOf quadrilateral 1) ∷ rowOf quadrilateral 8 ∷ []
 
 -- c of triangle i stands in its triangle alone, l of triangle i in its triangle and in corner i
-unfoldable pub pointInTriangleCorrelates : List (List ℤ)
-pointInTriangleCorrelates =
-    eachOf 3 (λ i. rowOf pointInTriangle (inner i) ∷ [])
-    ++ eachOf 3 (λ i. difference (rowOf pointInTriangle (left i)) (rowOf pointInTriangle (inner i)) ∷ [])
+unfoldable pub pointCorrelates : Description → List (List ℤ)
+pointCorrelates d = eachOf (d .n) (λ i. rowOf d (inner i) ∷ []) ++ eachOf (d .n) (λ i. difference (rowOf d (left i)) (rowOf d (inner i)) ∷ [])
 
 -- l of triangle i stands in its triangle alone, c of triangle 1 in its triangle and in the horizon
 unfoldable pub centralPolygonCorrelates : ℕ → List (List ℤ)
@@ -54,7 +52,7 @@ centralPolygonCorrelates n =
 
 unfoldable pub correlates : Figure → List (List ℤ)
 correlates Quadrilateral = quadrilateralCorrelates
-correlates PointInTriangle = pointInTriangleCorrelates
+correlates PointInTriangle = pointCorrelates pointInTriangle
 correlates CentralTriangle = centralPolygonCorrelates 3
 correlates CentralQuadrilateral = centralPolygonCorrelates 4
 correlates CentralPentagon = centralPolygonCorrelates 5

@@ -17,7 +17,7 @@ use Rattle.figures.specs.declared.Target.the-variants.{HalfTurn, FullTur
 use Rattle.figures.specs.Figure.{Condition, description, allFigures, denominator, angleCount, conditionCount, fixedCount, membersOf, targetOf}
 use Rattle.figures.specs.Numerators.{mostAngles, mostConditions, mostMembers}
 use Rattle.figures.proofs.LeastSquares.{Certified}
-use Rattle.figures.proofs.Certificate.{membership, joined, correlates, quadrilateralCorrelates, pointInTriangleCorrelates, centralPolygonCorrelates, rowOf, difference, equal, sameTables, certifies, certifiesFigure, certificate}
+use Rattle.figures.proofs.Certificate.{membership, joined, correlates, quadrilateralCorrelates, pointCorrelates, centralPolygonCorrelates, rowOf, difference, equal, sameTables, certifies, certifiesFigure, certificate}
 
 -- the list holds every figure, so a test that passes on the list passes on each
 pub each-figure : (test : Figure → Bool) → T (every test allFigures) → (f : Figure) → T (test f)
@@ -33,7 +33,7 @@ each-figure test t CentralOctagon = every-at test allFigures t 7 Quadrilateral (
 -- ---- the certificates
 
 all-certified : T (every certifiesFigure allFigures)
-unfolding certifiesFigure certifies sameTables composed dot sum membership joined correlates quadrilateralCorrelates pointInTriangleCorrelates centralPolygonCorrelates rowOf difference
+unfolding certifiesFigure certifies sameTables composed dot sum membership joined correlates quadrilateralCorrelates pointCorrelates centralPolygonCorrelates rowOf difference
 all-certified = tt
 
 pub certified : (f : Figure)

@@ -71,18 +71,22 @@ previous n j = cond (eqb j 1) n (j - 1)
 abbrev pub corner : ℕ → ℕ → Condition
 corner n j = record { angles = right (previous n j) ∷ left j ∷ []; target = FixedAngle j }
 
+-- code 2, a point inside n known corners
+abbrev pub pointInside : (n denominator : ℕ) → (rows : List (List ℤ)) → Description
+pointInside n denominator rows = record {
+  code = 2;
+  n = n;
+  denominator = denominator;
+  angleCount = 3 * n;
+  fixedCount = n;
+  conditions = eachOf n (λ i. triangle i ∷ []) ++ eachOf n (λ j. corner n j ∷ []);
+  rows = rows;
+  signs = triangleSigns n;
+}
+
 -- code 2, n = 3, a point in a known triangle
 abbrev pub pointInTriangle : Description
-pointInTriangle = record {
-  code = 2;
-  n = 3;
-  denominator = 10;
-  angleCount = 9;
-  fixedCount = 3;
-  conditions = eachOf 3 (λ i. triangle i ∷ []) ++ eachOf 3 (λ j. corner 3 j ∷ []);
-  rows = pointInTriangleRows;
-  signs = triangleSigns 3;
-}
+pointInTriangle = pointInside 3 10 pointInTriangleRows
 
 -- code 3: the angles at the inner point sum to 360°
 abbrev pub horizon : ℕ → Condition

@@ -38,16 +38,16 @@ quadrilateralSigns = eachOf 4 (λ i. pos 1 ∷ minus 1 ∷ [])
 abbrev pub around : ℕ → ℕ → List ℤ → List ℤ
 around n i coefficients = eachOf n (λ k. getD coefficients ((k + n - i) % n) (pos 0) ∷ [])
 
--- a row from its coefficients on t and on f, each as `around` takes them
-abbrev pub pointRow : ℕ → List ℤ → List ℤ → List ℤ
-pointRow i onT onF = around 3 i onT ++ around 3 i onF
+-- a row of triangle i of n from its coefficients on t and on f, each as `around` takes them
+abbrev pub pointRow : ℕ → ℕ → List ℤ → List ℤ → List ℤ
+pointRow n i onT onF = around n i onT ++ around n i onF
 
 -- c, l and r of triangle 1, of triangle 2, of triangle 3
 abbrev pub pointInTriangleRows : List (List ℤ)
 pointInTriangleRows = eachOf 3 (λ i.
-    pointRow i (minus 6 ∷ minus 2 ∷ minus 2 ∷ []) (pos 4 ∷ pos 4 ∷ pos 2 ∷ [])
-    ∷ pointRow i (minus 2 ∷ pos 0 ∷ pos 2 ∷ []) (minus 5 ∷ pos 1 ∷ minus 1 ∷ [])
-    ∷ pointRow i (minus 2 ∷ pos 2 ∷ pos 0 ∷ []) (pos 1 ∷ minus 5 ∷ minus 1 ∷ [])
+    pointRow 3 i (minus 6 ∷ minus 2 ∷ minus 2 ∷ []) (pos 4 ∷ pos 4 ∷ pos 2 ∷ [])
+    ∷ pointRow 3 i (minus 2 ∷ pos 0 ∷ pos 2 ∷ []) (minus 5 ∷ pos 1 ∷ minus 1 ∷ [])
+    ∷ pointRow 3 i (minus 2 ∷ pos 2 ∷ pos 0 ∷ []) (pos 1 ∷ minus 5 ∷ minus 1 ∷ [])
     ∷ [])
 
 -- ---- code 3: a row is own·w(i) + total·T + round·h, with T the sum of triangle misclosures w and h the horizon misclosure

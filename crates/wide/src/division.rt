@@ -44,7 +44,8 @@ pub(crate) fn nearest(n: Size, d: Size) -> Size
 // The quotient by a word may pass one word: its high word is that of the high words.
 fn divided(n: Size, d: Size) -> Quotient
     requires { ⌜ 0 < sizeOf d ⌝ }
-    ensures { λ quotient. ⌜ (sizeOf (quotient .size) * sizeOf d + sizeOf (quotient .rest) ≡ sizeOf n) × (sizeOf (quotient .rest) < sizeOf d) ⌝ }
+    ensures { λ quotient.
+        ⌜ (sizeOf (quotient .size) * sizeOf d + sizeOf (quotient .rest) ≡ sizeOf n) × (sizeOf (quotient .rest) < sizeOf d) ⌝ }
 {
     let mut high = 0;
     let mut left = n.high;
@@ -109,7 +110,8 @@ fn leading_zeros(word: u64) -> u32
     u64::leading_zeros(word)
 }
 
-// The high word after both have been moved up by so many places. A word cannot be moved down by 64 places in one step, so by one and the rest.
+// The high word after both have been moved up by so many places. A word cannot be moved down by 64 places in one step, so by one and
+// the rest.
 fn raised(a: Size, places: u32) -> u64
     requires { ⌜ (places < 64) × (a .high * 2 ^ places < radix) ⌝ }
     ensures { λ word. ⌜ word ≡ sizeOf a / 2 ^ (64 - places) ⌝ }

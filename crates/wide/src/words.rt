@@ -76,7 +76,8 @@ pub(crate) fn sizes_difference(a: Size, b: Size) -> Size
     }
 }
 
-// By halves of words, column by column with their carries, as in multiplying by hand: no product of halves, with two carries, passes a word.
+// By halves of words, column by column with their carries, as in multiplying by hand: no product of halves, with two carries, passes
+// a word.
 pub(crate) fn words_product(a: u64, b: u64) -> Size
     ensures { λ product. ⌜ sizeOf product ≡ a * b ⌝ }
 {

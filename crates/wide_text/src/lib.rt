@@ -1,5 +1,5 @@
-// Numbers wider than 64 bits laid as decimal text in a lent byte slice: document 01, "Sheets worked through". What a number's text is, and what a
-// text without room leaves, are definitions of `text`, and every public function answers every input as they say.
+// Numbers wider than 64 bits laid as decimal text in a lent byte slice: document 01, "Sheets worked through". What a number's text is, and
+// what a text without room leaves, are definitions of `text`, and every public function answers every input as they say.
 ghost use mathlib.Core.Path.{_≡_};
 ghost use Prim.Native.Nat.{_/_, _%_, _<_};
 ghost use lib.Dec.{ltb};

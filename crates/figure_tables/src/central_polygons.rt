@@ -302,13 +302,17 @@ impl CentralOctagon {
     }
 }
 
+// No side of a central polygon is known.
+const SIDES: usize = 0;
+
 fn counts_from(denominator: u32, angles: usize, conditions: usize, fixed: usize) -> Counts
-    ensures { λ counts. ⌜ counts ≡ countsFrom denominator angles conditions fixed ⌝ }
+    ensures { λ counts. ⌜ counts ≡ countsFrom denominator angles conditions fixed 0 ⌝ }
 {
     Counts {
         denominator,
         angles,
         conditions,
         fixed,
+        sides: SIDES,
     }
 }

@@ -18,6 +18,8 @@ impl Quadrilateral {
 
     pub const FIXED: usize = 0;
 
+    pub const SIDES: usize = 0;
+
     pub(crate) fn counts() -> Counts
         ensures { λ counts. ⌜ counts ≡ countsOf Figure.Quadrilateral ⌝ }
     {
@@ -26,6 +28,7 @@ impl Quadrilateral {
             angles: Self::ANGLES,
             conditions: Self::CONDITIONS,
             fixed: Self::FIXED,
+            sides: Self::SIDES,
         }
     }
 

@@ -2,7 +2,7 @@
 ghost use mathlib.Core.Path.{_≡_};
 ghost use lib.IntN.{pos};
 ghost use lib.ListN.{take};
-ghost use Rattle.figures.specs.Figure.{description, angleCount, countsOf};
+ghost use Rattle.figures.specs.Figure.{angleCount, countsOf, pole};
 ghost use Rattle.figures.specs.Numerators.{mostAngles};
 ghost use Rattle.figures.specs.Rows.{quadrilateralSigns, triangleSigns};
 ghost use Rattle.whole.specs.Lists.{padded};
@@ -42,7 +42,7 @@ pub fn counts_of(figure: Figure) -> Counts
 pub type Signs = [i32; MOST_ANGLES];
 
 pub fn signs_of(figure: Figure) -> Signs
-    ensures { λ signs. ⌜ take (angleCount figure) signs ≡ description figure .signs ⌝ }
+    ensures { λ signs. ⌜ take (angleCount figure) signs ≡ pole figure .signs ⌝ }
 {
     match figure {
         Figure::Quadrilateral => quadrilateral_signs(),

@@ -18,6 +18,8 @@ impl PointInTriangle {
 
     pub const FIXED: usize = 3;
 
+    pub const SIDES: usize = 0;
+
     pub const TRIANGLES: usize = 3;
 
     pub(crate) fn counts() -> Counts
@@ -28,6 +30,7 @@ impl PointInTriangle {
             angles: Self::ANGLES,
             conditions: Self::CONDITIONS,
             fixed: Self::FIXED,
+            sides: Self::SIDES,
         }
     }
 

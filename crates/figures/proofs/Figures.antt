@@ -3,19 +3,19 @@
 use mathlib.Core.Path.{_≡_, sym, subst}
 use mathlib.Core.Bool.{Bool, true, false, not, _&&_, _||_}
 use mathlib.Core.List.{List, [], _∷_}
-use Prim.Native.Nat.{ℕ, suc, _≤_, _<_}
+use Prim.Native.Nat.{ℕ, zero, suc, _≤_, _<_, zero-le}
 use lib.Dec.{T, eqb, leb, eqb→eq, leb→le, lit<}
-use lib.ListN.{length, getD}
-use lib.IntN.{ℤ, pos, negsuc}
+use lib.ListN.{length, getD, List·getD-eq-default}
+use lib.IntN.{ℤ, pos, natAbs}
 use Rattle.whole.specs.Sums.{sum, dot, composed, table}
 use Rattle.whole.specs.Lists.{every, everyBelow}
-use Rattle.whole.proofs.Computed.{every-at, every-below}
+use Rattle.whole.proofs.Computed.{and-left, and-right, every-at, every-below}
 use Rattle.figures.specs.declared.Figure.{Figure}
 use Rattle.figures.specs.declared.Figure.the-variants.{Quadrilateral, PointInTriangle, CentralTriangle, CentralQuadrilateral, CentralPentagon, CentralHexagon, CentralHeptagon, CentralOctagon}
 use Rattle.figures.specs.declared.Target.{Target}
 use Rattle.figures.specs.declared.Target.the-variants.{HalfTurn, FullTurn, FixedAngle, NoCondition}
-use Rattle.figures.specs.Figure.{Condition, description, allFigures, denominator, angleCount, conditionCount, fixedCount, membersOf, targetOf}
-use Rattle.figures.specs.Numerators.{mostAngles, mostConditions, mostMembers}
+use Rattle.figures.specs.Figure.{Condition, SineCondition, description, allFigures, denominator, angleCount, conditionCount, fixedCount, membersOf, targetOf, pole, side, hasSide, noSine}
+use Rattle.figures.specs.Numerators.{mostAngles, mostConditions, mostMembers, mostSides}
 use Rattle.figures.proofs.LeastSquares.{Certified}
 use Rattle.figures.proofs.Certificate.{membership, joined, correlates, quadrilateralCorrelates, pointCorrelates, centralPolygonCorrelates, rowOf, difference, equal, sameTables, certifies, certifiesFigure, certificate}
 
@@ -49,7 +49,7 @@ abbrev pub isBit : ℤ → Bool
 isBit z = equal z (pos 0) || equal z (pos 1)
 
 abbrev pub isSign : ℤ → Bool
-isSign z = isBit z || equal z (negsuc 0)
+isSign z = leb (natAbs z) 1
 
 abbrev pub someBelow : ℕ → (ℕ → Bool) → Bool
 someBelow n test = not (everyBelow n (λ i. not (test i)))
@@ -68,12 +68,22 @@ isGiven fixed NoCondition = false
 abbrev pub none : Condition
 none = record { angles = []; target = NoCondition }
 
+-- a sine condition has a sign of 1, −1 or 0 for each angle, and for each of at most two sides
+pub record Signed (f : Figure) (c : SineCondition) : Type 0 where
+  pub sign-count : length (c .signs) ≡ angleCount f
+  pub sign-small : (i : ℕ) → natAbs (getD (c .signs) i (pos 0)) ≤ 1
+  pub side-small : (i : ℕ) → natAbs (getD (c .sides) i (pos 0)) ≤ 1
+  pub side-few : length (c .sides) ≤ mostSides
+
+abbrev isSigned : Figure → SineCondition → Bool
+isSigned f c = eqb (length (c .signs)) (angleCount f) && (every isSign (c .signs) && (every isSign (c .sides) && leb (length (c .sides)) mostSides))
+
 abbrev sound : Figure → List Bool
 sound f =
     eqb (length (description f .rows)) (angleCount f)
     ∷ every (λ row. eqb (length row) (conditionCount f)) (description f .rows)
-    ∷ eqb (length (description f .signs)) (angleCount f)
-    ∷ every isSign (description f .signs)
+    ∷ isSigned f (pole f)
+    ∷ isSigned f (side f)
     ∷ everyBelow (conditionCount f) (λ j. everyBelow (angleCount f) (λ i. isBit (membership (description f) j i)))
     ∷ everyBelow (angleCount f) (λ i. someBelow (conditionCount f) (λ j. equal (membership (description f) j i) (pos 1)))
     ∷ every (λ (c : Condition). every (isAmong (angleCount f)) (c .angles)) (description f .conditions)
@@ -82,6 +92,7 @@ sound f =
     ∷ leb 1 (denominator f)
     ∷ leb (angleCount f) mostAngles
     ∷ leb (conditionCount f) mostConditions
+    ∷ (leb (length (description f .sines)) 1 || hasSide f)
     ∷ []
 
 abbrev isSound : Figure → Bool
@@ -91,7 +102,7 @@ all-sound : T (every isSound allFigures)
 unfolding membership joined
 all-sound = tt
 
-passed : (f : Figure) (k : ℕ) → k < 12 → T (getD (sound f) k false)
+passed : (f : Figure) (k : ℕ) → k < 13 → T (getD (sound f) k false)
 passed f k h = every-at (λ b. b) (sound f) (each-figure isSound all-sound f) k false h
 
 pub row-count : (f : Figure) → length (description f .rows) ≡ angleCount f
@@ -102,11 +113,28 @@ column-count f i h =
     eqb→eq (length (getD (description f .rows) i [])) (conditionCount f)
     (every-at (λ row. eqb (length row) (conditionCount f)) (description f .rows) (passed f 1 (lit< tt)) i [] (subst (λ (n : ℕ). i < n) (sym (row-count f)) h))
 
-pub sign-count : (f : Figure) → length (description f .signs) ≡ angleCount f
-sign-count f = eqb→eq (length (description f .signs)) (angleCount f) (passed f 2 (lit< tt))
+unit-at : (signs : List ℤ) → T (every isSign signs) → (i : ℕ) → natAbs (getD signs i (pos 0)) ≤ 1
+unit-at [] t i = zero-le
+unit-at (z ∷ signs) t zero = leb→le (natAbs z) 1 (and-left (isSign z) (every isSign signs) t)
+unit-at (z ∷ signs) t (suc i) = unit-at signs (and-right (isSign z) (every isSign signs) t) i
 
-pub sign-of-one : (f : Figure) (i : ℕ) → i < angleCount f → T (isSign (getD (description f .signs) i (pos 0)))
-sign-of-one f i h = every-at isSign (description f .signs) (passed f 3 (lit< tt)) i (pos 0) (subst (λ (n : ℕ). i < n) (sym (sign-count f)) h)
+signed-from : (f : Figure) (c : SineCondition) → T (isSigned f c) → Signed f c
+signed-from f c t =
+    let rest = and-right (eqb (length (c .signs)) (angleCount f)) (every isSign (c .signs) && (every isSign (c .sides) && leb (length (c .sides)) mostSides)) t in
+    let sides = and-right (every isSign (c .signs)) (every isSign (c .sides) && leb (length (c .sides)) mostSides) rest in
+    record {
+      sign-count = eqb→eq (length (c .signs)) (angleCount f) (and-left (eqb (length (c .signs)) (angleCount f)) _ t);
+      sign-small = unit-at (c .signs) (and-left (every isSign (c .signs)) _ rest);
+      side-small = unit-at (c .sides) (and-left (every isSign (c .sides)) _ sides);
+      side-few = leb→le (length (c .sides)) mostSides (and-right (every isSign (c .sides)) (leb (length (c .sides)) mostSides) sides);
+    }
+
+-- both sine conditions, that of a figure which has only one included
+pub pole-signed : (f : Figure) → Signed f (pole f)
+pole-signed f = signed-from f (pole f) (passed f 2 (lit< tt))
+
+pub side-signed : (f : Figure) → Signed f (side f)
+side-signed f = signed-from f (side f) (passed f 3 (lit< tt))
 
 -- an angle stands in a condition once or not at all
 pub joins-once : (f : Figure) (j i : ℕ) → j < conditionCount f → i < angleCount f → T (isBit (membership (description f) j i))
@@ -139,3 +167,14 @@ angle-bound f = leb→le (angleCount f) mostAngles (passed f 10 (lit< tt))
 
 pub condition-bound : (f : Figure) → conditionCount f ≤ mostConditions
 condition-bound f = leb→le (conditionCount f) mostConditions (passed f 11 (lit< tt))
+
+-- a figure without a second sine condition has none that says anything
+pub side-absent : (f : Figure) → hasSide f ≡ false → side f ≡ noSine f
+side-absent f none = List·getD-eq-default (description f .sines) (noSine f) (leb→le (length (description f .sines)) 1 (left (passed f 12 (lit< tt))))
+  where
+    left : T (leb (length (description f .sines)) 1 || hasSide f) → T (leb (length (description f .sines)) 1)
+    left t = alone (leb (length (description f .sines)) 1) (subst (λ (b : Bool). T (leb (length (description f .sines)) 1 || b)) none t)
+      where
+        alone : (a : Bool) → T (a || false) → T a
+        alone true t = tt
+        alone false t = t

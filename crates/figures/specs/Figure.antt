@@ -1,10 +1,10 @@
 -- The eight figures of document 01, "The eight figures", in its numbering: corners, triangles, angles, conditions and fixed angles count from 1.
 use Prim.Native.Nat.{ℕ, zero, suc, _+_, _-_, _*_}
-use mathlib.Core.Bool.{cond, _&&_}
+use mathlib.Core.Bool.{Bool, cond, _&&_}
 use mathlib.Core.List.{List, [], _∷_, _++_, map}
 use lib.Dec.{eqb}
-use lib.ListN.{length, getD}
-use lib.IntN.{ℤ}
+use lib.ListN.{length, getD, replicate}
+use lib.IntN.{ℤ, pos}
 use Rattle.figures.specs.declared.Figure.{Figure}
 use Rattle.figures.specs.declared.Figure.the-variants.{Quadrilateral, PointInTriangle, CentralTriangle, CentralQuadrilateral, CentralPentagon, CentralHexagon, CentralHeptagon, CentralOctagon}
 use Rattle.figures.specs.declared.Named.{Named}
@@ -20,6 +20,11 @@ pub record Condition : Type 0 where
   pub angles : List ℕ
   pub target : Target
 
+-- a sine condition: the signs of the angles' log-sines, and those of known log sides
+pub record SineCondition : Type 0 where
+  pub signs : List ℤ
+  pub sides : List ℤ
+
 -- all that document 01 says of a figure; the exact correction of an angle is its row over the denominator
 pub record Description : Type 0 where
   pub code : ℕ
@@ -29,7 +34,11 @@ pub record Description : Type 0 where
   pub fixedCount : ℕ
   pub conditions : List Condition
   pub rows : List (List ℤ)
-  pub signs : List ℤ
+  pub sines : List SineCondition
+
+-- "Sine signs": the condition that every figure has, the pole, in which no known side stands
+abbrev pub poleOf : (signs : List ℤ) → SineCondition
+poleOf signs = record { signs = signs; sides = [] }
 
 -- ---- code 1, n = 0, the geodetic quadrilateral
 
@@ -45,7 +54,7 @@ quadrilateral = record {
       ∷ record { angles = 3 ∷ 4 ∷ 5 ∷ 6 ∷ []; target = HalfTurn }
       ∷ record { angles = 5 ∷ 6 ∷ 7 ∷ 8 ∷ []; target = HalfTurn } ∷ [];
   rows = quadrilateralRows;
-  signs = quadrilateralSigns;
+  sines = poleOf quadrilateralSigns ∷ [];
 }
 
 -- ---- codes 2 and 3: triangle i stands on outer corners i and i+1, indices cyclic
@@ -81,7 +90,7 @@ pointInside n denominator rows = record {
   fixedCount = n;
   conditions = eachOf n (λ i. triangle i ∷ []) ++ eachOf n (λ j. corner n j ∷ []);
   rows = rows;
-  signs = triangleSigns n;
+  sines = poleOf (triangleSigns n) ∷ [];
 }
 
 -- code 2, n = 3, a point in a known triangle
@@ -102,7 +111,7 @@ centralPolygon n = record {
   fixedCount = 0;
   conditions = eachOf n (λ i. triangle i ∷ []) ++ (horizon n ∷ []);
   rows = centralPolygonRows n;
-  signs = triangleSigns n;
+  sines = poleOf (triangleSigns n) ∷ [];
 }
 
 -- ---- all figures
@@ -155,11 +164,29 @@ conditionCount f = length (description f .conditions)
 abbrev pub fixedCount : Figure → ℕ
 fixedCount f = description f .fixedCount
 
-abbrev pub countsFrom : (denominator angles conditions fixed : ℕ) → Counts
-countsFrom d a c f = record { denominator = d; angles = a; conditions = c; fixed = f }
+-- the sine condition that stands in the place of one that a figure has not: in it no angle and no side has a sign
+abbrev pub noSine : Figure → SineCondition
+noSine f = record { signs = replicate (angleCount f) (pos 0); sides = [] }
+
+-- the first sine condition of a figure, the pole, and its second, from known sides
+abbrev pub pole : Figure → SineCondition
+pole f = getD (description f .sines) 0 (noSine f)
+
+abbrev pub side : Figure → SineCondition
+side f = getD (description f .sines) 1 (noSine f)
+
+abbrev pub hasSide : Figure → Bool
+hasSide f = eqb (length (description f .sines)) 2
+
+-- how many known log sides a sheet of the figure has
+abbrev pub sideCount : Figure → ℕ
+sideCount f = length (side f .sides)
+
+abbrev pub countsFrom : (denominator angles conditions fixed sides : ℕ) → Counts
+countsFrom d a c f s = record { denominator = d; angles = a; conditions = c; fixed = f; sides = s }
 
 abbrev pub countsOf : Figure → Counts
-countsOf f = countsFrom (denominator f) (angleCount f) (conditionCount f) (fixedCount f)
+countsOf f = countsFrom (denominator f) (angleCount f) (conditionCount f) (fixedCount f) (sideCount f)
 
 -- the angles of condition j, and what they should sum to; of a j that is no condition's number, no angles and no sum
 abbrev pub conditionAt : Figure → ℕ → Condition

@@ -24,7 +24,7 @@ numerator f w i = applied (conditionCount f) (table (description f .rows)) w i
 unfoldable pub reducedCoefficient : Figure → (ℕ → ℤ) → ℕ → ℤ
 reducedCoefficient f d i = pos (denominator f) *ℤ d i +ℤ numerator f (conditionSum f d) i
 
--- no figure has more conditions, more angles, or more angles in a condition
+-- no figure has more conditions, more angles, more angles in a condition, or more known sides
 abbrev pub mostConditions : ℕ
 mostConditions = 9
 
@@ -33,6 +33,9 @@ mostAngles = 24
 
 abbrev pub mostMembers : ℕ
 mostMembers = 8
+
+abbrev pub mostSides : ℕ
+mostSides = 2
 
 -- the natural table brought to one size, filled with 0
 abbrev pub paddedRows : Figure → List (List ℤ)

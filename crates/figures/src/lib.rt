@@ -40,6 +40,7 @@ pub struct Counts {
     pub angles: usize,
     pub conditions: usize,
     pub fixed: usize,
+    pub sides: usize,
 }
 
 // The most that a figure has of each, which is how long the arrays are.

@@ -13,7 +13,7 @@ use Rattle.refusals.specs.Order.{Row, judged}
 use Rattle.refusals.specs.Ranges.{mostTolerance}
 use Rattle.refusals.specs.Table.{figureRow, lengthsRow, limitOrToleranceRow, anglesRow, resultsRow, sineEntriesRow, sineMisclosureRow, sumOfSquaresRow}
 use Rattle.figures.specs.declared.Figure.{Figure}
-use Rattle.figures.specs.Figure.{description, denominator, angleCount, conditionCount, figureOf, figureNames, ofNamed}
+use Rattle.figures.specs.Figure.{denominator, angleCount, conditionCount, pole, figureOf, figureNames, ofNamed}
 use Rattle.figures.specs.Numerators.{conditionSum, reducedCoefficient}
 use Rattle.pass_rules.specs.declared.second.SecondAnswer.{SecondAnswer}
 use Rattle.pass_rules.specs.declared.second.SecondAnswer.the-variants.{Done, Refused}
@@ -27,7 +27,7 @@ toleranceOf = inForce 10
 
 -- the sine sign of an angle: 1, −1, or 0
 abbrev pub sineSign : Figure → ℕ → ℤ
-sineSign f = vector (description f .signs)
+sineSign f = vector (pole f .signs)
 
 -- d is the signed sine difference
 unfoldable pub signedDifference : Figure → (differences : List ℤ) → ℕ → ℤ

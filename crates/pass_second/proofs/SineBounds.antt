@@ -1,7 +1,6 @@
 -- How large the numbers of the sine condition can be, of every figure at once. Assumes nothing.
-use mathlib.Core.Bool.{Bool}
-use mathlib.Core.List.{List, [], _∷_}
-use Prim.Native.Nat.{ℕ, zero, suc, _*_, _≤_, zero-le}
+use mathlib.Core.List.{List}
+use Prim.Native.Nat.{ℕ, _*_, _≤_}
 use native.Mathlib.Nat.{le-trans, mul-le-mul-right}
 use native.Mathlib.Omega.{arith}
 use lib.Dec.{T, leb, leb→le}
@@ -9,14 +8,13 @@ use lib.IntN.{ℤ, pos, natAbs, _+ℤ_, _*ℤ_}
 use lib.Signed.{_≤ℤ_}
 use Rattle.whole.specs.Lists.{every}
 use Rattle.whole.specs.Sums.{dot, vector}
-use Rattle.whole.proofs.Computed.{and-left, and-right}
 use Rattle.whole.proofs.Magnitudes.{natAbs-add}
 use Rattle.whole.proofs.Sums.{sum-magnitude, squares-nonnegative}
 use Rattle.refusals.specs.Ranges.{mostLogSine, mostDifference}
 use Rattle.figures.specs.declared.Figure.{Figure}
-use Rattle.figures.specs.Figure.{description, denominator, angleCount, allFigures}
+use Rattle.figures.specs.Figure.{denominator, angleCount, allFigures}
 use Rattle.figures.specs.Numerators.{conditionSum, numerator, reducedCoefficient, mostAngles, mostMembers}
-use Rattle.figures.proofs.Figures.{each-figure, angle-bound}
+use Rattle.figures.proofs.Figures.{each-figure, angle-bound, pole-signed}
 use Rattle.pass_rules.specs.Pass.{given}
 use Rattle.pass_rules.specs.SecondPass.{sineSign, signedDifference, secondReduced, sineMisclosure, differenceSquares}
 use Rattle.pass_steps.specs.Premises.{Within, LogSines, mostDenominator, mostReduced, mostTaken}
@@ -25,19 +23,8 @@ use Rattle.pass_second.proofs.Exact.{product-magnitude}
 
 -- ---- signs and denominators, by one test over all figures
 
-abbrev unit : ℤ → Bool
-unit z = leb (natAbs z) 1
-
-all-units : T (every (λ f. every unit (description f .signs)) allFigures)
-all-units = tt
-
-unit-at : (signs : List ℤ) → T (every unit signs) → (i : ℕ) → natAbs (vector signs i) ≤ 1
-unit-at [] t i = zero-le
-unit-at (z ∷ signs) t zero = leb→le (natAbs z) 1 (and-left (unit z) (every unit signs) t)
-unit-at (z ∷ signs) t (suc i) = unit-at signs (and-right (unit z) (every unit signs) t) i
-
 pub sign-magnitude : (f : Figure) (i : ℕ) → natAbs (sineSign f i) ≤ 1
-sign-magnitude f i = unit-at (description f .signs) (each-figure (λ g. every unit (description g .signs)) all-units f) i
+sign-magnitude f i = pole-signed f .sign-small i
 
 all-denominators : T (every (λ f. leb (denominator f) mostDenominator) allFigures)
 all-denominators = tt

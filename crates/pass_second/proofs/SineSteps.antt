@@ -11,7 +11,7 @@ use Rattle.whole.proofs.Lists.{listed-ext}
 use Rattle.whole.proofs.Sums.{dot-ext, squares-ext}
 use Rattle.refusals.specs.Ranges.{mostDifference}
 use Rattle.figures.specs.declared.Figure.{Figure}
-use Rattle.figures.specs.Figure.{description, denominator, angleCount, conditionCount}
+use Rattle.figures.specs.Figure.{denominator, angleCount, conditionCount, pole}
 use Rattle.figures.specs.Numerators.{conditionSum, numerator, reducedCoefficient}
 use Rattle.pass_rules.specs.Pass.{given}
 use Rattle.pass_rules.specs.SecondPass.{sineSign, signedDifference, secondReduced, sineMisclosure, sumOfSquares, differenceSquares, reducedOf}
@@ -45,7 +45,7 @@ module _ (f : Figure) (d : List ℤ) where
 
 -- ---- what the signs give
 
-module _ (f : Figure) (signs : List ℤ) (own : take (angleCount f) signs ≡ description f .signs) where
+module _ (f : Figure) (signs : List ℤ) (own : take (angleCount f) signs ≡ pole f .signs) where
   sign-at : (i : ℕ) → i < angleCount f → vector signs i ≡ sineSign f i
   sign-at i h = sym (getD-take (angleCount f) signs i (pos 0) h) ∙ ap (λ (l : List ℤ). vector l i) own
 

@@ -1,5 +1,5 @@
--- Two words and the number that they are worth: the words of a number, joined, are the number, and two words are those of what they join to.
--- Assumes nothing.
+-- Two words and the number that they are worth: the words of a number, joined, are the number, and two words are those of what they
+-- join to. Assumes nothing.
 use mathlib.Core.Path.{_≡_, refl, sym, ap, _∙_}
 use Prim.Native.Nat.{ℕ, suc, _+_, _-_, _*_, _/_, _%_, _^_, _<_}
 use native.Mathlib.Nat.{div-add-mod', mod-lt}
@@ -94,7 +94,8 @@ pub raised-plain : (high low : ℕ) → low ≡ 0 → sizeOf (record { high = hi
 unfolding sizeOf
 raised-plain high low e = omega arith
 
-pub raised-borrowed : (high low left : ℕ) → 0 < high → left + low ≡ 2 ^ 64 → sizeOf (record { high = high - 1; low = left }) + low ≡ high * radix
+pub raised-borrowed : (high low left : ℕ) → 0 < high → left + low ≡ 2 ^ 64
+    → sizeOf (record { high = high - 1; low = left }) + low ≡ high * radix
 unfolding sizeOf
 raised-borrowed high low left some e =
     let back : high - 1 + 1 ≡ high = omega arith in

@@ -59,7 +59,8 @@ module _ (s : Size) (l : s .low < 2 ^ 64) where
       (ap wordsFrom (reached-near (pos (sizeOf s)) (size-reached s h l))
       ∙ (λ k. record { high = pos (size-high s l k); low = size-low s l k }))
 
-  pub words-below : s .high < 2 ^ 63 → record { high = negsuc (s .high); low = 2 ^ 64 - 1 - s .low } ≡ wordsFrom (reached (negsuc (sizeOf s)))
+  pub words-below : s .high < 2 ^ 63
+      → record { high = negsuc (s .high); low = 2 ^ 64 - 1 - s .low } ≡ wordsFrom (reached (negsuc (sizeOf s)))
   unfolding wordsFrom highWord lowWord
   words-below h =
       sym

@@ -1,4 +1,5 @@
--- A whole number as two words in two's complement: a high word with a sign, a low word without. What two words are worth, and which two a number is.
+-- A whole number as two words in two's complement: a high word with a sign, a low word without. What two words are worth, and which two
+-- a number is.
 use mathlib.Core.Bool.{cond}
 use Prim.Native.Nat.{ℕ, _-_, _/_, _%_, _^_}
 use lib.Dec.{ltb}
@@ -23,6 +24,7 @@ lowWord (negsuc n) = radix - 1 - n % radix
 unfoldable pub wordsFrom : ℤ → Words
 wordsFrom z = record { high = highWord z; low = lowWord z }
 
--- What two words reach of a number: the number from −2^127 to 2^127 − 1, and else 0. (`mag` counts 0, 1, 2, .. and −1, −2, −3, .. alike from 0.)
+-- What two words reach of a number: the number from −2^127 to 2^127 − 1, and else 0. (`mag` counts 0, 1, 2, .. and −1, −2, −3, .. alike
+-- from 0.)
 unfoldable pub reached : ℤ → ℤ
 reached z = cond (ltb (mag z) (2 ^ 127)) z (pos 0)

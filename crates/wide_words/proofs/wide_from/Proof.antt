@@ -33,7 +33,8 @@ returns c =
     let args = c .before .before .before .args in
     let high = mag (args .high) in
     signed-below (sizeOf (c .raised-less .result))
-    ∙ joined-less high (sizeOf (c .raised-less .result)) (args .low) (c .raised-less .ensures ∙ ap (λ (n : ℕ). n * radix) (raised (c .before)))
+    ∙ joined-less high (sizeOf (c .raised-less .result)) (args .low)
+    (c .raised-less .ensures ∙ ap (λ (n : ℕ). n * radix) (raised (c .before)))
     ∙ sym (ap (λ (z : ℤ). joined z (args .low)) (negative (c .before)))
 
 returns-2 : tie.Need-returns-2
@@ -41,8 +42,10 @@ unfolding valueOf
 returns-2 c =
     let args = c .before .before .args in
     let high = c .before .magnitude .result in
-    let plain : args .high ≡ pos high = not-below-zero w64 (args .high) (c .before .before .fits .high) (c .if1 .left) ∙ ap pos (sym (magnitude (c .before))) in
-    signed-above (sizeOf (record { high = high; low = args .low })) ∙ joined-above high (args .low) ∙ sym (ap (λ (z : ℤ). joined z (args .low)) plain)
+    let plain : args .high ≡ pos high =
+    not-below-zero w64 (args .high) (c .before .before .fits .high) (c .if1 .left) ∙ ap pos (sym (magnitude (c .before))) in
+    signed-above (sizeOf (record { high = high; low = args .low })) ∙ joined-above high (args .low)
+    ∙ sym (ap (λ (z : ℤ). joined z (args .low)) plain)
 
 pub wide-from-spec : {M : Type 1} → statement M
 wide-from-spec = tie.close (tie.spec (λ c κs. search needs) raised-less-requires returns returns-2)

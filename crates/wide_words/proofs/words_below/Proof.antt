@@ -1,4 +1,4 @@
--- `wide_words::words_below` meets its contract: −1 less a word is the word's complement, and in range where the high one has room for a sign.
+-- `wide_words::words_below` meets its contract: −1 less a word is its complement, in range where the high word has room for a sign.
 use mathlib.Core.Path.{_≡_, ap, _∙_}
 use native.Mathlib.Omega.{arith}
 use borrow.Author.Needs.{needs}

@@ -1,28 +1,38 @@
 -- `wide_words::words_of` meets its contract: a number below zero is −1 less one less than its size.
-use mathlib.Core.Path.{sym, ap, _∙_}
+use mathlib.Core.Path.{_≡_, sym, ap, _∙_}
 use Prim.Native.Nat.{ℕ}
 use borrow.Author.Needs.{needs}
 use lib.IntN.{ℤ, negsuc}
+use Rattle.wide.specs.Wide.{valueOf}
+use Rattle.wide.specs.declared.Wide.{Wide}
 use Rattle.wide_words.specs.Words.{wordsFrom, reached}
 use Rattle.wide_words.proofs.Reaching.{value-some, value-below, value-above}
 use Rattle.wide_words.proofs.words_of.Statement.{statement}
 use Rattle.wide_words.proofs.words_of.Tie as tie
 
+module _ (c : tie.After-is-negative) where
+  abbrev a : Wide
+  a = c .before .before .args .a
+
+  -- the words of the number, once its value is known
+  words-at : (z : ℤ) → valueOf a ≡ z → wordsFrom (reached z) ≡ wordsFrom (reached (valueOf a))
+  words-at z e = sym (ap (λ (z : ℤ). wordsFrom (reached z)) e)
+
 one-less-requires : tie.Need-one-less-requires
-one-less-requires c κs = value-some (c .before .before .before .args .a) (sym (c .before .is-negative .ensures) ∙ c .if1 .taken)
+one-less-requires c κs = value-some (a (c .before)) (sym (c .before .is-negative .ensures) ∙ c .if1 .taken)
 
 returns : tie.Need-returns
 returns c =
     let less = c .before in
     let test = less .before in
     c .words-below .ensures ∙ ap (λ (n : ℕ). wordsFrom (reached (negsuc n))) (less .one-less .ensures)
-    ∙ sym (ap (λ (z : ℤ). wordsFrom (reached z)) (value-below (test .before .before .before .args .a) (sym (test .before .is-negative .ensures) ∙ test .if1 .taken)))
+    ∙ words-at (test .before) _ (value-below (a (test .before)) (sym (test .before .is-negative .ensures) ∙ test .if1 .taken))
 
 returns-2 : tie.Need-returns-2
 returns-2 c =
     let test = c .before in
     c .words-above .ensures
-    ∙ sym (ap (λ (z : ℤ). wordsFrom (reached z)) (value-above (test .before .before .before .args .a) (sym (test .before .is-negative .ensures) ∙ test .if1 .left)))
+    ∙ words-at (test .before) _ (value-above (a (test .before)) (sym (test .before .is-negative .ensures) ∙ test .if1 .left))
 
 pub words-of-spec : {M : Type 1} → statement M
 words-of-spec =

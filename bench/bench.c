@@ -34,6 +34,7 @@ static const struct {
     [READ] = {6, 0},
     [FIRST_PASS] = {1.35, 1.6},
     [SECOND_PASS] = {1.35, 1.6},
+    [TWO_SINES] = {3, 0},
     [REPORT] = {2.2, 0},
 };
 
@@ -152,7 +153,7 @@ static void print_stack(const struct bench *bench)
     for (enum operation operation = LOOK; operation < WHOLE_SHEET; operation++) {
         const size_t our_depth = deepest(&ours, operation, bench->tasks, bench->count);
         const size_t peer_depth = deepest(&peer, operation, bench->tasks, bench->count);
-        const bool pass = operation == FIRST_PASS || operation == SECOND_PASS;
+        const bool pass = operation >= FIRST_PASS && operation <= TWO_SINES;
         printf("%-22s %9zu %9zu       ", operation_names[operation], our_depth, peer_depth);
         print_goal((double)our_depth, pass ? STACK_GOAL_OF_A_PASS : STACK_GOAL, 0);
         putchar('\n');

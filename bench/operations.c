@@ -10,15 +10,24 @@ const struct library ours = {"library", bienguloc_look, bienguloc_read, biengulo
     bienguloc_report};
 const struct library peer = {"peer", peer_look, peer_read, peer_write, peer_first_pass, peer_second_pass, peer_report};
 
-const char *const operation_names[OPERATIONS] = {"look", "read", "write", "first pass", "second pass", "report",
+const char *const operation_names[OPERATIONS] = {"look", "read", "write", "first pass", "second pass", "second pass, two sines", "report",
     "a sheet worked through"};
 
 enum { MOST_TASKS = 1024 };
 
 bool takes(enum operation operation, const struct task *task)
 {
-    const uint32_t kind = task->head[BIENGULOC_HEAD_KIND];
-    return (operation != FIRST_PASS || kind == 1) && (operation != SECOND_PASS || kind == 2);
+    const uint32_t kind = task->head[BIENGULOC_HEAD_KIND], log_sides = task->head[BIENGULOC_LOOK_LOG_SIDES];
+    switch (operation) {
+    case FIRST_PASS:
+        return kind == 1;
+    case SECOND_PASS:
+        return kind == 2 && log_sides == 0;
+    case TWO_SINES:
+        return log_sides != 0;
+    default:
+        return true;
+    }
 }
 
 static uint32_t look(const struct library *library, const struct task *task, uint32_t *head)
@@ -30,7 +39,8 @@ static uint32_t read_values(const struct library *library, const struct task *ta
 {
     const size_t sines = head[BIENGULOC_LOOK_LOG_SINES];
     return library->read(task->sheet, task->size, values->head, BIENGULOC_READ_HEAD, values->angles, head[BIENGULOC_LOOK_ANGLES],
-        values->fixed, head[BIENGULOC_LOOK_FIXED], values->log_sines, sines, values->differences, sines);
+        values->fixed, head[BIENGULOC_LOOK_FIXED], values->log_sines, sines, values->differences, sines, values->log_sides,
+        head[BIENGULOC_LOOK_LOG_SIDES]);
 }
 
 static uint32_t write_values(const struct library *library, const struct task *task, struct desk *desk)
@@ -38,7 +48,8 @@ static uint32_t write_values(const struct library *library, const struct task *t
     const struct values *v = &task->values;
     const size_t sines = task->head[BIENGULOC_LOOK_LOG_SINES];
     return library->write(v->head[0], v->head[1], v->head[2], v->head[3], v->angles, task->head[BIENGULOC_LOOK_ANGLES], v->fixed,
-        task->head[BIENGULOC_LOOK_FIXED], v->log_sines, sines, v->differences, sines, desk->sheet, task->size);
+        task->head[BIENGULOC_LOOK_FIXED], v->log_sines, sines, v->differences, sines, v->log_sides, task->head[BIENGULOC_LOOK_LOG_SIDES],
+        desk->sheet, task->size);
 }
 
 static uint32_t first_pass(const struct library *library, const uint32_t *head, const struct values *v, struct desk *desk)
@@ -50,10 +61,11 @@ static uint32_t first_pass(const struct library *library, const uint32_t *head, 
 
 static uint32_t second_pass(const struct library *library, const uint32_t *head, const struct values *v, struct desk *desk)
 {
-    const size_t angles = head[BIENGULOC_LOOK_ANGLES];
+    const size_t angles = head[BIENGULOC_LOOK_ANGLES], log_sides = head[BIENGULOC_LOOK_LOG_SIDES];
     return library->second_pass(v->head[1], v->head[2], v->head[3], v->angles, angles, v->log_sines, angles, v->differences, angles,
-        desk->sums, 2, desk->reduced, angles, desk->wide_numerators, angles, desk->rounded, angles, desk->results, angles, desk->rests,
-        head[BIENGULOC_LOOK_CONDITIONS]);
+        v->log_sides, log_sides, desk->sine_misclosures, log_sides ? 2 : 1, desk->divisor, 2, desk->reduced, angles, desk->side_reduced,
+        log_sides ? angles : 0, desk->numerators_high, angles, desk->numerators_low, angles, desk->rounded, angles, desk->results, angles,
+        desk->rests, head[BIENGULOC_LOOK_CONDITIONS]);
 }
 
 /* As a controller does: a look for the counts, the values, the pass of the sheet's kind. */
@@ -80,6 +92,7 @@ uint32_t operate(const struct library *library, enum operation operation, const 
     case FIRST_PASS:
         return first_pass(library, task->head, &task->values, desk);
     case SECOND_PASS:
+    case TWO_SINES:
         return second_pass(library, task->head, &task->values, desk);
     case REPORT:
         return library->report(task->sheet, task->size, desk->text, sizeof desk->text, &desk->written, 1);

@@ -1,5 +1,6 @@
-/* The operations of the library in plain C, from document 01: figures by table, the central polygon by its formula, sheets by four
- * bytes at a time through a 64-bit register, every loop over the figure's own count, results held back until every test has passed. */
+/* The operations of the library in plain C, from document 01 and M-100 of document 02: figures by table, the central polygon by its
+ * formula, two sine conditions in the compiler's 128-bit numbers, sheets by four bytes at a time through a 64-bit register, every loop
+ * over the figure's own count, results held back until every test has passed. */
 #include "peer.h"
 
 #include <stdbool.h>
@@ -8,10 +9,12 @@
 enum {
     MOST_ANGLES = 24,
     MOST_CONDITIONS = 9,
-    MOST_FIXED = 3,
+    MOST_FIXED = 4,
+    MOST_SIDES = 2,
     LONGEST_TEXT = 2048,
     HALF_CIRCLE = 6480000,
     MOST_LOG_SINE = 100000000,
+    MOST_LOG_SIDE = 100000000,
     MOST_DIFFERENCE = 9999,
     MOST_LIMIT = 600,
     MOST_TOLERANCE = 50,
@@ -19,8 +22,12 @@ enum {
     DEFAULT_TOLERANCE = 10,
     ANGLE_BITS = 23,
     LOG_SINE_BITS = 27,
+    LOG_SIDE_BITS = 27,
     DIFFERENCE_BITS = 15
 };
+
+__extension__ typedef __int128 wide;
+__extension__ typedef unsigned __int128 unsigned_wide;
 
 enum refusal_number {
     NO_FIGURE = 1,
@@ -42,6 +49,7 @@ struct figure {
     uint32_t code, n;
     uint32_t angles, conditions, fixed;
     int32_t denominator;
+    uint32_t sides; /* known log sides; where there are any, a second sine condition joins them */
 };
 
 /* A sheet's values, as the reader finds them. */
@@ -50,6 +58,7 @@ struct values {
     const struct figure *figure;
     uint32_t angles[MOST_ANGLES], fixed[MOST_FIXED], log_sines[MOST_ANGLES];
     int32_t differences[MOST_ANGLES];
+    uint32_t log_sides[MOST_SIDES];
 };
 
 struct first_work {
@@ -58,27 +67,29 @@ struct first_work {
 };
 
 struct second_work {
-    int64_t sine_misclosure, square_sum, reduced[MOST_ANGLES], numerators[MOST_ANGLES];
+    int64_t sine_misclosures[2], reduced[MOST_ANGLES], side_reduced[MOST_ANGLES], numerators_high[MOST_ANGLES];
+    uint64_t divisor[2], numerators_low[MOST_ANGLES];
     int32_t rounded[MOST_ANGLES], rests[MOST_CONDITIONS];
     uint32_t adjusted[MOST_ANGLES];
 };
 
-static const struct figure quadrilateral = {1, 0, 8, 3, 0, 8};
-static const struct figure point_in_triangle = {2, 3, 9, 6, 3, 10};
+static const struct figure quadrilateral = {1, 0, 8, 3, 0, 8, 0};
+static const struct figure point_in_triangle = {2, 3, 9, 6, 3, 10, 0};
+static const struct figure point_in_quadrilateral = {2, 4, 12, 8, 4, 24, 2};
 static const struct figure polygons[] = {
-    {3, 3, 9, 4, 0, 18},
-    {3, 4, 12, 5, 0, 24},
-    {3, 5, 15, 6, 0, 30},
-    {3, 6, 18, 7, 0, 36},
-    {3, 7, 21, 8, 0, 42},
-    {3, 8, 24, 9, 0, 48},
+    {3, 3, 9, 4, 0, 18, 0},
+    {3, 4, 12, 5, 0, 24, 0},
+    {3, 5, 15, 6, 0, 30, 0},
+    {3, 6, 18, 7, 0, 36, 0},
+    {3, 7, 21, 8, 0, 42, 0},
+    {3, 8, 24, 9, 0, 48, 0},
 };
 
 /* Rows for angles 1 and 2, 3 and 4, 5 and 6, 7 and 8. */
 static const int32_t quadrilateral_rows[4][3] = {{-3, 2, -1}, {-1, -2, 1}, {1, -2, -1}, {-1, 2, -3}};
 
 /* Three triangles, three fixed angles. */
-static const int32_t point_rows[9][6] = {
+static const int32_t triangle_rows[9][6] = {
     {-6, -2, -2, 4, 4, 2},
     {-2, 0, 2, -5, 1, -1},
     {-2, 2, 0, 1, -5, -1},
@@ -88,6 +99,22 @@ static const int32_t point_rows[9][6] = {
     {-2, -2, -6, 4, 2, 4},
     {0, 2, -2, 1, -1, -5},
     {2, 0, -2, -5, -1, 1},
+};
+
+/* Four triangles, four fixed angles. */
+static const int32_t four_corner_rows[12][8] = {
+    {-14, -4, -2, -4, 9, 9, 3, 3},
+    {-5, -1, 1, 5, -12, 3, 0, -3},
+    {-5, 5, 1, -1, 3, -12, -3, 0},
+    {-4, -14, -4, -2, 3, 9, 9, 3},
+    {5, -5, -1, 1, -3, -12, 3, 0},
+    {-1, -5, 5, 1, 0, 3, -12, -3},
+    {-2, -4, -14, -4, 3, 3, 9, 9},
+    {1, 5, -5, -1, 0, -3, -12, 3},
+    {1, -1, -5, 5, -3, 0, 3, -12},
+    {-4, -2, -4, -14, 9, 3, 3, 9},
+    {-1, 1, 5, -5, 3, 0, -3, -12},
+    {5, 1, -1, -5, -12, -3, 0, 3},
 };
 
 static uint32_t refused(enum refusal_number number, uint32_t place)
@@ -101,6 +128,8 @@ static const struct figure *figure_of(uint32_t code, uint32_t n)
         return &quadrilateral;
     if (code == 2 && n == 3)
         return &point_in_triangle;
+    if (code == 2 && n == 4)
+        return &point_in_quadrilateral;
     if (code == 3 && n >= 3 && n <= 8)
         return &polygons[n - 3];
     return NULL;
@@ -125,9 +154,11 @@ static uint32_t lowest_bad_sine(const uint32_t *log_sines, const int32_t *differ
     return 0;
 }
 
-/* Numbers 3, 4, 5, 8, which reader, writer and passes share; a pass or kind without fixed angles or log-sines has counts of 0. */
+/* Numbers 3, 4, 5, 8, which reader, writer and passes share; a pass or kind without fixed angles, log-sines or log sides has counts
+ * of 0. */
 static uint32_t judge_ranges(uint32_t limit, uint32_t most_limit, const uint32_t *angles, uint32_t angle_count, const uint32_t *fixed,
-    uint32_t fixed_count, const uint32_t *log_sines, const int32_t *differences, uint32_t sine_count)
+    uint32_t fixed_count, const uint32_t *log_sines, const int32_t *differences, uint32_t sine_count, const uint32_t *log_sides,
+    uint32_t side_count)
 {
     if (limit > most_limit)
         return refused(LIMIT_RANGE, 0);
@@ -138,7 +169,10 @@ static uint32_t judge_ranges(uint32_t limit, uint32_t most_limit, const uint32_t
     if (place)
         return refused(FIXED_RANGE, place);
     place = lowest_bad_sine(log_sines, differences, sine_count);
-    return place ? refused(SINE_RANGE, place) : 0;
+    if (place)
+        return refused(SINE_RANGE, place);
+    place = lowest_outside(log_sides, side_count, 1, MOST_LOG_SIDE);
+    return place ? refused(SINE_RANGE, sine_count + place) : 0;
 }
 
 /* --- the passes --- */
@@ -149,11 +183,11 @@ static void quadrilateral_sums(const int32_t *v, int32_t *sums)
         sums[i] = v[2 * i] + v[2 * i + 1] + v[2 * i + 2] + v[2 * i + 3];
 }
 
-static void corner_sums(const int32_t *v, int32_t *sums)
+static void corner_sums(size_t n, const int32_t *v, int32_t *sums)
 {
-    sums[0] = v[8] + v[1];
-    sums[1] = v[2] + v[4];
-    sums[2] = v[5] + v[7];
+    sums[0] = v[3 * n - 1] + v[1];
+    for (size_t j = 1; j < n; j++)
+        sums[j] = v[3 * j - 1] + v[3 * j + 1];
 }
 
 /* The answer is the sum round the inner point. */
@@ -176,7 +210,7 @@ static void condition_sums(const struct figure *f, const int32_t *v, int32_t *su
     }
     const int32_t horizon = triangle_sums(f->n, v, sums);
     if (f->code == 2)
-        corner_sums(v, sums + 3);
+        corner_sums(f->n, v, sums + f->n);
     else
         sums[f->n] = horizon;
 }
@@ -194,12 +228,22 @@ static void polygon_numerators(size_t n, const int32_t *w, int32_t *numerators)
     }
 }
 
-static void point_numerators(const int32_t *w, int32_t *numerators)
+static void triangle_numerators(const int32_t *w, int32_t *numerators)
 {
     for (int i = 0; i < 9; i++) {
         int32_t sum = 0;
         for (int j = 0; j < 6; j++)
-            sum += point_rows[i][j] * w[j];
+            sum += triangle_rows[i][j] * w[j];
+        numerators[i] = sum;
+    }
+}
+
+static void four_corner_numerators(const int32_t *w, int32_t *numerators)
+{
+    for (int i = 0; i < 12; i++) {
+        int32_t sum = 0;
+        for (int j = 0; j < 8; j++)
+            sum += four_corner_rows[i][j] * w[j];
         numerators[i] = sum;
     }
 }
@@ -209,7 +253,7 @@ static void first_numerators(const struct figure *f, const int32_t *w, int32_t *
     if (f->code == 3) {
         polygon_numerators(f->n, w, numerators);
     } else if (f->code == 2) {
-        point_numerators(w, numerators);
+        (f->n == 3 ? triangle_numerators : four_corner_numerators)(w, numerators);
     } else {
         for (int i = 0; i < 4; i++) {
             const int32_t *row = quadrilateral_rows[i];
@@ -224,7 +268,7 @@ static void subtract_targets(const struct figure *f, const uint32_t *fixed, int3
     for (uint32_t i = 0; i < triangles; i++)
         sums[i] -= HALF_CIRCLE;
     for (uint32_t j = 0; j < f->fixed; j++)
-        sums[3 + j] -= (int32_t)fixed[j];
+        sums[triangles + j] -= (int32_t)fixed[j];
     if (f->code == 3)
         sums[f->n] -= 2 * HALF_CIRCLE;
 }
@@ -273,9 +317,8 @@ static uint32_t work_first(const struct figure *f, uint32_t limit, const uint32_
 
 static bool beyond_tolerance(int64_t sine_misclosure, uint32_t tolerance, int64_t difference_squares)
 {
-    __extension__ typedef unsigned __int128 wide;
-    const wide magnitude = (wide)(sine_misclosure < 0 ? -sine_misclosure : sine_misclosure);
-    return 100 * magnitude * magnitude > (wide)(tolerance * tolerance) * (wide)difference_squares;
+    const unsigned_wide magnitude = (unsigned_wide)(sine_misclosure < 0 ? -sine_misclosure : sine_misclosure);
+    return 100 * magnitude * magnitude > (unsigned_wide)(tolerance * tolerance) * (unsigned_wide)difference_squares;
 }
 
 /* One angle with sign + and the next with sign -: their d, and what they add to W and to the sum of the squares of d. */
@@ -305,11 +348,24 @@ static int64_t sign_sines(const struct figure *f, const uint32_t *log_sines, con
     return squares;
 }
 
-/* W, A and S; the answer is the sum of the squares of d. */
-static int64_t reduce_sines(const struct figure *f, const uint32_t *log_sines, const int32_t *differences, struct second_work *out)
+/* The side condition: log side 1 + r of 1 - c of 1 - log side 4 - l of 4 + c of 4. Its W and d; the answer is the sum of the squares
+ * of d. */
+static int64_t sign_side(const uint32_t *log_sines, const int32_t *differences, const uint32_t *log_sides, int32_t *d,
+    int64_t *sine_misclosure)
 {
-    int32_t d[MOST_ANGLES], sums[MOST_CONDITIONS], taken[MOST_ANGLES];
-    const int64_t squares = sign_sines(f, log_sines, differences, d, &out->sine_misclosure);
+    memset(d, 0, 12 * sizeof *d);
+    d[0] = -differences[0];
+    d[2] = differences[2];
+    d[9] = differences[9];
+    d[10] = -differences[10];
+    *sine_misclosure = (int64_t)log_sides[0] + log_sines[2] - log_sines[0] - log_sides[1] - log_sines[10] + log_sines[9];
+    return (int64_t)(d[0] * d[0] + d[2] * d[2]) + (d[9] * d[9] + d[10] * d[10]);
+}
+
+/* A or B of these d; the answer is the sum of its squares. */
+static int64_t reduce(const struct figure *f, const int32_t *d, int64_t *out)
+{
+    int32_t sums[MOST_CONDITIONS], taken[MOST_ANGLES];
     condition_sums(f, d, sums);
     first_numerators(f, sums, taken);
     const uint32_t angle_count = f->angles;
@@ -317,35 +373,100 @@ static int64_t reduce_sines(const struct figure *f, const uint32_t *log_sines, c
     int64_t square_sum = 0;
     for (uint32_t i = 0; i < angle_count; i++) {
         const int64_t reduced = denominator * d[i] + taken[i];
-        out->reduced[i] = reduced;
+        out[i] = reduced;
         square_sum += reduced * reduced;
     }
-    out->square_sum = square_sum;
-    return squares;
+    return square_sum;
 }
 
-/* Numbers 10, 9 and 7, once every value is known to lie in its range. */
-static uint32_t work_second(const struct figure *f, uint32_t tolerance, const uint32_t *angles, const uint32_t *log_sines,
+static int64_t product_sum(const int64_t *one, const int64_t *other, uint32_t count)
+{
+    int64_t sum = 0;
+    for (uint32_t i = 0; i < count; i++)
+        sum += one[i] * other[i];
+    return sum;
+}
+
+/* Numbers 10, 9 and 7 of a figure with one sine condition, once every value is known to lie in its range. */
+static uint32_t work_one_sine(const struct figure *f, uint32_t tolerance, const uint32_t *angles, const uint32_t *log_sines,
     const int32_t *differences, struct second_work *out)
 {
-    const int64_t squares = reduce_sines(f, log_sines, differences, out);
-    if (out->square_sum == 0)
+    int32_t d[MOST_ANGLES];
+    const int64_t squares = sign_sines(f, log_sines, differences, d, &out->sine_misclosures[0]);
+    const int64_t square_sum = reduce(f, d, out->reduced), misclosure = out->sine_misclosures[0];
+    if (square_sum == 0)
         return refused(SUM_OF_SQUARES_IS_ZERO, 0);
-    if (beyond_tolerance(out->sine_misclosure, tolerance ? tolerance : DEFAULT_TOLERANCE, squares))
+    if (beyond_tolerance(misclosure, tolerance, squares))
         return refused(TOLERANCE, 0);
-    const int64_t factor = -100 * (int64_t)f->denominator * out->sine_misclosure, square_sum = out->square_sum;
+    out->divisor[0] = 0;
+    out->divisor[1] = (uint64_t)square_sum;
+    const int64_t factor = -100 * (int64_t)f->denominator * misclosure;
     const uint32_t angle_count = f->angles;
     for (uint32_t i = 0; i < angle_count; i++) {
         const int64_t numerator = factor * out->reduced[i], rounded = rounded_wide(numerator, square_sum);
         const int64_t adjusted = (int64_t)angles[i] + rounded;
         if (!is_angle(adjusted))
             return refused(RESULT_RANGE, i + 1);
-        out->numerators[i] = numerator;
+        out->numerators_high[i] = numerator < 0 ? -1 : 0;
+        out->numerators_low[i] = (uint64_t)numerator;
         out->rounded[i] = (int32_t)rounded;
         out->adjusted[i] = (uint32_t)adjusted;
     }
-    condition_sums(f, out->rounded, out->rests);
     return 0;
+}
+
+/* The corrections of two sine conditions, over their determinant; number 7. */
+static uint32_t correct_two_sines(const struct figure *f, const uint32_t *angles, wide pole_factor, wide side_factor, wide determinant,
+    struct second_work *out)
+{
+    const wide half = determinant / 2;
+    const uint32_t angle_count = f->angles;
+    for (uint32_t i = 0; i < angle_count; i++) {
+        const wide numerator = out->reduced[i] * pole_factor + out->side_reduced[i] * side_factor;
+        const int64_t rounded = (int64_t)((numerator + (numerator < 0 ? -half : half)) / determinant);
+        const int64_t adjusted = (int64_t)angles[i] + rounded;
+        if (!is_angle(adjusted))
+            return refused(RESULT_RANGE, i + 1);
+        out->numerators_high[i] = (int64_t)(numerator >> 64);
+        out->numerators_low[i] = (uint64_t)numerator;
+        out->rounded[i] = (int32_t)rounded;
+        out->adjusted[i] = (uint32_t)adjusted;
+    }
+    return 0;
+}
+
+/* The same of a figure with two: M-100. */
+static uint32_t work_two_sines(const struct figure *f, uint32_t tolerance, const uint32_t *angles, const uint32_t *log_sines,
+    const int32_t *differences, const uint32_t *log_sides, struct second_work *out)
+{
+    int32_t d[MOST_ANGLES], side_d[MOST_ANGLES];
+    const int64_t squares = sign_sines(f, log_sines, differences, d, &out->sine_misclosures[0]);
+    const int64_t side_squares = sign_side(log_sines, differences, log_sides, side_d, &out->sine_misclosures[1]);
+    const int64_t aa = reduce(f, d, out->reduced), bb = reduce(f, side_d, out->side_reduced);
+    const int64_t ab = product_sum(out->reduced, out->side_reduced, f->angles);
+    const wide determinant = (wide)aa * bb - (wide)ab * ab;
+    if (determinant == 0)
+        return refused(SUM_OF_SQUARES_IS_ZERO, 0);
+    const int64_t of_pole = out->sine_misclosures[0], of_side = out->sine_misclosures[1];
+    if (beyond_tolerance(of_pole, tolerance, squares) || beyond_tolerance(of_side, tolerance, side_squares))
+        return refused(TOLERANCE, 0);
+    out->divisor[0] = (uint64_t)(determinant >> 64);
+    out->divisor[1] = (uint64_t)determinant;
+    const int64_t scale = -100 * (int64_t)f->denominator;
+    const wide pole_factor = scale * ((wide)bb * of_pole - (wide)ab * of_side);
+    const wide side_factor = scale * ((wide)aa * of_side - (wide)ab * of_pole);
+    return correct_two_sines(f, angles, pole_factor, side_factor, determinant, out);
+}
+
+static uint32_t work_second(const struct figure *f, uint32_t tolerance, const uint32_t *angles, const uint32_t *log_sines,
+    const int32_t *differences, const uint32_t *log_sides, struct second_work *out)
+{
+    const uint32_t most = tolerance ? tolerance : DEFAULT_TOLERANCE;
+    const uint32_t answer = f->sides ? work_two_sines(f, most, angles, log_sines, differences, log_sides, out)
+                                     : work_one_sine(f, most, angles, log_sines, differences, out);
+    if (!answer)
+        condition_sums(f, out->rounded, out->rests);
+    return answer;
 }
 
 uint32_t peer_first_pass(uint32_t code, uint32_t n, uint32_t limit, const uint32_t *angles, size_t angle_count, const uint32_t *fixed,
@@ -360,7 +481,7 @@ uint32_t peer_first_pass(uint32_t code, uint32_t n, uint32_t limit, const uint32
         || corrected_count != a || rest_count != c)
         return refused(WRONG_LENGTH, 0);
     struct first_work work;
-    uint32_t answer = judge_ranges(limit, MOST_LIMIT, angles, f->angles, fixed, f->fixed, NULL, NULL, 0);
+    uint32_t answer = judge_ranges(limit, MOST_LIMIT, angles, f->angles, fixed, f->fixed, NULL, NULL, 0, NULL, 0);
     if (!answer)
         answer = work_first(f, limit, angles, fixed, &work);
     if (answer)
@@ -374,27 +495,33 @@ uint32_t peer_first_pass(uint32_t code, uint32_t n, uint32_t limit, const uint32
 }
 
 uint32_t peer_second_pass(uint32_t code, uint32_t n, uint32_t tolerance, const uint32_t *angles, size_t angle_count,
-    const uint32_t *log_sines, size_t log_sine_count, const int32_t *differences, size_t difference_count, int64_t *sums,
-    size_t sum_count, int64_t *reduced, size_t reduced_count, int64_t *numerators, size_t numerator_count, int32_t *rounded,
-    size_t rounded_count, uint32_t *adjusted, size_t adjusted_count, int32_t *rests, size_t rest_count)
+    const uint32_t *log_sines, size_t log_sine_count, const int32_t *differences, size_t difference_count, const uint32_t *log_sides,
+    size_t log_side_count, int64_t *sine_misclosures, size_t sine_misclosure_count, uint64_t *divisor, size_t divisor_count,
+    int64_t *reduced, size_t reduced_count, int64_t *side_reduced, size_t side_reduced_count, int64_t *numerators_high,
+    size_t high_count, uint64_t *numerators_low, size_t low_count, int32_t *rounded, size_t rounded_count, uint32_t *adjusted,
+    size_t adjusted_count, int32_t *rests, size_t rest_count)
 {
     const struct figure *f = figure_of(code, n);
     if (!f)
         return refused(NO_FIGURE, 0);
-    const size_t a = f->angles;
-    if (angle_count != a || log_sine_count != a || difference_count != a || sum_count != 2 || reduced_count != a
-        || numerator_count != a || rounded_count != a || adjusted_count != a || rest_count != f->conditions)
+    const size_t a = f->angles, of_side = f->sides ? a : 0, sines = f->sides ? 2 : 1;
+    if (angle_count != a || log_sine_count != a || difference_count != a || log_side_count != f->sides || sine_misclosure_count != sines
+        || divisor_count != 2 || reduced_count != a || side_reduced_count != of_side || high_count != a || low_count != a
+        || rounded_count != a || adjusted_count != a || rest_count != f->conditions)
         return refused(WRONG_LENGTH, 0);
     struct second_work work;
-    uint32_t answer = judge_ranges(tolerance, MOST_TOLERANCE, angles, f->angles, NULL, 0, log_sines, differences, f->angles);
+    uint32_t answer = judge_ranges(tolerance, MOST_TOLERANCE, angles, f->angles, NULL, 0, log_sines, differences, f->angles, log_sides,
+        f->sides);
     if (!answer)
-        answer = work_second(f, tolerance, angles, log_sines, differences, &work);
+        answer = work_second(f, tolerance, angles, log_sines, differences, log_sides, &work);
     if (answer)
         return answer;
-    sums[0] = work.sine_misclosure;
-    sums[1] = work.square_sum;
+    memcpy(sine_misclosures, work.sine_misclosures, sines * sizeof *sine_misclosures);
+    memcpy(divisor, work.divisor, sizeof work.divisor);
     memcpy(reduced, work.reduced, a * sizeof *reduced);
-    memcpy(numerators, work.numerators, a * sizeof *numerators);
+    memcpy(side_reduced, work.side_reduced, of_side * sizeof *side_reduced);
+    memcpy(numerators_high, work.numerators_high, a * sizeof *numerators_high);
+    memcpy(numerators_low, work.numerators_low, a * sizeof *numerators_low);
     memcpy(rounded, work.rounded, a * sizeof *rounded);
     memcpy(adjusted, work.adjusted, a * sizeof *adjusted);
     memcpy(rests, work.rests, f->conditions * sizeof *rests);
@@ -470,8 +597,8 @@ static void put_last_bytes(struct bits_out *out)
 static size_t sheet_size(uint32_t kind, const struct figure *f)
 {
     const size_t row = ANGLE_BITS + LOG_SINE_BITS + DIFFERENCE_BITS;
-    const size_t bits = kind == 1 ? 22 + ANGLE_BITS * (size_t)(f->angles + f->fixed) : 18 + row * f->angles;
-    return (bits + 7) / 8;
+    const size_t first = 22 + ANGLE_BITS * (size_t)(f->angles + f->fixed), second = 18 + LOG_SIDE_BITS * (size_t)f->sides + row * f->angles;
+    return ((kind == 1 ? first : second) + 7) / 8;
 }
 
 /* The kind and figure of a sheet, into v; 12 of one without a head, then 11 and 1. */
@@ -498,6 +625,8 @@ static uint32_t take_values(const uint8_t *sheet, size_t size, struct values *v)
         for (uint32_t i = 0; i < f->fixed; i++)
             v->fixed[i] = take(&in, ANGLE_BITS);
     } else {
+        for (uint32_t i = 0; i < f->sides; i++)
+            v->log_sides[i] = take(&in, LOG_SIDE_BITS);
         for (uint32_t i = 0; i < f->angles; i++) {
             v->angles[i] = take(&in, ANGLE_BITS);
             v->log_sines[i] = take(&in, LOG_SINE_BITS);
@@ -512,8 +641,9 @@ static uint32_t judge_values(const struct values *v)
 {
     const struct figure *f = v->figure;
     if (v->kind == 1)
-        return judge_ranges(v->limit, MOST_LIMIT, v->angles, f->angles, v->fixed, f->fixed, NULL, NULL, 0);
-    return judge_ranges(v->limit, MOST_TOLERANCE, v->angles, f->angles, NULL, 0, v->log_sines, v->differences, f->angles);
+        return judge_ranges(v->limit, MOST_LIMIT, v->angles, f->angles, v->fixed, f->fixed, NULL, NULL, 0, NULL, 0);
+    return judge_ranges(v->limit, MOST_TOLERANCE, v->angles, f->angles, NULL, 0, v->log_sines, v->differences, f->angles, v->log_sides,
+        f->sides);
 }
 
 uint32_t peer_look(const uint8_t *sheet, size_t size, uint32_t *head, size_t head_count)
@@ -522,7 +652,7 @@ uint32_t peer_look(const uint8_t *sheet, size_t size, uint32_t *head, size_t hea
     const uint32_t answer = take_head(sheet, size, &v);
     if (answer)
         return answer;
-    if (head_count != 7)
+    if (head_count != 8)
         return refused(WRONG_LENGTH, 0);
     const struct figure *f = v.figure;
     head[0] = v.kind;
@@ -532,11 +662,13 @@ uint32_t peer_look(const uint8_t *sheet, size_t size, uint32_t *head, size_t hea
     head[4] = v.kind == 1 ? f->fixed : 0;
     head[5] = v.kind == 1 ? 0 : f->angles;
     head[6] = f->conditions;
+    head[7] = v.kind == 1 ? 0 : f->sides;
     return 0;
 }
 
 uint32_t peer_read(const uint8_t *sheet, size_t size, uint32_t *head, size_t head_count, uint32_t *angles, size_t angle_count,
-    uint32_t *fixed, size_t fixed_count, uint32_t *log_sines, size_t log_sine_count, int32_t *differences, size_t difference_count)
+    uint32_t *fixed, size_t fixed_count, uint32_t *log_sines, size_t log_sine_count, int32_t *differences, size_t difference_count,
+    uint32_t *log_sides, size_t log_side_count)
 {
     struct values v;
     uint32_t answer = take_head(sheet, size, &v);
@@ -545,9 +677,9 @@ uint32_t peer_read(const uint8_t *sheet, size_t size, uint32_t *head, size_t hea
     const struct figure *f = v.figure;
     if (size != sheet_size(v.kind, f))
         return refused(SHEET_LENGTH, 0);
-    const size_t fixed_here = v.kind == 1 ? f->fixed : 0, sines_here = v.kind == 1 ? 0 : f->angles;
+    const size_t fixed_here = v.kind == 1 ? f->fixed : 0, sines_here = v.kind == 1 ? 0 : f->angles, sides_here = v.kind == 1 ? 0 : f->sides;
     if (head_count != 4 || angle_count != f->angles || fixed_count != fixed_here || log_sine_count != sines_here
-        || difference_count != sines_here)
+        || difference_count != sines_here || log_side_count != sides_here)
         return refused(WRONG_LENGTH, 0);
     answer = take_values(sheet, size, &v);
     if (!answer)
@@ -562,6 +694,7 @@ uint32_t peer_read(const uint8_t *sheet, size_t size, uint32_t *head, size_t hea
     memcpy(fixed, v.fixed, fixed_count * sizeof *fixed);
     memcpy(log_sines, v.log_sines, log_sine_count * sizeof *log_sines);
     memcpy(differences, v.differences, difference_count * sizeof *differences);
+    memcpy(log_sides, v.log_sides, log_side_count * sizeof *log_sides);
     return 0;
 }
 
@@ -576,9 +709,11 @@ static void put_first(struct bits_out *out, uint32_t limit, const uint32_t *angl
 }
 
 static void put_second(struct bits_out *out, uint32_t tolerance, const uint32_t *angles, const uint32_t *log_sines,
-    const int32_t *differences, size_t angle_count)
+    const int32_t *differences, size_t angle_count, const uint32_t *log_sides, size_t log_side_count)
 {
     put(out, 6, tolerance);
+    for (size_t i = 0; i < log_side_count; i++)
+        put(out, LOG_SIDE_BITS, log_sides[i]);
     for (size_t i = 0; i < angle_count; i++) {
         put(out, ANGLE_BITS, angles[i]);
         put(out, LOG_SINE_BITS, log_sines[i]);
@@ -588,19 +723,19 @@ static void put_second(struct bits_out *out, uint32_t tolerance, const uint32_t 
 
 static uint32_t judge_written(uint32_t kind, const struct figure *f, uint32_t limit, const uint32_t *angles, size_t angle_count,
     const uint32_t *fixed, size_t fixed_count, const uint32_t *log_sines, size_t log_sine_count, const int32_t *differences,
-    size_t difference_count, size_t size)
+    size_t difference_count, const uint32_t *log_sides, size_t log_side_count, size_t size)
 {
-    const uint32_t fixed_here = kind == 1 ? f->fixed : 0, sines_here = kind == 1 ? 0 : f->angles;
+    const uint32_t fixed_here = kind == 1 ? f->fixed : 0, sines_here = kind == 1 ? 0 : f->angles, sides_here = kind == 1 ? 0 : f->sides;
     if (angle_count != f->angles || fixed_count != fixed_here || log_sine_count != sines_here || difference_count != sines_here
-        || size != sheet_size(kind, f))
+        || log_side_count != sides_here || size != sheet_size(kind, f))
         return refused(WRONG_LENGTH, 0);
     return judge_ranges(limit, kind == 1 ? MOST_LIMIT : MOST_TOLERANCE, angles, f->angles, fixed, fixed_here, log_sines, differences,
-        sines_here);
+        sines_here, log_sides, sides_here);
 }
 
 uint32_t peer_write(uint32_t kind, uint32_t code, uint32_t n, uint32_t limit_or_tolerance, const uint32_t *angles, size_t angle_count,
     const uint32_t *fixed, size_t fixed_count, const uint32_t *log_sines, size_t log_sine_count, const int32_t *differences,
-    size_t difference_count, uint8_t *sheet, size_t size)
+    size_t difference_count, const uint32_t *log_sides, size_t log_side_count, uint8_t *sheet, size_t size)
 {
     if (kind != 1 && kind != 2)
         return refused(NO_KIND, 0);
@@ -608,7 +743,7 @@ uint32_t peer_write(uint32_t kind, uint32_t code, uint32_t n, uint32_t limit_or_
     if (!f)
         return refused(NO_FIGURE, 0);
     const uint32_t answer = judge_written(kind, f, limit_or_tolerance, angles, angle_count, fixed, fixed_count, log_sines,
-        log_sine_count, differences, difference_count, size);
+        log_sine_count, differences, difference_count, log_sides, log_side_count, size);
     if (answer)
         return answer;
     struct bits_out out = {sheet, 0, 0};
@@ -616,7 +751,7 @@ uint32_t peer_write(uint32_t kind, uint32_t code, uint32_t n, uint32_t limit_or_
     if (kind == 1)
         put_first(&out, limit_or_tolerance, angles, angle_count, fixed, fixed_count);
     else
-        put_second(&out, limit_or_tolerance, angles, log_sines, differences, angle_count);
+        put_second(&out, limit_or_tolerance, angles, log_sines, differences, angle_count, log_sides, log_side_count);
     put_last_bytes(&out);
     return 0;
 }
@@ -652,6 +787,30 @@ static uint8_t *put_next(uint8_t *at, int64_t number)
     return put_number(at, number);
 }
 
+enum { EIGHTEEN = 18 };
+
+/* A number in two words after a space: what fits 64 bits as that, else in groups of eighteen digits. */
+static uint8_t *put_next_wide(uint8_t *at, wide number)
+{
+    if (number >= INT64_MIN && number <= INT64_MAX)
+        return put_next(at, (int64_t)number);
+    const uint64_t group = 1000000000000000000u;
+    const unsigned_wide size = number < 0 ? 0 - (unsigned_wide)number : (unsigned_wide)number;
+    *at++ = ' ';
+    if (number < 0)
+        *at++ = '-';
+    at = put_number(at, (int64_t)(size / group));
+    uint64_t left = (uint64_t)(size % group);
+    for (int i = EIGHTEEN - 1; i >= 0; i--, left /= 10)
+        at[i] = (uint8_t)('0' + left % 10);
+    return at + EIGHTEEN;
+}
+
+static wide from_words(int64_t high, uint64_t low)
+{
+    return (wide)high * ((wide)1 << 64) + low;
+}
+
 static uint8_t *put_figure(uint8_t *at, const struct figure *f)
 {
     at = put_next(put_word(at, "figure"), f->code);
@@ -680,12 +839,17 @@ static uint8_t *put_first_lines(uint8_t *at, const struct values *v, const struc
 static uint8_t *put_second_lines(uint8_t *at, const struct values *v, const struct second_work *work)
 {
     const struct figure *f = v->figure;
-    at = put_next(put_word(put_figure(at, f), " W"), work->sine_misclosure);
-    at = put_next(put_word(at, " S"), work->square_sum);
+    at = put_next(put_word(put_figure(at, f), " W"), work->sine_misclosures[0]);
+    if (f->sides)
+        at = put_next(at, work->sine_misclosures[1]);
+    at = put_next_wide(put_word(at, f->sides ? " determinant" : " S"), from_words((int64_t)work->divisor[0], work->divisor[1]));
     *at++ = '\n';
     for (uint32_t i = 0; i < f->angles; i++) {
         at = put_next(put_number(at, i + 1), v->angles[i]);
-        at = put_next(put_next(at, work->reduced[i]), work->numerators[i]);
+        at = put_next(at, work->reduced[i]);
+        if (f->sides)
+            at = put_next(at, work->side_reduced[i]);
+        at = put_next_wide(at, from_words(work->numerators_high[i], work->numerators_low[i]));
         at = put_next(put_next(at, work->rounded[i]), work->adjusted[i]);
         *at++ = '\n';
     }
@@ -726,7 +890,7 @@ static uint8_t *put_lines(uint8_t *at, const uint8_t *sheet, size_t size)
         return answer ? put_refusal(at, answer) : put_first_lines(at, &v, &work);
     }
     struct second_work work;
-    answer = work_second(v.figure, v.limit, v.angles, v.log_sines, v.differences, &work);
+    answer = work_second(v.figure, v.limit, v.angles, v.log_sines, v.differences, v.log_sides, &work);
     return answer ? put_refusal(at, answer) : put_second_lines(at, &v, &work);
 }
 

@@ -14,9 +14,14 @@ struct desk {
     uint32_t head[BIENGULOC_LOOK_HEAD], read_head[BIENGULOC_READ_HEAD];
     uint32_t angles[BIENGULOC_MOST_ANGLES], fixed[BIENGULOC_MOST_FIXED], log_sines[BIENGULOC_MOST_ANGLES];
     int32_t differences[BIENGULOC_MOST_ANGLES];
+    uint32_t log_sides[BIENGULOC_MOST_LOG_SIDES];
     int32_t misclosures[BIENGULOC_MOST_CONDITIONS], rests[BIENGULOC_MOST_CONDITIONS];
     int32_t numerators[BIENGULOC_MOST_ANGLES], rounded[BIENGULOC_MOST_ANGLES];
-    int64_t sums[2], reduced[BIENGULOC_MOST_ANGLES], wide_numerators[BIENGULOC_MOST_ANGLES];
+    int64_t sine_misclosures[BIENGULOC_MOST_SINE_CONDITIONS];
+    uint64_t divisor[2];
+    int64_t reduced[BIENGULOC_MOST_ANGLES], side_reduced[BIENGULOC_MOST_ANGLES];
+    int64_t numerators_high[BIENGULOC_MOST_ANGLES];
+    uint64_t numerators_low[BIENGULOC_MOST_ANGLES];
     uint32_t results[BIENGULOC_MOST_ANGLES];
 };
 
@@ -28,12 +33,15 @@ static uint32_t first_pass(struct desk *d, size_t angles, size_t conditions)
         d->misclosures, conditions, d->numerators, angles, d->rounded, angles, d->results, angles, d->rests, conditions);
 }
 
+/* A figure with log sides has a second sine condition, and so a second misclosure and reduced coefficients of its own. */
 static uint32_t second_pass(struct desk *d, size_t angles, size_t conditions)
 {
     const uint32_t *h = d->read_head;
+    const size_t log_sides = d->head[BIENGULOC_LOOK_LOG_SIDES];
     return bienguloc_second_pass(h[BIENGULOC_HEAD_CODE], h[BIENGULOC_HEAD_N], h[BIENGULOC_READ_LIMIT_OR_TOLERANCE],
-        d->angles, angles, d->log_sines, angles, d->differences, angles,
-        d->sums, 2, d->reduced, angles, d->wide_numerators, angles, d->rounded, angles, d->results, angles, d->rests, conditions);
+        d->angles, angles, d->log_sines, angles, d->differences, angles, d->log_sides, log_sides,
+        d->sine_misclosures, log_sides ? 2 : 1, d->divisor, 2, d->reduced, angles, d->side_reduced, log_sides ? angles : 0,
+        d->numerators_high, angles, d->numerators_low, angles, d->rounded, angles, d->results, angles, d->rests, conditions);
 }
 
 /* A look gives the counts, the reader the values, the pass of the sheet's kind the results. */
@@ -44,7 +52,8 @@ static uint32_t work(const uint8_t *sheet, size_t size, struct desk *d)
         return answer;
     const size_t angles = d->head[BIENGULOC_LOOK_ANGLES], sines = d->head[BIENGULOC_LOOK_LOG_SINES];
     answer = bienguloc_read(sheet, size, d->read_head, BIENGULOC_READ_HEAD, d->angles, angles,
-        d->fixed, d->head[BIENGULOC_LOOK_FIXED], d->log_sines, sines, d->differences, sines);
+        d->fixed, d->head[BIENGULOC_LOOK_FIXED], d->log_sines, sines, d->differences, sines,
+        d->log_sides, d->head[BIENGULOC_LOOK_LOG_SIDES]);
     if (answer != BIENGULOC_DONE)
         return answer;
     const size_t conditions = d->head[BIENGULOC_LOOK_CONDITIONS];

@@ -7,8 +7,8 @@
  *
  * Every function answers 0 when it is done, else the refusal: number * 256 + place. A refusal has changed nothing that was lent.
  *
- * Units: angles, limits and corrections in tenths of a second; log-sines plus 10 in the seventh decimal; sine differences for
- * one second in hundredths of the sixth decimal; tolerances in seconds.
+ * Units: angles, limits and corrections in tenths of a second; log-sines plus 10, and log sides, in the seventh decimal; sine
+ * differences for one second in hundredths of the sixth decimal; tolerances in seconds.
  */
 #ifndef BIENGULOC_H
 #define BIENGULOC_H
@@ -42,15 +42,17 @@ extern "C" {
 #define BIENGULOC_RESULT_OUT_OF_RANGE 7u
 #define BIENGULOC_SINE_ENTRY_OUT_OF_RANGE 8u
 #define BIENGULOC_SINE_MISCLOSURE_BEYOND_TOLERANCE 9u
-#define BIENGULOC_SUM_OF_SQUARES_IS_ZERO 10u
+#define BIENGULOC_SUM_OF_SQUARES_IS_ZERO 10u /* S is 0, or the determinant of two sine conditions */
 #define BIENGULOC_NO_SUCH_KIND 11u
 #define BIENGULOC_WRONG_SHEET_LENGTH 12u
 #define BIENGULOC_FILLING_BIT_SET 13u
 
 /* Room that is enough for every figure and kind. */
 #define BIENGULOC_MOST_ANGLES 24
-#define BIENGULOC_MOST_FIXED 3
+#define BIENGULOC_MOST_FIXED 4
+#define BIENGULOC_MOST_LOG_SIDES 2
 #define BIENGULOC_MOST_CONDITIONS 9
+#define BIENGULOC_MOST_SINE_CONDITIONS 2
 #define BIENGULOC_LONGEST_SHEET 198
 #define BIENGULOC_ROOM_FOR_TEXT 2048
 
@@ -64,36 +66,44 @@ enum {
     BIENGULOC_LOOK_FIXED = 4,
     BIENGULOC_LOOK_LOG_SINES = 5,
     BIENGULOC_LOOK_CONDITIONS = 6,
-    BIENGULOC_LOOK_HEAD = 7,
+    BIENGULOC_LOOK_LOG_SIDES = 7,
+    BIENGULOC_LOOK_HEAD = 8,
 
     BIENGULOC_READ_LIMIT_OR_TOLERANCE = 3,
     BIENGULOC_READ_HEAD = 4
 };
 
 /* What the head of a sheet says, and so how long the slices are that the reader and the pass are lent. There are as many
- * differences as log-sines. Only the first two bytes are judged: 12 if there are fewer, then 11, 1, 2. */
-BIENGULOC_NOT_NULL uint32_t bienguloc_look(const uint8_t *sheet, size_t, uint32_t *head, size_t /* 7: kind, code, n, angles, fixed, log-sines, conditions */);
+ * differences as log-sines. A figure whose sheets of kind 2 have log sides has two sine conditions, every other figure one. Only
+ * the first two bytes are judged: 12 if there are fewer, then 11, 1, 2. */
+BIENGULOC_NOT_NULL uint32_t bienguloc_look(const uint8_t *sheet, size_t,
+    uint32_t *head, size_t /* 8: kind, code, n, angles, fixed, log-sines, conditions, log sides */);
 
 /* The values of a packed sheet. L or e is given as packed, so that 0 stays 0. In order: 12 if under two bytes, 11, 1, 12, 2, 13,
  * 3, 4, 5, 8. */
 BIENGULOC_NOT_NULL uint32_t bienguloc_read(const uint8_t *sheet, size_t, uint32_t *head, size_t /* 4: kind, code, n, L or e */,
-    uint32_t *angles, size_t, uint32_t *fixed, size_t, uint32_t *log_sines, size_t, int32_t *differences, size_t);
+    uint32_t *angles, size_t, uint32_t *fixed, size_t, uint32_t *log_sines, size_t, int32_t *differences, size_t,
+    uint32_t *log_sides, size_t);
 
 /* The packed sheet of these values, into a slice of exactly its size. In order: 11, 1, 2, 3, 4, 5, 8. */
 BIENGULOC_NOT_NULL uint32_t bienguloc_write(uint32_t kind, uint32_t code, uint32_t n, uint32_t limit_or_tolerance,
     const uint32_t *angles, size_t, const uint32_t *fixed, size_t, const uint32_t *log_sines, size_t, const int32_t *differences, size_t,
-    uint8_t *sheet, size_t);
+    const uint32_t *log_sides, size_t, uint8_t *sheet, size_t);
 
 /* The first corrections. By condition: misclosures and rests; by angle: the numerators of the exact corrections (over D), the
  * rounded corrections and the corrected angles. A limit of 0 stands for the default. In order: 1, 2, 3, 4, 5, 6, 7. */
 BIENGULOC_NOT_NULL uint32_t bienguloc_first_pass(uint32_t code, uint32_t n, uint32_t limit, const uint32_t *angles, size_t, const uint32_t *fixed, size_t,
     int32_t *misclosures, size_t, int32_t *numerators, size_t, int32_t *rounded, size_t, uint32_t *corrected, size_t, int32_t *rests, size_t);
 
-/* The second corrections, of first-corrected angles. By angle: the reduced coefficients A, the numerators of the exact corrections
- * (over S), the rounded corrections and the adjusted angles; by condition: the rests. A tolerance of 0 stands for the default.
- * In order: 1, 2, 3, 4, 8, 10, 9, 7. */
-BIENGULOC_NOT_NULL uint32_t bienguloc_second_pass(uint32_t code, uint32_t n, uint32_t tolerance, const uint32_t *angles, size_t, const uint32_t *log_sines, size_t,
-    const int32_t *differences, size_t, int64_t *sums, size_t /* 2: W, S */, int64_t *reduced, size_t, int64_t *numerators, size_t,
+/* The second corrections, of first-corrected angles. By sine condition, one or two: the misclosures W. The divisor, in two words,
+ * is S, or the determinant of two sine conditions. By angle: the reduced coefficients A; of two sine conditions B too, else no
+ * values; the numerators of the exact corrections, over the divisor, in two words; the rounded corrections and the adjusted angles.
+ * By condition: the rests. A number in two words is high * 2^64 + low. A tolerance of 0 stands for the default.
+ * In order: 1, 2, 3, 4, 8, 10, 9, 7. A log side outside its range has a place after the angles'. */
+BIENGULOC_NOT_NULL uint32_t bienguloc_second_pass(uint32_t code, uint32_t n, uint32_t tolerance,
+    const uint32_t *angles, size_t, const uint32_t *log_sines, size_t, const int32_t *differences, size_t, const uint32_t *log_sides, size_t,
+    int64_t *sine_misclosures, size_t /* 1 or 2 */, uint64_t *divisor, size_t /* 2: high, low */,
+    int64_t *reduced, size_t, int64_t *side_reduced, size_t, int64_t *numerators_high, size_t, uint64_t *numerators_low, size_t,
     int32_t *rounded, size_t, uint32_t *adjusted, size_t, int32_t *rests, size_t);
 
 /* The lines that the program prints for these bytes, whatever they are: a sheet that is turned back has the line `refused`, and

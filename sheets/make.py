@@ -55,6 +55,7 @@ def second_sheet(values):
         tuple(map(tenths, entries[0::3])),
         log_sines=tuple(whole(log_sine, 7) for log_sine in entries[1::3]),
         differences=tuple(whole(difference, 2) for difference in entries[2::3]),
+        log_sides=tuple(whole(side, 7) for side in cells(values.sides)) if values.sides else (),
     )
 
 

@@ -1,7 +1,8 @@
 """The values of the sample sheets, as a surveyor writes them.
 
 Angles are in degrees, minutes and seconds, log-sines have 10 added, differences are for 1" in units of the sixth decimal.
-A first sheet lists its angles in their order; a second sheet has one row for each angle: angle, log-sine, difference.
+A first sheet lists its angles in their order; a second sheet has one row for each angle: angle, log-sine, difference; and
+before them the log sides, where the figure has any.
 """
 
 from typing import NamedTuple
@@ -24,6 +25,7 @@ class Second(NamedTuple):
     n: int
     tolerance: int  # e in seconds, 0 for the default
     rows: str
+    sides: str = ""
 
 
 # Document 01, "Sheets worked through": the two sheets whose printed text it gives.
@@ -85,8 +87,8 @@ condition 3 -1
 """,
 }
 
-# The published examples. Second sheets hold the book's own log-sines, at the angles to which they belong: in book 000
-# the first-corrected angles as the book hands them out, in book 001 the observed ones (README.md says more).
+# The published examples. Second sheets hold the book's own log-sines, at the angles to which they belong: in books 000 and
+# 004 the first-corrected angles as the book hands them out, in book 001 the observed ones (README.md says more).
 BOOKS = {
     "book-000-example-1-first": First(
         code=1,
@@ -175,6 +177,38 @@ BOOKS = {
             29 45 43.0, 9.6958296, 3.68
         """,
     ),
+    "book-004-example-1-first": First(
+        code=2,
+        n=4,
+        limit=0,
+        angles="""
+            102 11 22.3,  40 34 58.5,  37 13 44.0
+            108 11 38.4,  42 52 52.1,  28 55 18.7
+             87 05 48.7,  56 25 03.1,  36 29 12.3
+             62 31 10.6,  28 08 49.2,  89 19 54.6
+        """,
+        fixed="129 55 07.7, 80 06 29.7, 85 20 21.8, 64 38 00.8",
+    ),
+    "book-004-example-1-second": Second(
+        code=2,
+        n=4,
+        tolerance=0,
+        sides="3.8864456, 3.9524132",
+        rows="""
+            102 11 18.9, 9.9900981, -0.45
+             40 35 05.0, 9.8132952,  2.46
+             37 13 36.1, 9.7817342,  2.78
+            108 11 44.4, 9.9777216, -0.69
+             42 52 53.5, 9.8328183,  2.27
+             28 55 22.1, 9.6845140,  3.81
+             87 05 47.9, 9.9994422,  0.11
+             56 24 59.7, 9.9206874,  1.39
+             36 29 12.4, 9.7742521,  2.85
+             62 31 08.9, 9.9480044,  1.09
+             28 08 48.4, 9.6736953,  3.94
+             89 20 02.7, 9.9999707,  0.02
+        """,
+    ),
 }
 
 # One of each figure and kind: angles taken from laid-out points with small errors; each second sheet starts from the
@@ -229,6 +263,38 @@ EACH_FIGURE = {
             117 55 25.9, 9.9462413, -1.12
              32 38 14.6, 9.7318469,  3.29
              29 26 19.6, 9.6915176,  3.73
+        """,
+    ),
+    "point-in-quadrilateral-first": First(
+        code=2,
+        n=4,
+        limit=0,
+        angles="""
+            100 46 52.4,  40 42 57.9,  38 30 10.6
+             77 42 33.0,  55 56 53.1,  46 20 32.1
+             89 12 59.4,  43 09 37.7,  47 37 30.9
+             92 17 43.4,  40 57 24.6,  46 44 54.5
+        """,
+        fixed="87 27 52.9, 94 27 03.7, 89 30 08.3, 88 34 55.1",
+    ),
+    "point-in-quadrilateral-second": Second(
+        code=2,
+        n=4,
+        tolerance=0,
+        sides="3.7652112, 3.7502006",
+        rows="""
+            100 46 51.1, 9.9922662, -0.40
+             40 42 58.8, 9.8144570,  2.45
+             38 30 10.0, 9.7941760,  2.65
+             77 42 32.9, 9.9899299,  0.46
+             55 56 53.7, 9.9183094,  1.42
+             46 20 33.4, 9.8594270,  2.01
+             89 12 55.2, 9.9999593,  0.03
+             43 09 34.9, 9.8350778,  2.25
+             47 37 29.9, 9.8684970,  1.92
+             92 17 40.8, 9.9996516, -0.08
+             40 57 25.2, 9.8165677,  2.43
+             46 44 54.1, 9.8623409,  1.98
         """,
     ),
     "polygon-3-first": First(
@@ -451,9 +517,11 @@ EACH_FIGURE = {
 
 QUADRILATERAL = EACH_FIGURE["quadrilateral-first"]
 POINT_IN_TRIANGLE = EACH_FIGURE["point-in-triangle-first"]
+POINT_IN_QUADRILATERAL = EACH_FIGURE["point-in-quadrilateral-first"]
+TWO_SINE_CONDITIONS = EACH_FIGURE["point-in-quadrilateral-second"]
 SECOND = DOCUMENT["document-01-second"]
 
-# Document 01, "Sheets worked through", cases 7 and 8: the last values that still pass.
+# The last values that still pass: document 01, "Sheets worked through", cases 7 and 8; and the side condition of M-100.
 JUST_ACCEPTED = {
     "case-07-sine-misclosure-628": SECOND._replace(rows=SECOND.rows.replace("9.8494950", "9.8495478")),
     "case-08-misclosure-minus-150": QUADRILATERAL._replace(
@@ -462,6 +530,7 @@ JUST_ACCEPTED = {
             45 00 00.0, 45 00 00.0, 45 00 00.0, 45 00 00.0
         """
     ),
+    "side-condition-misclosure-361": TWO_SINE_CONDITIONS._replace(sides="3.7652430, 3.7502006"),
 }
 
 # Each with the number and place that it is refused with.
@@ -484,6 +553,11 @@ REFUSED = {
         POINT_IN_TRIANGLE._replace(fixed="55 50 25.1, 180 00 00.0, 65 39 32.1"),
         5,
         2,
+    ),
+    "refused-05-fixed-angle-4-of-0": (
+        POINT_IN_QUADRILATERAL._replace(fixed="87 27 52.9, 94 27 03.7, 89 30 08.3, 0 00 00.0"),
+        5,
+        4,
     ),
     "refused-06-misclosure-151": (
         QUADRILATERAL._replace(
@@ -508,6 +582,9 @@ REFUSED = {
     "refused-07-adjusted-angle-1": (SECOND._replace(rows=SECOND.rows.replace("45 00 00.0", "0 00 00.7", 1)), 7, 1),
     "refused-08-log-sine-past-10": (SECOND._replace(rows=SECOND.rows.replace("9.8494950", "10.0000001")), 8, 1),
     "refused-08-difference-minus-10000": (SECOND._replace(rows=SECOND.rows.replace("2.48", "-100.00")), 8, 6),
+    "refused-08-log-side-1-of-0": (TWO_SINE_CONDITIONS._replace(sides="0.0000000, 3.7502006"), 8, 13),
+    "refused-08-log-side-4-past-10": (TWO_SINE_CONDITIONS._replace(sides="3.7652112, 10.0000001"), 8, 14),
+    "refused-09-side-condition-misclosure-362": (TWO_SINE_CONDITIONS._replace(sides="3.7652431, 3.7502006"), 9, 0),
     "refused-09-sine-misclosure-629": (SECOND._replace(rows=SECOND.rows.replace("9.8494950", "9.8495479")), 9, 0),
     "refused-10-no-differences": (
         SECOND._replace(
@@ -537,6 +614,27 @@ REFUSED = {
                  45 00 00.0, 9.8494850,  2.11
                 135 00 00.0, 9.8494850, -2.11
             """
+        ),
+        10,
+        0,
+    ),
+    "refused-10-sine-conditions-alike": (
+        TWO_SINE_CONDITIONS._replace(
+            sides="4.0000000, 4.0000000",
+            rows="""
+                 45 00 00.0,  9.8494850,  2.11
+                 45 00 00.0,  9.8494850,  2.11
+                 90 00 00.0, 10.0000000,  0.00
+                 45 00 00.0,  9.8494850,  2.11
+                135 00 00.0,  9.8494850, -2.11
+                 90 00 00.0, 10.0000000,  0.00
+                 45 00 00.0,  9.8494850,  2.11
+                 90 00 00.0, 10.0000000,  0.00
+                135 00 00.0,  9.8494850, -2.11
+                 45 00 00.0,  9.8494850,  2.11
+                 90 00 00.0, 10.0000000,  0.00
+                 45 00 00.0,  9.8494850,  2.11
+            """,
         ),
         10,
         0,

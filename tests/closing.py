@@ -23,36 +23,34 @@ def quadrilateral_angles(misclosures, choose):
     return [angle for pair_sum in sums for angle in split(pair_sum, choose)]
 
 
-def point_in_triangle_angles(misclosures, choose):
-    """Nine angles and the fixed angles, which sum to 180 degrees."""
-    room = 700  # so that every corner can be split and no inner angle is lost to a misclosure
-    one = choose(room, HALF_CIRCLE - 2 * room)
-    two = choose(room, HALF_CIRCLE - room - one)
-    fixed = (one, two, HALF_CIRCLE - one - two)
-    at_corners = [split(angle + f, choose) for angle, f in zip(fixed, misclosures[3:])]
-    angles = []
-    for i in range(3):
-        own, following = at_corners[i][1], at_corners[(i + 1) % 3][0]
-        angles += [HALF_CIRCLE + misclosures[i] - own - following, own, following]
-    return angles, fixed
-
-
-def inner_angles(largest, total, choose):
-    """One angle for each triangle, none above its largest, with this sum."""
+def with_sum(total, largest, choose, smallest=1):
+    """Angles with this sum, each from the smallest to its own largest."""
     angles = []
     for i, own_largest in enumerate(largest):
         others = largest[i + 1 :]
-        angle = choose(max(1, total - sum(others)), min(own_largest, total - len(others)))
+        angle = choose(max(smallest, total - sum(others)), min(own_largest, total - smallest * len(others)))
         angles.append(angle)
         total -= angle
     return angles
+
+
+def inner_point_angles(n, misclosures, choose):
+    """Code 2: the angles, and the fixed angles, which sum to those of a polygon of n corners."""
+    room = 700  # so that every corner can be split and no inner angle is lost to a misclosure
+    fixed = tuple(with_sum((n - 2) * HALF_CIRCLE, [HALF_CIRCLE - room] * n, choose, room))
+    at_corners = [split(angle + f, choose) for angle, f in zip(fixed, misclosures[n:])]
+    angles = []
+    for i in range(n):
+        own, following = at_corners[i][1], at_corners[(i + 1) % n][0]
+        angles += [HALF_CIRCLE + misclosures[i] - own - following, own, following]
+    return angles, fixed
 
 
 def central_polygon_angles(misclosures, choose):
     *triangles, horizon = misclosures
     largest = [min(LARGEST_ANGLE, HALF_CIRCLE + w - 2) for w in triangles]
     angles = []
-    for w, inner in zip(triangles, inner_angles(largest, FULL_CIRCLE + horizon, choose)):
+    for w, inner in zip(triangles, with_sum(FULL_CIRCLE + horizon, largest, choose)):
         angles += [inner, *split(HALF_CIRCLE + w - inner, choose)]
     return angles
 
@@ -64,7 +62,7 @@ def closing_angles(figure, misclosures, choose):
         if figure.code == 1:
             angles = quadrilateral_angles(misclosures, choose)
         elif figure.code == 2:
-            angles, fixed = point_in_triangle_angles(misclosures, choose)
+            angles, fixed = inner_point_angles(figure.n, misclosures, choose)
         else:
             angles = central_polygon_angles(misclosures, choose)
     except ValueError:  # nothing to choose from
@@ -89,12 +87,12 @@ def move_that_keeps_conditions(figure, angle):
         return {inner: 1, next_inner: -1, own: -1, next_own: 1}
     if figure.code == 3:
         return {3 * triangle - 1: 1 if part == 1 else -1, 3 * triangle: -1 if part == 1 else 1}
-    return corner_move(angle, triangle, part)
+    return corner_move(figure.n, angle, triangle, part)
 
 
-def corner_move(angle, triangle, part):
+def corner_move(n, angle, triangle, part):
     """Code 2: what the second angle of triangle j gains, the last of triangle j-1 loses, and the inner angles take up."""
-    j = triangle if part < 2 else triangle % 3 + 1
-    before = 3 if j == 1 else j - 1
+    j = triangle if part < 2 else triangle % n + 1
+    before = n if j == 1 else j - 1
     move = {3 * j - 1: 1, 3 * before: -1, 3 * j - 2: -1, 3 * before - 2: 1}
     return {number: step * move[angle] for number, step in move.items()}

@@ -1,34 +1,49 @@
-"""The eight figures of document 01, "The eight figures".
+"""The nine figures: document 01, "The eight figures", and document 02, M-100.
 
 A figure is known here by its conditions alone: which angles each one joins. Corrections come from solving the normal
-equations of those conditions in exact fractions (books 000 and 001: correlates). No coefficient row of document 01 is
+equations of those conditions in exact fractions (books 000 and 001: correlates). No coefficient row of the documents is
 used, so that an agreement with the rows says something.
 """
 
 from fractions import Fraction
 from functools import lru_cache
+from math import gcd, lcm
 from typing import NamedTuple
 
 HALF_CIRCLE = 6_480_000  # 180 degrees in tenths of a second
 FULL_CIRCLE = 2 * HALF_CIRCLE
 
 
+class SineCondition(NamedTuple):
+    signs: tuple  # of the log-sines, one for each angle
+    side_signs: tuple = ()  # of the log sides that it joins
+
+
 class Figure(NamedTuple):
     code: int
     n: int
     denominator: int  # D
-    sine_signs: tuple  # one for each angle
+    sines: tuple  # its sine conditions: the pole, then for one figure the side condition
     conditions: tuple  # each the angle numbers, from 1, that it joins
     fixed_count: int
 
     @property
     def angle_count(self):
-        return len(self.sine_signs)
+        return len(self.pole_signs)
+
+    @property
+    def pole_signs(self):
+        return self.sines[0].signs
+
+    @property
+    def side_count(self):
+        """How many log sides a sheet of kind 2 has."""
+        return len(self.sines[-1].side_signs)
 
 
 def quadrilateral():
     """Code 1: angles 1 to 4, 3 to 6 and 5 to 8."""
-    return Figure(1, 0, 8, (+1, -1) * 4, ((1, 2, 3, 4), (3, 4, 5, 6), (5, 6, 7, 8)), 0)
+    return Figure(1, 0, 8, (SineCondition((+1, -1) * 4),), ((1, 2, 3, 4), (3, 4, 5, 6), (5, 6, 7, 8)), 0)
 
 
 def angle_at_inner_point(i):
@@ -53,19 +68,41 @@ def corner(j, n):
     return (angle_at_next_corner(before), angle_at_own_corner(j))
 
 
+def pole(n):
+    """Round the inner point: the angles at their own corners against those at the next ones."""
+    return SineCondition((0, +1, -1) * n)
+
+
+def side_condition(first, last):
+    """The side from the inner point to corner 1, from the known side of the first triangle and from that of the last one: in
+    each it stands opposite the angle at the other corner, and the known side opposite the angle at the inner point."""
+    by_first = {angle_at_next_corner(first): +1, angle_at_inner_point(first): -1}
+    by_last = {angle_at_own_corner(last): -1, angle_at_inner_point(last): +1}
+    signs = {**by_first, **by_last}
+    return SineCondition(tuple(signs.get(angle, 0) for angle in range(1, 3 * last + 1)), (+1, -1))
+
+
+def corners(n):
+    return tuple(corner(j, n) for j in range(1, n + 1))
+
+
 def point_in_triangle():
-    """Code 2: three triangles, then three corners of which each has its fixed angle."""
-    corners = tuple(corner(j, 3) for j in (1, 2, 3))
-    return Figure(2, 3, 10, (0, +1, -1) * 3, triangles(3) + corners, 3)
+    """Code 2, n = 3: three triangles, then three corners of which each has its fixed angle."""
+    return Figure(2, 3, 10, (pole(3),), triangles(3) + corners(3), 3)
+
+
+def point_in_quadrilateral():
+    """Code 2, n = 4 (document 02, M-100): four triangles and four corners, and the sides of triangles 1 and 4 are known."""
+    return Figure(2, 4, 24, (pole(4), side_condition(1, 4)), triangles(4) + corners(4), 4)
 
 
 def central_polygon(n):
     """Code 3: n triangles, then the horizon round the inner point."""
     horizon = tuple(angle_at_inner_point(i) for i in range(1, n + 1))
-    return Figure(3, n, 6 * n, (0, +1, -1) * n, triangles(n) + (horizon,), 0)
+    return Figure(3, n, 6 * n, (pole(n),), triangles(n) + (horizon,), 0)
 
 
-FIGURES = (quadrilateral(), point_in_triangle()) + tuple(central_polygon(n) for n in range(3, 9))
+FIGURES = (quadrilateral(), point_in_triangle(), point_in_quadrilateral()) + tuple(central_polygon(n) for n in range(3, 9))
 
 
 def figure_of(code, n):
@@ -81,7 +118,7 @@ def should_sum_to(figure, fixed_angles):
     if figure.code == 1:
         return (HALF_CIRCLE,) * 3
     if figure.code == 2:
-        return (HALF_CIRCLE,) * 3 + tuple(fixed_angles)
+        return (HALF_CIRCLE,) * figure.n + tuple(fixed_angles)
     return (HALF_CIRCLE,) * figure.n + (FULL_CIRCLE,)
 
 
@@ -90,26 +127,33 @@ def condition_sums(figure, values):
     return [sum(values[angle - 1] for angle in condition) for condition in figure.conditions]
 
 
-def inverse(matrix):
-    """Of a square matrix of fractions, by elimination."""
+def without(row, lead, column):
+    """A multiple of the row, in whole numbers without a common factor, that has nothing left in the column of its lead."""
+    left = [lead[column] * value - row[column] * other for value, other in zip(row, lead)]
+    common = gcd(*left) or 1
+    return [value // common for value in left]
+
+
+def eliminated(matrix, right):
+    """What stands on the right, as fractions, once a square matrix of whole numbers is turned into 1 on the diagonal and 0
+    beside it, or None where it cannot be: its rows depend on each other."""
     size = len(matrix)
-    rows = [list(row) + [Fraction(i == j) for j in range(size)] for i, row in enumerate(matrix)]
+    rows = [[*row, *beside] for row, beside in zip(matrix, right)]
     for column in range(size):
-        pivot = next(i for i in range(column, size) if rows[i][column] != 0)
+        pivot = next((i for i in range(column, size) if rows[i][column] != 0), None)
+        if pivot is None:
+            return None
         rows[column], rows[pivot] = rows[pivot], rows[column]
-        rows[column] = [value / rows[column][column] for value in rows[column]]
-        for i in range(size):
-            if i != column:
-                factor = rows[i][column]
-                rows[i] = [value - factor * lead for value, lead in zip(rows[i], rows[column])]
-    return [row[size:] for row in rows]
+        rows = [row if i == column or row[column] == 0 else without(row, rows[column], column) for i, row in enumerate(rows)]
+    return [[Fraction(value, row[i]) for value in row[size:]] for i, row in enumerate(rows)]
 
 
 @lru_cache(maxsize=None)
 def inverse_normal_matrix(figure):
     """Of C times its transpose: entry (a, b) counts the angles that conditions a and b share."""
-    shared = [[Fraction(len(set(a) & set(b))) for b in figure.conditions] for a in figure.conditions]
-    return inverse(shared)
+    shared = [[len(set(a) & set(b)) for b in figure.conditions] for a in figure.conditions]
+    one_for_each = [[int(i == j) for j in range(len(shared))] for i in range(len(shared))]
+    return eliminated(shared, one_for_each)
 
 
 def least_squares_corrections(figure, misclosures):
@@ -138,3 +182,29 @@ def reduced_coefficients(figure, signed_differences):
     """Document 01, "The two passes": A, which is D times the part of d that changes no condition."""
     taken = least_squares_corrections(figure, condition_sums(figure, signed_differences))
     return over_denominator(figure, [d + v for d, v in zip(signed_differences, taken)])
+
+
+def product_sum(one, another):
+    """[ab] of the books: the sum of the products, angle by angle."""
+    return sum(a * b for a, b in zip(one, another))
+
+
+@lru_cache(maxsize=None)
+def condition_rows(figure):
+    """C: 1 where an angle is in a condition, 0 elsewhere."""
+    return [[int(angle in condition) for angle in range(1, figure.angle_count + 1)] for condition in figure.conditions]
+
+
+def second_corrections(figure, signed_differences, sine_misclosures):
+    """The corrections, as fractions of tenths, that change no linear condition, cancel every linearised sine misclosure, and
+    have the least sum of squares, by the normal equations of all conditions together: for each sine condition the sum of its
+    d times the correction is -100 W. None where the conditions depend on each other."""
+    rows = condition_rows(figure) + [list(differences) for differences in signed_differences]
+    wanted = [0] * len(figure.conditions) + [-100 * misclosure for misclosure in sine_misclosures]
+    normal = [[product_sum(one, another) for another in rows] for one in rows]
+    correlates = eliminated(normal, [[value] for value in wanted])
+    if correlates is None:
+        return None
+    common = lcm(*(k.denominator for (k,) in correlates))
+    whole = [int(k * common) for (k,) in correlates]
+    return [Fraction(product_sum(whole, column), common) for column in zip(*rows)]

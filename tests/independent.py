@@ -1,4 +1,4 @@
-"""The program's whole output for one sheet, computed from document 01 by another route than the program's.
+"""The program's whole output for one sheet, computed from documents 01 and 02 by another route than the program's.
 
 Run as a program it reads one sheet from standard input and writes the lines.
 """
@@ -6,7 +6,14 @@ Run as a program it reads one sheet from standard input and writes the lines.
 import sys
 from typing import NamedTuple
 
-from figures import condition_sums, first_numerators, reduced_coefficients, should_sum_to
+from figures import (
+    condition_sums,
+    first_numerators,
+    product_sum,
+    reduced_coefficients,
+    second_corrections,
+    should_sum_to,
+)
 from packed import LARGEST_ANGLE, Refused, read_sheet, refuse_first
 
 BYTES_HELD = 199  # "The program holds 199 bytes at once, so that a longer sheet is seen."
@@ -23,9 +30,9 @@ class FirstPass(NamedTuple):
 
 
 class SecondPass(NamedTuple):
-    sine_misclosure: int  # W
-    square_sum: int  # S
-    reduced: list  # A
+    sine_misclosures: list  # W of each sine condition
+    divisor: int  # S, or the determinant of two sine conditions
+    reduced: list  # of each sine condition: A, then B
     numerators: list
     rounded: list
     results: list
@@ -65,21 +72,63 @@ def check_tolerance(tolerance, sine_misclosure, signed_differences):
         raise Refused(9)
 
 
+def signed_values(signs, values):
+    return [sign * value for sign, value in zip(signs, values)]
+
+
+def sine_misclosure(sine, sheet):
+    """W: the signed sum of the log-sines and of the log sides that the condition joins."""
+    return sum(signed_values(sine.signs, sheet.log_sines)) + sum(signed_values(sine.side_signs, sheet.log_sides))
+
+
+def divisor_of(reduced):
+    """S of document 01, the determinant of M-100."""
+    if len(reduced) == 1:
+        return product_sum(reduced[0], reduced[0])
+    a, b = reduced
+    return product_sum(a, a) * product_sum(b, b) - product_sum(a, b) ** 2
+
+
+def printed_numerators(figure, reduced, sine_misclosures):
+    """As document 01 and M-100 print them, over S and over the determinant."""
+    scale = -100 * figure.denominator
+    if len(reduced) == 1:
+        return [scale * a * sine_misclosures[0] for a in reduced[0]]
+    (a_row, b_row), (of_pole, of_side) = reduced, sine_misclosures
+    aa, ab, bb = product_sum(a_row, a_row), product_sum(a_row, b_row), product_sum(b_row, b_row)
+    by_pole, by_side = bb * of_pole - ab * of_side, aa * of_side - ab * of_pole
+    return [scale * (a * by_pole + b * by_side) for a, b in zip(a_row, b_row)]
+
+
+def exact_numerators(figure, signed, reduced, sine_misclosures):
+    """The least-squares corrections under all conditions, over the divisor; None where it is 0. That they are the printed ones
+    is seen of every sheet that is worked."""
+    exact = second_corrections(figure, signed, sine_misclosures)
+    divisor = divisor_of(reduced)
+    assert (exact is None) == (divisor == 0), figure
+    if exact is None:
+        return None
+    numerators = [correction * divisor for correction in exact]
+    assert numerators == printed_numerators(figure, reduced, sine_misclosures), figure
+    return [int(numerator) for numerator in numerators]
+
+
 def second_pass(sheet):
-    """Document 01, "The two passes": second pass, with numbers 10, 9 and 7."""
+    """Document 01, "The two passes", and document 02, M-100: second pass, with numbers 10, 9 (of each condition) and 7."""
     figure = sheet.figure
-    signed = [sign * difference for sign, difference in zip(figure.sine_signs, sheet.differences)]
-    sine_misclosure = sum(sign * log_sine for sign, log_sine in zip(figure.sine_signs, sheet.log_sines))
-    reduced = reduced_coefficients(figure, signed)
-    square_sum = sum(a * a for a in reduced)
-    if square_sum == 0:
+    signed = [signed_values(sine.signs, sheet.differences) for sine in figure.sines]
+    sine_misclosures = [sine_misclosure(sine, sheet) for sine in figure.sines]
+    reduced = [reduced_coefficients(figure, differences) for differences in signed]
+    numerators = exact_numerators(figure, signed, reduced, sine_misclosures)
+    if numerators is None:
         raise Refused(10)
-    check_tolerance(sheet.limit or DEFAULT_TOLERANCE, sine_misclosure, signed)
-    numerators = [-100 * figure.denominator * a * sine_misclosure for a in reduced]
-    rounded = [rounded_quotient(numerator, square_sum) for numerator in numerators]
+    for misclosure, differences in zip(sine_misclosures, signed):
+        check_tolerance(sheet.limit or DEFAULT_TOLERANCE, misclosure, differences)
+    divisor = divisor_of(reduced)
+    rounded = [rounded_quotient(numerator, divisor) for numerator in numerators]
     results = corrected(sheet.angles, rounded)
     rests = condition_sums(figure, rounded)
-    return SecondPass(sine_misclosure, square_sum, reduced, numerators, rounded, results, rests)
+    return SecondPass(sine_misclosures, divisor, reduced, numerators, rounded, results, rests)
 
 
 def numbered(*columns):
@@ -96,8 +145,9 @@ def first_lines(sheet, done):
 
 def second_lines(sheet, done):
     figure = sheet.figure
-    yield "figure", figure.code, figure.n, "W", done.sine_misclosure, "S", done.square_sum
-    yield from numbered(sheet.angles, done.reduced, done.numerators, done.rounded, done.results)
+    divisor = "S" if len(figure.sines) == 1 else "determinant"
+    yield "figure", figure.code, figure.n, "W", *done.sine_misclosures, divisor, done.divisor
+    yield from numbered(sheet.angles, *done.reduced, done.numerators, done.rounded, done.results)
     for row in numbered(done.rests):
         yield "condition", *row
 

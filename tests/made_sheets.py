@@ -9,29 +9,41 @@ that need care:
 - 1 comes after 11 and before 12, so it shows on sheets of any length from two bytes.
 - 7 of kind 1 needs an angle within a few tenths of an end of its range in a figure that still closes: needles.
 - 10 needs every reduced coefficient to be 0: no differences at all, differences at inner angles only (their sine sign
-  is 0), or signed differences that are a sum of conditions, which wants some of them negative.
+  is 0), or signed differences that are a sum of conditions, which wants some of them negative. Of two sine conditions it is
+  enough that one's reduced coefficients are a multiple of the other's.
 - 9 comes after 10, so it needs a difference that counts.
 - 12 of a sheet longer than the 199 bytes that the program holds looks like 12 of 199 bytes.
 """
 
 import random
-from itertools import combinations_with_replacement, islice
+from itertools import combinations_with_replacement, islice, product
 from math import isqrt
 
 from closing import closing_angles, move_that_keeps_conditions
-from figures import FIGURES, figure_of, first_numerators
-from independent import DEFAULT_LIMIT, DEFAULT_TOLERANCE, rounded_quotient, second_pass, work
+from figures import FIGURES, figure_of, first_numerators, reduced_coefficients, second_corrections
+from independent import (
+    DEFAULT_LIMIT,
+    DEFAULT_TOLERANCE,
+    divisor_of,
+    rounded_quotient,
+    second_pass,
+    signed_values,
+    work,
+)
 from packed import (
     ANGLE_BITS,
     DIFFERENCE_BITS,
     LARGEST_ANGLE,
     LARGEST_DIFFERENCE,
     LARGEST_LIMIT,
+    LARGEST_LOG_SIDE,
     LARGEST_LOG_SINE,
     LARGEST_TOLERANCE,
     LIMIT_BITS,
+    LOG_SIDE_BITS,
     LOG_SINE_BITS,
     TOLERANCE_BITS,
+    Refused,
     Sheet,
     packed_values,
     sheet_size,
@@ -47,6 +59,7 @@ MOST_IN_TOLERANCE = (1 << TOLERANCE_BITS) - 1
 
 OUTSIDE_ANGLES = (0, LARGEST_ANGLE + 1, (1 << ANGLE_BITS) - 1)
 OUTSIDE_LOG_SINES = (0, LARGEST_LOG_SINE + 1, (1 << LOG_SINE_BITS) - 1)
+OUTSIDE_LOG_SIDES = (0, LARGEST_LOG_SIDE + 1, (1 << LOG_SIDE_BITS) - 1)
 OUTSIDE_DIFFERENCES = (-SIGN_BIT, -LARGEST_DIFFERENCE - 1, LARGEST_DIFFERENCE + 1, SIGN_BIT - 1)
 
 
@@ -92,38 +105,63 @@ def first_sheet(figure, rng, limit=0, misclosures=None, needle=False):
             return Sheet(1, figure, limit, found[0], fixed=found[1])
 
 
-def signed(figure, differences):
-    return [sign * difference for sign, difference in zip(figure.sine_signs, differences)]
-
-
-def largest_sine_misclosure(figure, tolerance, differences):
-    """The largest W that number 9 lets pass."""
-    squares = sum(d * d for d in signed(figure, differences))
+def largest_sine_misclosure(sine, tolerance, differences):
+    """The largest W of this condition that number 9 lets pass."""
+    squares = sum(d * d for d in signed_values(sine.signs, differences))
     return isqrt((tolerance or DEFAULT_TOLERANCE) ** 2 * squares // 100)
 
 
+def misclosures_within_tolerance(figure, tolerance, differences, rng):
+    bounds = [largest_sine_misclosure(sine, tolerance, differences) for sine in figure.sines]
+    return tuple(rng.randint(-bound, bound) for bound in bounds)
+
+
 def log_sines_with(figure, sine_misclosure, rng):
-    """Log-sines whose signed sum is the one wanted: equal sets on both sides, and the rest on one angle."""
-    ordinary = [rng.randint(10_000_000, 90_000_000) for _ in range(figure.sine_signs.count(+1))]
+    """Log-sines whose signed sum is the pole's W: equal sets on both sides, and the rest on one angle."""
+    ordinary = [rng.randint(10_000_000, 90_000_000) for _ in range(figure.pole_signs.count(+1))]
     sides = {+1: list(ordinary), -1: rng.sample(ordinary, len(ordinary))}
     sides[+1][0] += sine_misclosure
-    return tuple(sides[sign].pop() if sign else rng.randint(1, LARGEST_LOG_SINE) for sign in figure.sine_signs)
+    return tuple(sides[sign].pop() if sign else rng.randint(1, LARGEST_LOG_SINE) for sign in figure.pole_signs)
+
+
+def moved_to_side_condition(figure, sine_misclosure, log_sines, log_sides, rng):
+    """The log-sines with another one at the two angles that only the side condition joins, so that its W is the one wanted, or
+    None where they cannot have it."""
+    side = figure.sines[1]
+    only_here = {sign: place for place, sign in enumerate(side.signs, start=1) if sign and not figure.pole_signs[place - 1]}
+    others = tuple(0 if place in only_here.values() else value for place, value in enumerate(log_sines, start=1))
+    rest = sine_misclosure - sum(signed_values(side.signs, others)) - sum(signed_values(side.side_signs, log_sides))
+    low, high = max(1, 1 - rest), min(LARGEST_LOG_SINE, LARGEST_LOG_SINE - rest)
+    if low > high:
+        return None
+    taken = rng.randint(low, high)
+    return with_value(with_value(log_sines, only_here[-1], taken), only_here[+1], taken + rest)
+
+
+def entries_with(figure, sine_misclosures, rng, log_sides=None):
+    """Log-sines and log sides of which each sine condition has the W wanted."""
+    if not figure.side_count:
+        return log_sines_with(figure, sine_misclosures[0], rng), ()
+    while True:
+        sides = log_sides or tuple(rng.randint(1, LARGEST_LOG_SIDE) for _ in range(figure.side_count))
+        log_sines = log_sines_with(figure, sine_misclosures[0], rng)
+        moved = moved_to_side_condition(figure, sine_misclosures[1], log_sines, sides, rng)
+        if moved:
+            return moved, sides
 
 
 def some_differences(figure, rng, largest=None):
     largest = largest or rng.choice((3, 40, 700, LARGEST_DIFFERENCE))
-    return tuple(rng.randint(-largest, largest) for _ in figure.sine_signs)
+    return tuple(rng.randint(-largest, largest) for _ in figure.pole_signs)
 
 
-def second_sheet(figure, rng, tolerance=0, differences=None, sine_misclosure=None):
+def second_sheet(figure, rng, tolerance=0, differences=None, sine_misclosures=None, log_sides=None):
     """A sheet of kind 2 within its tolerance, unless a given W goes beyond it."""
     differences = differences or some_differences(figure, rng)
-    if sine_misclosure is None:
-        bound = largest_sine_misclosure(figure, tolerance, differences)
-        sine_misclosure = rng.randint(-bound, bound)
-    angles = tuple(rng.randint(36_000, LARGEST_ANGLE - 36_000) for _ in figure.sine_signs)
-    log_sines = log_sines_with(figure, sine_misclosure, rng)
-    return Sheet(2, figure, tolerance, angles, log_sines=log_sines, differences=differences)
+    wanted = sine_misclosures or misclosures_within_tolerance(figure, tolerance, differences, rng)
+    angles = tuple(rng.randint(36_000, LARGEST_ANGLE - 36_000) for _ in figure.pole_signs)
+    log_sines, sides = entries_with(figure, wanted, rng, log_sides)
+    return Sheet(2, figure, tolerance, angles, log_sines=log_sines, differences=differences, log_sides=sides)
 
 
 def ordinary_sheet(kind, figure, rng):
@@ -205,11 +243,13 @@ def angles_at_the_edge(rng):
 
 def fixed_angles_at_the_edge(rng):
     """Number 5."""
-    figure = figure_of(2, 3)
-    for place in (1, 2, 3):
-        for angle in OUTSIDE_ANGLES + (1, LARGEST_ANGLE):
-            sheet = first_sheet(figure, rng)
-            yield f"fixed angle {place} of {angle}", sheet._replace(fixed=with_value(sheet.fixed, place, angle))
+    for figure in FIGURES:
+        for place in range(1, figure.fixed_count + 1):
+            for angle in OUTSIDE_ANGLES + (1, LARGEST_ANGLE):
+                sheet = first_sheet(figure, rng)
+                yield f"fixed angle {place} of {angle} {label(1, figure)}", sheet._replace(
+                    fixed=with_value(sheet.fixed, place, angle)
+                )
 
 
 def log_sines_at_the_edge(rng):
@@ -233,6 +273,25 @@ def differences_at_the_edge(rng):
                 yield f"difference {place} of {difference} {label(2, figure)}", sheet._replace(
                     differences=with_value(sheet.differences, place, difference)
                 )
+
+
+def log_sides_at_the_edge(rng):
+    """Number 8, with the places after the angles', and before them where a log-sine is outside too; then both ends, accepted."""
+    for figure in figures_with_sides():
+        for place in range(1, figure.side_count + 1):
+            for log_side in OUTSIDE_LOG_SIDES:
+                sheet = second_sheet(figure, rng)
+                spoilt = sheet._replace(log_sides=with_value(sheet.log_sides, place, log_side))
+                yield f"log side {place} of {log_side} {label(2, figure)}", spoilt
+                yield f"log side {place} of {log_side} and a log-sine {label(2, figure)}", spoil_log_sine(spoilt, rng)
+        yield f"log sides of 0 {label(2, figure)}", sheet._replace(log_sides=(0,) * figure.side_count)
+        ends = (1, 2, LARGEST_LOG_SIDE - 1, LARGEST_LOG_SIDE)
+        for log_sides in product(ends, repeat=figure.side_count):
+            yield f"log sides of {log_sides} {label(2, figure)}", second_sheet(figure, rng, log_sides=log_sides)
+
+
+def figures_with_sides():
+    return [figure for figure in FIGURES if figure.side_count]
 
 
 # --- edges of what is computed ------------------------------------------------------------------------------------------
@@ -292,6 +351,16 @@ def corrected_angles_just_below_180_degrees(rng):
             yield f"corrected angle {place} of {LARGEST_ANGLE} {label(1, figure)}", sheet
 
 
+def worked_sheet(figure, rng):
+    """A sheet of kind 2 that is accepted, and its rounded corrections."""
+    while True:
+        sheet = second_sheet(figure, rng, LARGEST_TOLERANCE, some_differences(figure, rng, 700))
+        try:
+            return sheet, second_pass(sheet).rounded
+        except Refused:
+            pass
+
+
 def adjusted_angles_at_the_edge(rng):
     """Number 7 of kind 2, at every place: the given angle is free, so the correction is simply taken off."""
     for figure in FIGURES:
@@ -299,32 +368,54 @@ def adjusted_angles_at_the_edge(rng):
             for result in (0, 1, LARGEST_ANGLE, LARGEST_ANGLE + 1):
                 angle = 0
                 while not 1 <= angle <= LARGEST_ANGLE:
-                    sheet = second_sheet(figure, rng, LARGEST_TOLERANCE, some_differences(figure, rng, 700))
-                    angle = result - second_pass(sheet).rounded[place - 1]
+                    sheet, rounded = worked_sheet(figure, rng)
+                    angle = result - rounded[place - 1]
                 yield f"adjusted angle {place} of {result} {label(2, figure)}", sheet._replace(
                     angles=with_value(sheet.angles, place, angle)
                 )
 
 
 def sine_misclosures_at_the_tolerance(rng):
-    """Number 9: W at the largest that passes and one beyond. First with large differences at the angles that have no sine
-    sign, which must not count; then with the largest reduced coefficients that there are."""
+    """Number 9, for each sine condition: its W at the largest that passes and one beyond, the other's within. First with large
+    differences at the angles that have no sign in it, which must not count; then with the largest reduced coefficients."""
     for figure in FIGURES:
-        inner_large = tuple(rng.randint(-700, 700) if sign else LARGEST_DIFFERENCE for sign in figure.sine_signs)
-        cases = [(tolerance, inner_large) for tolerance in (0, 1, LARGEST_TOLERANCE, rng.randint(2, LARGEST_TOLERANCE - 1))]
-        cases += [(LARGEST_TOLERANCE, (largest,) * figure.angle_count) for largest in (-LARGEST_DIFFERENCE, LARGEST_DIFFERENCE)]
-        for tolerance, differences in cases:
-            bound = largest_sine_misclosure(figure, tolerance, differences)
-            for sine_misclosure in (-bound - 1, -bound, bound, bound + 1):
-                sheet = second_sheet(figure, rng, tolerance, differences, sine_misclosure)
-                yield f"W of {sine_misclosure} {label(2, figure)}", sheet
+        for number, sine in enumerate(figure.sines, start=1):
+            others_large = tuple(rng.randint(-700, 700) if sign else LARGEST_DIFFERENCE for sign in sine.signs)
+            tolerances = (0, 1, LARGEST_TOLERANCE, rng.randint(2, LARGEST_TOLERANCE - 1))
+            cases = [(tolerance, others_large) for tolerance in tolerances]
+            cases += [(LARGEST_TOLERANCE, (end,) * figure.angle_count) for end in (-LARGEST_DIFFERENCE, LARGEST_DIFFERENCE)]
+            for tolerance, differences in cases:
+                bound = largest_sine_misclosure(sine, tolerance, differences)
+                for misclosure in (-bound - 1, -bound, bound, bound + 1):
+                    within = misclosures_within_tolerance(figure, tolerance, differences, rng)
+                    sheet = second_sheet(figure, rng, tolerance, differences, with_value(within, number, misclosure))
+                    yield f"W {number} of {misclosure} {label(2, figure)}", sheet
+
+
+def largest_at(figure, sine, angle):
+    """Differences that make the reduced coefficient of this condition at this angle as large as it can be."""
+    ones = [[int(i == j) for j in range(figure.angle_count)] for i in range(figure.angle_count)]
+    shares = [reduced_coefficients(figure, signed_values(sine.signs, one))[angle - 1] for one in ones]
+    return tuple(LARGEST_DIFFERENCE if share >= 0 else -LARGEST_DIFFERENCE for share in shares)
+
+
+def both_sine_misclosures_at_the_tolerance(rng):
+    """The largest reduced coefficients and numerators that two sine conditions have; one beyond for both, now and then."""
+    for figure in figures_with_sides():
+        ends = [(end,) * figure.angle_count for end in (-LARGEST_DIFFERENCE, LARGEST_DIFFERENCE)]
+        for differences in ends + [largest_at(figure, sine, angle) for sine in figure.sines for angle in (1, 2)]:
+            bounds = [largest_sine_misclosure(sine, LARGEST_TOLERANCE, differences) for sine in figure.sines]
+            for more, turned in ((0, (-1, -1)), (0, (-1, 1)), (0, (1, -1)), (0, (1, 1)), (1, (-1, 1))):
+                wanted = tuple(sign * (bound + more) for sign, bound in zip(turned, bounds))
+                sheet = second_sheet(figure, rng, LARGEST_TOLERANCE, differences, wanted)
+                yield f"W of {wanted} {label(2, figure)}", sheet
 
 
 def spread(figure, sine_misclosure):
     """Log-sines as far apart as it takes for a very large W."""
     most = LARGEST_LOG_SINE - 1
     log_sines = []
-    for sign in figure.sine_signs:
+    for sign in figure.pole_signs:
         share = min(most, sine_misclosure) if sign == +1 else 0
         sine_misclosure -= share
         log_sines.append(1 + share)
@@ -334,40 +425,57 @@ def spread(figure, sine_misclosure):
 def very_large_sine_misclosures(rng):
     """100·W² passes 2⁶⁴ several times; at these W what is left of it after 64 bits is small."""
     for figure in FIGURES:
-        count = figure.sine_signs.count(+1)
+        count = figure.pole_signs.count(+1)
         wraps = [isqrt((turns << 62) // 100) for turns in range(1, 15)]
         wraps += [most + 1 for most in wraps] + [count * (LARGEST_LOG_SINE - 1)]
         for sine_misclosure in wraps:
             if sine_misclosure <= count * (LARGEST_LOG_SINE - 1):
                 differences = (LARGEST_DIFFERENCE,) * figure.angle_count
-                sheet = second_sheet(figure, rng, LARGEST_TOLERANCE, differences, 0)
+                sheet = second_sheet(figure, rng, LARGEST_TOLERANCE, differences, (0,) * len(figure.sines))
                 yield f"W of {sine_misclosure} {label(2, figure)}", sheet._replace(log_sines=spread(figure, sine_misclosure))
 
 
+def very_large_side_misclosures(rng):
+    """The side condition alone: the largest W that its log sides give, and that all of it gives; the pole's stays 0, since the two
+    angles of a triangle that it joins have the same log-sine."""
+    most = LARGEST_LOG_SIDE - 1
+    for figure in figures_with_sides():
+        side = figure.sines[1]
+        for turn in (-1, 1):
+            log_sides = tuple(1 + most * (turn * sign > 0) for sign in side.side_signs)
+            apart = [1 + most * (turn * sign > 0) for sign in side.signs]
+            for own in range(1, figure.angle_count, 3):
+                apart[own] = apart[own + 1] = max(apart[own : own + 2])
+            differences = (LARGEST_DIFFERENCE,) * figure.angle_count
+            sheet = second_sheet(figure, rng, LARGEST_TOLERANCE, differences, (0, 0))._replace(log_sides=log_sides)
+            for log_sines in ((50_000_000,) * figure.angle_count, tuple(apart)):
+                yield f"log sides {log_sides} far apart {label(2, figure)}", sheet._replace(log_sines=log_sines)
+
+
 def sum_of_conditions(figure, rng):
-    """Signed differences that are a sum of conditions, as the sheet gives them, 0 where the sine sign is."""
-    one, another, third = (rng.randint(-3000, 3000) for _ in range(3))
+    """Signed differences of the pole that are a sum of conditions, as the sheet gives them, 0 where its sine sign is."""
+    some = [rng.randint(-3000, 3000) for _ in range(4)]
     if figure.code == 1:
-        by_pair = (one, one + another, another + third, third)
+        by_pair = (some[0], some[0] + some[1], some[1] + some[2], some[2])
         along = [value for value in by_pair for _ in (1, 2)]
     elif figure.code == 2:
-        corners = (one, another, third)
-        along = [value for i in range(3) for value in (0, corners[i], corners[(i + 1) % 3])]
+        n = figure.n
+        along = [value for i in range(n) for value in (0, some[i], some[(i + 1) % n])]
     else:
-        along = [value for _ in range(figure.n) for value in (0, one, one)]
-    return tuple(sign * value for sign, value in zip(figure.sine_signs, along))
+        along = [value for _ in range(figure.n) for value in (0, some[0], some[0])]
+    return tuple(sign * value for sign, value in zip(figure.pole_signs, along))
 
 
 def no_sine_part(rng):
     """Number 10, whatever W is; the last differs from a sum of conditions by 1 and is accepted or gives 9."""
     for figure in FIGURES:
-        inner_only = tuple(0 if sign else LARGEST_DIFFERENCE for sign in figure.sine_signs)
+        inner_only = tuple(0 if sign else LARGEST_DIFFERENCE for sign in figure.pole_signs)
         along = sum_of_conditions(figure, rng)
         beside = with_value(along, 2, along[1] + 1)
         for differences in ((0,) * figure.angle_count, inner_only, along, beside):
             for sine_misclosure in (0, 1, 5_000):
                 yield f"no sine part, W {sine_misclosure} {label(2, figure)}", second_sheet(
-                    figure, rng, 0, differences, sine_misclosure
+                    figure, rng, 0, differences, (sine_misclosure,) * len(figure.sines)
                 )
 
 
@@ -375,10 +483,120 @@ def halves(rng):
     """Second corrections of a whole number and a half. With m angles of each sign and all differences 100 the signed ones
     sum to 0 in every condition, so A is D times d, and the exact correction is W / 2m with the sign of d turned."""
     for figure in FIGURES:
-        m = figure.sine_signs.count(+1)
-        differences = tuple(100 if sign else 0 for sign in figure.sine_signs)
+        if figure.side_count:
+            continue
+        m = figure.pole_signs.count(+1)
+        differences = tuple(100 if sign else 0 for sign in figure.pole_signs)
         for odd in (-5, -3, -1, 1, 3, 5):
-            yield f"halves, W {odd * m} {label(2, figure)}", second_sheet(figure, rng, LARGEST_TOLERANCE, differences, odd * m)
+            yield f"halves, W {odd * m} {label(2, figure)}", second_sheet(
+                figure, rng, LARGEST_TOLERANCE, differences, (odd * m,)
+            )
+
+
+# --- two sine conditions ------------------------------------------------------------------------------------------------
+
+
+def differences_at(figure, by_angle):
+    return tuple(by_angle.get(angle, 0) for angle in range(1, figure.angle_count + 1))
+
+
+def along_corners(values):
+    """Differences by angle whose signed ones of the pole are the same for both angles at each corner."""
+    turned = [-value for value in values[1:] + values[:1]]
+    return {3 * i + 2 + part: pair[part] for i, pair in enumerate(zip(values, turned)) for part in (0, 1)}
+
+
+def dependent_differences(rng):
+    """Differences by angle, not all 0, of which the determinant is 0; with each an angle where one more ends that."""
+    x, y, *others = (rng.randint(1_000, 3_000) for _ in range(6))
+    yield "B is -A", {3: x, 11: y}, 1
+    yield "B is 0", {1: x, 3: -x, 10: -x, 11: x, 2: others[0], 5: others[1], 6: others[2], 9: others[3]}, 10
+    yield "A is 0", {**along_corners(others), 1: x, 10: y}, 6
+    yield "A is three halves of B", {1: 2 * x, 10: 2 * y, 2: 3 * x, 12: 3 * y, 5: -3 * x, 9: -3 * y}, 12
+    yield "A is B", {1: x, 10: y, 12: x + y, 5: -x, 9: -y}, 8
+
+
+def dependent_sine_conditions(rng):
+    """Number 10 with differences that are not 0, whatever both W are; with one more or less at an angle it is not given."""
+    for figure in figures_with_sides():
+        for name, by_angle, beside in dependent_differences(rng):
+            differences = differences_at(figure, by_angle)
+            for wanted in ((0, 0), (0, 1), (-700, 700)):
+                yield f"{name}, W {wanted} {label(2, figure)}", second_sheet(figure, rng, 0, differences, wanted)
+            for step in (-1, 1):
+                moved = with_value(differences, beside, differences[beside - 1] + step)
+                for wanted in ((0, 0), (0, 1)):
+                    yield f"{name} but for {step}, W {wanted} {label(2, figure)}", second_sheet(figure, rng, 0, moved, wanted)
+
+
+# Large differences with a very small determinant: 9999 · 9997 and 9998 · 9998 differ by 1.
+NEARLY_DEPENDENT = {1: 9_999, 10: 9_998, 2: -9_998, 12: -9_997, 5: 9_998, 9: 9_997}
+
+
+def exact_second_corrections(figure, differences, sine_misclosures):
+    return second_corrections(figure, [signed_values(sine.signs, differences) for sine in figure.sines], sine_misclosures)
+
+
+def in_32_bits(value):
+    """What is left of a whole number in 32 bits, two's complement."""
+    return (value + 2**31) % 2**32 - 2**31
+
+
+def angle_for(correction, rng):
+    """An angle that the correction leaves within its range, if there is one."""
+    low, high = max(1, 1 - correction), min(LARGEST_ANGLE, LARGEST_ANGLE - correction)
+    return rng.choice((low, high, rng.randint(low, high))) if low <= high else rng.randint(1, LARGEST_ANGLE)
+
+
+def looks_small_in_32_bits(figure, differences):
+    """Pairs of W of which the first correction passes 32 bits, and what is left of it there would be accepted."""
+    by_pole, by_side = (exact_second_corrections(figure, differences, one)[0] for one in ((1, 0), (0, 1)))
+    for wanted in product((1_000, 30_000), range(1, 20_000)):
+        exact = wanted[0] * by_pole + wanted[1] * by_side
+        if abs(exact) > 2**32 and abs(in_32_bits(round(exact))) < 3_000_000:
+            yield wanted
+
+
+def very_large_corrections(rng):
+    """Number 7 of corrections that pass 32 bits, each beside an angle that what is left of it would leave within its range; and
+    corrections of many degrees that are accepted."""
+    for figure in figures_with_sides():
+        differences = differences_at(figure, NEARLY_DEPENDENT)
+        some = [(1, 0), (0, 1), (-1, -1), (1, -1), (2, 1), (1_000, 0), (0, -1_000), (70_000, 70_000), (70_000, -50_000)]
+        for wanted in some + [*islice(looks_small_in_32_bits(figure, differences), 4)]:
+            exact = exact_second_corrections(figure, differences, wanted)
+            rounded = [rounded_quotient(correction.numerator, correction.denominator) for correction in exact]
+            sheet = second_sheet(figure, rng, LARGEST_TOLERANCE, differences, wanted)
+            angles = tuple(angle_for(in_32_bits(correction), rng) for correction in rounded)
+            yield f"large corrections, W {wanted} {label(2, figure)}", sheet._replace(angles=angles)
+
+
+def determinants_of_whole_words(rng):
+    """The determinant is a multiple of 2⁶⁴ and not 0: it has nothing in its low word."""
+    for figure in figures_with_sides():
+        found = 0
+        while found < 6:
+            differences = tuple(rng.choice((-8192, 0, 8192)) for _ in figure.pole_signs)
+            reduced = [reduced_coefficients(figure, signed_values(sine.signs, differences)) for sine in figure.sines]
+            determinant = divisor_of(reduced)
+            if determinant and determinant % 2**64 == 0:
+                found += 1
+                yield f"determinant {determinant >> 64} · 2⁶⁴ {label(2, figure)}", second_sheet(figure, rng, 0, differences)
+
+
+def halves_of_two(rng):
+    """Second corrections of a whole number and a half, under two sine conditions."""
+    for figure in figures_with_sides():
+        found = 0
+        while found < 8:
+            differences = tuple(100 * rng.randint(-2, 2) for _ in figure.pole_signs)
+            misclosures = tuple(rng.randint(-9, 9) for _ in figure.sines)
+            exact = exact_second_corrections(figure, differences, misclosures)
+            if exact and any(v.denominator == 2 for v in exact):
+                found += 1
+                yield f"halves, W {misclosures} {label(2, figure)}", second_sheet(
+                    figure, rng, LARGEST_TOLERANCE, differences, misclosures
+                )
 
 
 # --- bits, lengths, heads, noise ----------------------------------------------------------------------------------------
@@ -484,9 +702,14 @@ def spoil_difference(sheet, rng):
     return sheet._replace(differences=spoiled(sheet.differences, OUTSIDE_DIFFERENCES, rng))
 
 
+def spoil_log_side(sheet, rng):
+    return sheet._replace(log_sides=spoiled(sheet.log_sides, OUTSIDE_LOG_SIDES, rng))
+
+
 def spoilers(kind, figure):
     if kind == 2:
-        return (spoil_limit, spoil_angle, spoil_log_sine, spoil_difference)
+        entries = (spoil_limit, spoil_angle, spoil_log_sine, spoil_difference)
+        return (*entries, spoil_log_side) if figure.side_count else entries
     return (spoil_limit, spoil_angle, spoil_fixed_angle) if figure.fixed_count else (spoil_limit, spoil_angle)
 
 
@@ -508,14 +731,21 @@ GROUPS = (
     fixed_angles_at_the_edge,
     log_sines_at_the_edge,
     differences_at_the_edge,
+    log_sides_at_the_edge,
     corrected_angles_at_the_low_edge,
     corrected_angles_of_180_degrees,
     corrected_angles_just_below_180_degrees,
     adjusted_angles_at_the_edge,
     sine_misclosures_at_the_tolerance,
+    both_sine_misclosures_at_the_tolerance,
     very_large_sine_misclosures,
+    very_large_side_misclosures,
     no_sine_part,
     halves,
+    dependent_sine_conditions,
+    very_large_corrections,
+    determinants_of_whole_words,
+    halves_of_two,
     single_bits_flipped,
     filling_bits_set,
     every_length,

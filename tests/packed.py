@@ -1,4 +1,5 @@
-"""Packed sheets, read and written from document 01, "Packed sheets" and "Numbers given when a sheet is turned back"."""
+"""Packed sheets, read and written from document 01, "Packed sheets" and "Numbers given when a sheet is turned back", and, for
+the log sides, from document 02, M-100."""
 
 from typing import NamedTuple
 
@@ -7,9 +8,11 @@ from figures import HALF_CIRCLE, Figure, figure_of
 KIND_BITS, CODE_BITS, N_BITS = 4, 4, 4
 LIMIT_BITS, TOLERANCE_BITS = 10, 6
 ANGLE_BITS, LOG_SINE_BITS, DIFFERENCE_BITS = 23, 27, 15
+LOG_SIDE_BITS = 27
 
 LARGEST_ANGLE = HALF_CIRCLE - 1
 LARGEST_LOG_SINE = 100_000_000
+LARGEST_LOG_SIDE = 100_000_000
 LARGEST_DIFFERENCE = 9_999
 LARGEST_LIMIT = 600
 LARGEST_TOLERANCE = 50
@@ -32,20 +35,22 @@ class Sheet(NamedTuple):
     fixed: tuple = ()
     log_sines: tuple = ()
     differences: tuple = ()
+    log_sides: tuple = ()
 
 
 def counts(kind, figure):
-    """How many angles, fixed angles, log-sines and differences a sheet of this kind has."""
+    """How many angles, fixed angles, log-sines, differences and log sides a sheet of this kind has."""
     if kind == 1:
-        return figure.angle_count, figure.fixed_count, 0, 0
-    return figure.angle_count, 0, figure.angle_count, figure.angle_count
+        return figure.angle_count, figure.fixed_count, 0, 0, 0
+    return figure.angle_count, 0, figure.angle_count, figure.angle_count, figure.side_count
 
 
 def used_bits(kind, figure):
     head = KIND_BITS + CODE_BITS + N_BITS
     if kind == 1:
         return head + LIMIT_BITS + ANGLE_BITS * (figure.angle_count + figure.fixed_count)
-    return head + TOLERANCE_BITS + (ANGLE_BITS + LOG_SINE_BITS + DIFFERENCE_BITS) * figure.angle_count
+    row = ANGLE_BITS + LOG_SINE_BITS + DIFFERENCE_BITS
+    return head + TOLERANCE_BITS + LOG_SIDE_BITS * figure.side_count + row * figure.angle_count
 
 
 def sheet_size(kind, figure):
@@ -80,12 +85,13 @@ def read_values(bits, kind, figure):
         fixed = [bits.take(ANGLE_BITS) for _ in range(figure.fixed_count)]
         return Sheet(kind, figure, limit, tuple(angles), fixed=tuple(fixed))
     tolerance = bits.take(TOLERANCE_BITS)
+    log_sides = tuple(bits.take(LOG_SIDE_BITS) for _ in range(figure.side_count))
     rows = [
         (bits.take(ANGLE_BITS), bits.take(LOG_SINE_BITS), bits.take_signed(DIFFERENCE_BITS))
         for _ in range(figure.angle_count)
     ]
     angles, log_sines, differences = zip(*rows)
-    return Sheet(kind, figure, tolerance, angles, log_sines=log_sines, differences=differences)
+    return Sheet(kind, figure, tolerance, angles, log_sines=log_sines, differences=differences, log_sides=log_sides)
 
 
 def refuse_first(number, tests):
@@ -96,7 +102,8 @@ def refuse_first(number, tests):
 
 
 def check_ranges(sheet):
-    """Numbers 3, 4, 5, 8, in this order for the reader and the writer alike (document 01, "Units and ranges")."""
+    """Numbers 3, 4, 5, 8, in this order for the reader and the writer alike (document 01, "Units and ranges"). The log sides
+    have the places after the angles'."""
     largest_limit = LARGEST_LIMIT if sheet.kind == 1 else LARGEST_TOLERANCE
     if not 0 <= sheet.limit <= largest_limit:
         raise Refused(3)
@@ -107,7 +114,8 @@ def check_ranges(sheet):
         [
             1 <= log_sine <= LARGEST_LOG_SINE and -LARGEST_DIFFERENCE <= difference <= LARGEST_DIFFERENCE
             for log_sine, difference in zip(sheet.log_sines, sheet.differences)
-        ],
+        ]
+        + [1 <= log_side <= LARGEST_LOG_SIDE for log_side in sheet.log_sides],
     )
 
 
@@ -153,6 +161,7 @@ def packed_values(sheet):
         fields += [(angle, ANGLE_BITS) for angle in sheet.angles + sheet.fixed]
     else:
         fields.append((sheet.limit, TOLERANCE_BITS))
+        fields += [(log_side, LOG_SIDE_BITS) for log_side in sheet.log_sides]
         for row in zip(sheet.angles, sheet.log_sines, sheet.differences):
             fields += zip(row, (ANGLE_BITS, LOG_SINE_BITS, DIFFERENCE_BITS))
     return packed(fields)
@@ -164,7 +173,7 @@ def write_sheet(sheet):
         raise Refused(11)
     if sheet.figure is None:
         raise Refused(1)
-    lent = tuple(map(len, (sheet.angles, sheet.fixed, sheet.log_sines, sheet.differences)))
+    lent = tuple(map(len, (sheet.angles, sheet.fixed, sheet.log_sines, sheet.differences, sheet.log_sides)))
     if lent != counts(sheet.kind, sheet.figure):
         raise Refused(2)
     check_ranges(sheet)

@@ -1,5 +1,5 @@
 #!/usr/bin/env python3
-"""The independent computation held against document 01's worked cases and the published examples.
+"""The independent computation held against document 01's worked cases, document 02's M-100 and the published examples.
 
 The program is not run here: this says that what it is compared with is right.
 """
@@ -9,8 +9,8 @@ import sys
 import unittest
 from pathlib import Path
 
-from figures import FIGURES, condition_sums, figure_of, first_numerators, reduced_coefficients
-from independent import first_pass, rounded_quotient, second_pass, work
+from figures import FIGURES, condition_sums, figure_of, first_numerators, product_sum, reduced_coefficients
+from independent import first_pass, rounded_quotient, second_pass, signed_values, work
 from packed import Refused, Sheet, packed_values, read_sheet, sheet_size, write_sheet
 
 SHEETS = Path(__file__).resolve().parent.parent / "sheets"
@@ -19,6 +19,7 @@ sys.path.insert(0, str(SHEETS))
 from values import BOOKS, DOCUMENT_TEXT, EACH_FIGURE, Second  # noqa: E402
 
 QUADRILATERAL = figure_of(1, 0)
+POINT_IN_QUADRILATERAL = figure_of(2, 4)
 FORTY_FIVE_DEGREES = 1_620_000
 LOG_SINE_OF_45 = 98_494_850
 CASE_6_SIGNED = (300, -169, 143, -271, 203, -248, 219, -178)
@@ -77,7 +78,7 @@ class WorkedCases(unittest.TestCase):
 
     def test_case_7(self):
         differences = [abs(d) for d in CASE_6_SIGNED]
-        self.assertEqual(second_pass(second_quadrilateral(628, differences)).sine_misclosure, 628)
+        self.assertEqual(second_pass(second_quadrilateral(628, differences)).sine_misclosures, [628])
         self.assertEqual(work(packed_values(second_quadrilateral(629, differences))), "refused 9 0\n")
 
     def test_case_8(self):
@@ -112,8 +113,175 @@ class Sizes(unittest.TestCase):
         self.assertEqual(first, [26, 38, 72])
         self.assertEqual(second, [68, 198])
 
-    def test_eight_figures(self):
-        self.assertEqual(len(FIGURES), 8)
+    def test_sizes_of_m_100(self):
+        """22 bits and 16 angles; 18 bits, two log sides of 27 and twelve rows of 65."""
+        self.assertEqual([sheet_size(kind, POINT_IN_QUADRILATERAL) for kind in (1, 2)], [49, 107])
+
+    def test_nine_figures(self):
+        self.assertEqual(len(FIGURES), 9)
+
+
+def cyclic(entries):
+    """Coefficients by triangle or corner, indices taken round; one that is named twice counts twice."""
+    row = [0] * 4
+    for index, coefficient in entries:
+        row[(index - 1) % 4] += coefficient
+    return row
+
+
+class PointInQuadrilateral(unittest.TestCase):
+    """Document 02, M-100."""
+
+    def test_rows(self):
+        """What M-100 prints is what the normal equations give."""
+        rows = []
+        for i in range(1, 5):
+            c = [(i, -14), (i - 1, -4), (i + 1, -4), (i + 2, -2)], [(i, 9), (i + 1, 9), (i + 2, 3), (i + 3, 3)]
+            l = [(i, -5), (i - 1, 5), (i + 1, -1), (i + 2, 1)], [(i, -12), (i + 1, 3), (i - 1, -3)]
+            r = [(i, -5), (i + 1, 5), (i - 1, -1), (i + 2, 1)], [(i + 1, -12), (i, 3), (i + 2, -3)]
+            rows += [cyclic(on_t) + cyclic(on_f) for on_t, on_f in (c, l, r)]
+        ones = [[int(i == j) for j in range(8)] for i in range(8)]
+        self.assertEqual([list(row) for row in zip(*(first_numerators(POINT_IN_QUADRILATERAL, one) for one in ones))], rows)
+
+    def test_conditions_and_signs(self):
+        figure = POINT_IN_QUADRILATERAL
+        self.assertEqual((figure.angle_count, figure.fixed_count, figure.denominator, figure.side_count), (12, 4, 24, 2))
+        self.assertEqual(figure.conditions[4:], ((12, 2), (3, 5), (6, 8), (9, 11)))
+        self.assertEqual(figure.sines[0].signs, (0, 1, -1) * 4)
+        self.assertEqual(figure.sines[1].signs, (-1, 0, 1, 0, 0, 0, 0, 0, 0, 1, -1, 0))
+        self.assertEqual(figure.sines[1].side_signs, (1, -1))
+
+    def test_horizon_follows(self):
+        """Where the fixed angles sum to 360 degrees, the corrected angles round the inner point do before rounding."""
+        sheet = read_sheet(sample("book-004-example-1-first"))
+        self.assertEqual(sum(sheet.fixed), 12_960_000)
+        numerators = first_pass(sheet).numerators
+        observed = sum(sheet.angles[::3])
+        self.assertEqual(24 * observed + sum(numerators[::3]), 24 * 12_960_000)
+
+    def test_printed_form(self):
+        text = work(sample("point-in-quadrilateral-second")).splitlines()
+        self.assertEqual(text[0], "figure 2 4 W -290 43 determinant 920843533810944")
+        self.assertEqual(text[1], "1 3628111 -189 -650 -15867082251302400 -17 3628094")
+        self.assertEqual([len(line.split()) for line in text], [8] + [7] * 12 + [3] * 8)
+
+    def test_both_sine_misclosures_are_cancelled(self):
+        for name in ("point-in-quadrilateral-second", "book-004-example-1-second"):
+            sheet = read_sheet(sample(name))
+            done = second_pass(sheet)
+            self.assertEqual(condition_sums(sheet.figure, done.numerators), [0] * 8)
+            for sine, misclosure in zip(sheet.figure.sines, done.sine_misclosures):
+                signed = signed_values(sine.signs, sheet.differences)
+                self.assertEqual(product_sum(signed, done.numerators), -100 * misclosure * done.divisor)
+
+    def test_products_of_reduced_coefficients(self):
+        """The sums of products that the determinant is made of: D times those with the unreduced d."""
+        sheet = read_sheet(sample("book-004-example-1-second"))
+        reduced = second_pass(sheet).reduced
+        signed = [signed_values(sine.signs, sheet.differences) for sine in sheet.figure.sines]
+        for d in range(2):
+            for other in range(2):
+                self.assertEqual(24 * product_sum(signed[d], reduced[other]), product_sum(reduced[d], reduced[other]))
+            self.assertEqual(condition_sums(sheet.figure, reduced[d]), [0] * 8)
+
+    def answer(self, **changes):
+        sheet = read_sheet(sample("point-in-quadrilateral-second"))
+        return work(packed_values(sheet._replace(**changes))).splitlines()[0]
+
+    def test_places_of_log_sides(self):
+        self.assertEqual(self.answer(log_sides=(0, 37_502_006)), "refused 8 13")
+        self.assertEqual(self.answer(log_sides=(37_652_112, 100_000_001)), "refused 8 14")
+        self.assertEqual(self.answer(log_sides=(100_000_001, 0)), "refused 8 13")
+        self.assertEqual(self.answer(log_sides=(0, 0), log_sines=(1,) * 11 + (0,)), "refused 8 12")
+
+    def test_each_condition_has_its_tolerance(self):
+        """The pole's W is within 613 and the side condition's within 361, in either direction."""
+        log_sines = read_sheet(sample("point-in-quadrilateral-second")).log_sines
+        for moved, answer in ((-323, "figure"), (-324, "refused 9 0"), (903, "figure"), (904, "refused 9 0")):
+            grown = log_sines[:1] + (log_sines[1] + moved,) + log_sines[2:]
+            self.assertTrue(self.answer(log_sines=grown).startswith(answer), moved)
+        for moved, answer in ((-404, "figure"), (-405, "refused 9 0"), (318, "figure"), (319, "refused 9 0")):
+            self.assertTrue(self.answer(log_sides=(37_652_112 + moved, 37_502_006)).startswith(answer), moved)
+
+    def test_determinant_of_0(self):
+        """One condition's reduced coefficients are 0, or a multiple of the other's; before 9."""
+        pole_only = (100, 200, -100, 300, 400, 500, 600, 700, 800, -100, 100, 900)
+        side_against_pole = (0, 0, 300, 0, 0, 0, 0, 0, 0, 0, 500, 0)
+        for differences in (pole_only, side_against_pole, (9_999, 0, 0) * 4, (0,) * 12):
+            self.assertEqual(self.answer(differences=differences), "refused 10 0")
+        self.assertNotEqual(self.answer(differences=(1,) + side_against_pole[1:]), "refused 10 0")
+
+    def test_correction_past_32_bits(self):
+        """9999 · 9997 and 9998 · 9998 differ by 1, so the determinant is small and a W of 1 moves angles by many degrees."""
+        differences = (9_999, -9_998, 0, 0, 9_998, 0, 0, 0, 9_997, 9_998, 0, -9_997)
+        alike = {"differences": differences, "angles": (3_000_000,) * 12, "log_sines": (50_000_000,) * 12}
+        self.assertEqual(self.answer(**alike, log_sides=(1, 1)), "figure 2 4 W 0 0 determinant 48384")
+        self.assertEqual(self.answer(**alike, log_sides=(2, 1)), "figure 2 4 W 0 1 determinant 48384")
+        self.assertEqual(self.answer(**alike, log_sides=(5_000, 1)), "refused 7 1")
+
+
+class BookFour(unittest.TestCase):
+    """Book 004, example 1, by the book's own numbers of its angles; sheets/README.md has the map and says where it rounds by hand."""
+
+    NUMBERS = (1, 2, 3, 10, 11, 12, 7, 9, 8, 4, 5, 6)  # of the book, in the order of the sheet
+    FIRST = (-34, 65, -79, -17, -8, 81, -8, 1, -34, 60, 14, 34)
+    SECOND = (-16, 7, 9, 46, -39, -7, -47, 39, 8, 17, -9, -8)
+    A = (0.45, 1.95, -2.40, -0.89, 2.84, -1.95, 0.23, -2.84, 2.61, 0.21, 2.40, -2.61)
+    B = (-0.41, -0.43, 0.84, 1.09, -1.51, 0.42, -0.92, 1.51, -0.59, 0.25, -0.84, 0.59)
+
+    def setUp(self):
+        self.first = read_sheet(sample("book-004-example-1-first"))
+        self.second = read_sheet(sample("book-004-example-1-second"))
+
+    def here(self, printed):
+        """The book's values in the order of the sheet."""
+        return [printed[number - 1] for number in self.NUMBERS]
+
+    def test_misclosures(self):
+        done = first_pass(self.first)
+        self.assertEqual(done.misclosures, [48, -108, 41, -56, -146, 64, 0, 7])
+
+    def test_first_corrections(self):
+        """The book cuts 1.4708 to 1.4 at its angle 11, and gives the tenth that triangle 4 lacks to its angle 10."""
+        done = first_pass(self.first)
+        book = self.here(self.FIRST)
+        self.assertEqual([n for n, ours, printed in zip(self.NUMBERS, done.rounded, book) if ours != printed], [10, 11])
+        self.assertTrue(all(abs(numerator - 24 * tenths) < 24 for numerator, tenths in zip(done.numerators, book)))
+        corrected = [angle + tenths for angle, tenths in zip(self.first.angles, book)]
+        self.assertEqual(list(self.second.angles), corrected)
+        self.assertEqual(done.numerators[0], -14 * 48 - 4 * -56 - 2 * 41 - 4 * -108 + 9 * -146 + 3 * 7 + 3 * 0 + 9 * 64)
+
+    def test_log_sides(self):
+        """The known sides, as its triangles have them: 7699.20 m from a to d, 8962.17 m from a to b."""
+        for log_side, metres in zip(self.second.log_sides, (7_699.20, 8_962.17)):
+            self.assertLess(abs(log_side - 1e7 * math.log10(metres)), 5)
+
+    def test_sine_misclosures_and_tolerance(self):
+        self.assertEqual(second_pass(self.second).sine_misclosures, [252, -224])
+        squares = [sum(d * d for d in signed_values(sine.signs, self.second.differences)) for sine in self.second.figure.sines]
+        self.assertEqual(squares, [590_276, 246_426])
+
+    def test_second_corrections(self):
+        """From its own differences: W and B are the book's, A is not, and no correction is further off than 1.2 tenths."""
+        done = second_pass(self.second)
+        for numerator, tenths in zip(done.numerators, self.here(self.SECOND)):
+            self.assertLess(abs(numerator / done.divisor - tenths), 1.2)
+        for reduced, printed in zip(done.reduced[1], self.here(self.B)):
+            self.assertLess(abs(reduced / 2400 - printed), 0.01)
+
+    def test_second_corrections_with_the_slip(self):
+        """The book's sum of the differences of its angles 2 and 6 is 2.560 and not 2.480. With it A and B are the book's, its sums
+        of products follow from them, and its corrections are less than a tenth from the exact ones."""
+        self.assertEqual(self.second.differences[1] + self.second.differences[11], 248)
+        done = second_pass(self.second._replace(differences=self.second.differences[:11] + (10,)))
+        a, b = self.here(self.A), self.here(self.B)
+        for reduced, printed in zip(done.reduced[0] + done.reduced[1], a + b):
+            self.assertLess(abs(reduced / 2400 - printed), 0.01)
+        sums = [product_sum(a, a), product_sum(a, b), product_sum(b, b)]
+        self.assertEqual([round(value, 3) for value in sums], [49.972, -18.66, 9.294])
+        for numerator, tenths in zip(done.numerators, self.here(self.SECOND)):
+            self.assertLess(abs(numerator / done.divisor - tenths), 1)
+        self.assertEqual(condition_sums(self.second.figure, self.here(self.SECOND)), [0] * 8)
 
 
 class Writer(unittest.TestCase):
@@ -149,14 +317,14 @@ class PublishedExamples(unittest.TestCase):
         self.assertEqual(self.worked("book-001-example-8-1-first").misclosures, [18, -29, -13])
 
     def test_sine_misclosures(self):
-        self.assertEqual(self.worked("book-000-example-1-second").sine_misclosure, -148)
-        self.assertEqual(self.worked("book-000-example-2-second").sine_misclosure, 126)
-        self.assertEqual(self.worked("book-001-example-8-1-second").sine_misclosure, -70)
+        self.assertEqual(self.worked("book-000-example-1-second").sine_misclosures, [-148])
+        self.assertEqual(self.worked("book-000-example-2-second").sine_misclosures, [126])
+        self.assertEqual(self.worked("book-001-example-8-1-second").sine_misclosures, [-70])
 
     def test_reduced_coefficients_of_example_1(self):
         """The book rounds an eighth of each difference to three places, so its A may be 0.01 away."""
         book = (2.56, -2.13, 1.86, -2.29, 2.47, -2.04, 1.77, -2.20)
-        for reduced, printed in zip(self.worked("book-000-example-1-second").reduced, book):
+        for reduced, printed in zip(self.worked("book-000-example-1-second").reduced[0], book):
             self.assertLessEqual(abs(reduced / 800 - printed), 0.01)
 
     def test_first_corrections_of_the_book(self):
@@ -176,7 +344,7 @@ class PublishedExamples(unittest.TestCase):
         ours = self.worked("book-000-example-2-second")
         self.assertEqual(ours.rounded[:7], book[:7])
         self.assertEqual(ours.rounded[7], 7)
-        self.assertEqual(1000 * ours.numerators[7] // ours.square_sum, 6503)
+        self.assertEqual(1000 * ours.numerators[7] // ours.divisor, 6503)
         self.assertEqual(condition_sums(QUADRILATERAL, book), [0, 0, 0])
 
     def test_example_8_1_carried_to_the_corrected_angles(self):
@@ -193,6 +361,8 @@ class PublishedExamples(unittest.TestCase):
 class ValuesAreReal(unittest.TestCase):
     """Log-sines and differences belong to their angles, so no digit of a sample sheet was misread."""
 
+    OFF_IN_THE_BOOK = {("book-004-example-1-second", 97_817_342): 2.5}  # which its own sums hold
+
     def test_log_sines_and_differences(self):
         for name, values in {**BOOKS, **EACH_FIGURE}.items():
             if isinstance(values, Second):
@@ -204,7 +374,8 @@ class ValuesAreReal(unittest.TestCase):
         one_second = math.radians(1 / 3600)
         log_sine_here = (math.log10(math.sin(angle)) + 10) * 1e7
         difference_here = math.log10(math.e) / math.tan(angle) * one_second * 1e8
-        self.assertLessEqual(abs(log_sine_here - log_sine), 1.1, name)
+        off = self.OFF_IN_THE_BOOK.get((name, log_sine), 1.1)
+        self.assertLessEqual(abs(log_sine_here - log_sine), off, name)
         self.assertLessEqual(abs(difference_here - difference), 1.1, name)
 
     def test_second_sheets_start_from_corrected_angles(self):

@@ -1,9 +1,10 @@
 #!/usr/bin/env python3
 """The drawings and the tables of docs/FIGURES.md.
 
-Both come from the same source: the numbering and rules of document 01, "The eight figures", and for the drawings the
-coordinates of the points. Before anything is written, every condition of every drawn figure is measured on the drawing,
-every row is tested against the conditions, and the worked cases of document 01 are computed again.
+Both come from the same source: the numbering and rules of document 01, "The eight figures", and of document 02, M-100, and
+for the drawings the coordinates of the points. Before anything is written, every condition of every drawn figure is measured
+on the drawing, every row is tested against the conditions, and the worked cases of document 01 and the example of book 004
+are computed again.
 
     draw.py             writes the drawings, and the tables between the marks in FIGURES.md
     draw.py --tables    prints the tables
@@ -25,7 +26,7 @@ def require(holds, what):
         raise SystemExit(f"draw.py: {what}")
 
 
-# The figures, as document 01 numbers them.
+# The figures, as the documents number them.
 
 
 @dataclass(frozen=True)
@@ -45,6 +46,12 @@ class Figure:
     conditions: tuple
     rows: tuple
     signs: tuple
+    side_signs: tuple = ()  # of the angles in the side condition, for the figure that has one
+    sides: tuple = ()  # the known sides that it joins, each with its sign
+
+    @property
+    def sine_conditions(self):
+        return 2 if self.sides else 1
 
 
 def around(index, count):
@@ -79,35 +86,63 @@ def geodetic_quadrilateral():
 
 
 def point_in_triangle():
-    corners = (1, 2, 3)
-    return Figure(
-        code=2,
-        n=3,
-        name="point in a known triangle",
-        fixed_angles=3,
-        denominator=10,
-        conditions=triangle_conditions(3, "t") + tuple(corner_condition(j) for j in corners),
-        rows=tuple(row for i in corners for row in known_triangle_rows(i)),
-        signs=(0, 1, -1) * 3,
+    return inner_point("point in a known triangle", 3, 10, known_triangle_rows)
+
+
+def point_in_quadrilateral():
+    """Document 02, M-100."""
+    c1, _, r1 = triangle_angles(1)
+    c4, l4, _ = triangle_angles(4)
+    signs = {r1: 1, c1: -1, l4: -1, c4: 1}
+    return inner_point(
+        "point in a known quadrilateral",
+        4,
+        24,
+        known_quadrilateral_rows,
+        side_signs=tuple(signs.get(angle, 0) for angle in range(1, 13)),
+        sides=((1, 1), (4, -1)),
     )
 
 
-def corner_condition(j):
-    last_before = triangle_angles(around(j - 1, 3))[2]
+def inner_point(name, n, denominator, rows_of, **side_condition):
+    corners = range(1, n + 1)
+    return Figure(
+        code=2,
+        n=n,
+        name=name,
+        fixed_angles=n,
+        denominator=denominator,
+        conditions=triangle_conditions(n, "t") + tuple(corner_condition(j, n) for j in corners),
+        rows=tuple(row for i in corners for row in rows_of(i)),
+        signs=(0, 1, -1) * n,
+        **side_condition,
+    )
+
+
+def corner_condition(j, n):
+    last_before = triangle_angles(around(j - 1, n))[2]
     second = triangle_angles(j)[1]
     return Condition(f"f({j})", (last_before, second), f"fixed angle {j}")
 
 
 def known_triangle_rows(i):
     before, after = around(i - 1, 3), around(i + 1, 3)
-    c = known_triangle_row({i: -6, before: -2, after: -2}, {i: 4, after: 4, before: 2})
-    l = known_triangle_row({i: -2, before: 2}, {i: -5, after: 1, before: -1})
-    r = known_triangle_row({i: -2, after: 2}, {after: -5, i: 1, before: -1})
+    c = inner_point_row(3, {i: -6, before: -2, after: -2}, {i: 4, after: 4, before: 2})
+    l = inner_point_row(3, {i: -2, before: 2}, {i: -5, after: 1, before: -1})
+    r = inner_point_row(3, {i: -2, after: 2}, {after: -5, i: 1, before: -1})
     return c, l, r
 
 
-def known_triangle_row(on_t, on_f):
-    return tuple(on.get(j, 0) for on in (on_t, on_f) for j in (1, 2, 3))
+def known_quadrilateral_rows(i):
+    before, after, across = around(i - 1, 4), around(i + 1, 4), around(i + 2, 4)
+    c = inner_point_row(4, {i: -14, before: -4, after: -4, across: -2}, {i: 9, after: 9, before: 3, across: 3})
+    l = inner_point_row(4, {i: -5, before: 5, after: -1, across: 1}, {i: -12, after: 3, before: -3})
+    r = inner_point_row(4, {i: -5, after: 5, before: -1, across: 1}, {after: -12, i: 3, across: -3})
+    return c, l, r
+
+
+def inner_point_row(n, on_t, on_f):
+    return tuple(on.get(j, 0) for on in (on_t, on_f) for j in range(1, n + 1))
 
 
 def central_polygon(n):
@@ -134,8 +169,9 @@ def polygon_rows(i, n):
 
 QUADRILATERAL = geodetic_quadrilateral()
 KNOWN_TRIANGLE = point_in_triangle()
+KNOWN_QUADRILATERAL = point_in_quadrilateral()
 POLYGONS = {n: central_polygon(n) for n in range(3, 9)}
-FIGURES = (QUADRILATERAL, KNOWN_TRIANGLE, *POLYGONS.values())
+FIGURES = (QUADRILATERAL, KNOWN_TRIANGLE, KNOWN_QUADRILATERAL, *POLYGONS.values())
 
 
 def check_rows(figure):
@@ -203,10 +239,21 @@ def triangle_drawing():
     corners = ((260, 50), (520, 430), (40, 400))
     return ring_drawing(
         "point-in-triangle.svg",
-        "Code 2: a point in a known triangle, angles 1 to 9",
+        "Code 2, n = 3: a point in a known triangle, angles 1 to 9",
         KNOWN_TRIANGLE,
         corners,
         (270, 285),
+    )
+
+
+def four_corners_drawing():
+    corners = ((95, 95), (475, 60), (520, 410), (70, 440))
+    return ring_drawing(
+        "point-in-quadrilateral.svg",
+        "Code 2, n = 4: a point in a known quadrilateral, angles 1 to 12",
+        KNOWN_QUADRILATERAL,
+        corners,
+        (270, 240),
     )
 
 
@@ -236,7 +283,7 @@ def ring_angles(inner, left, right):
     return Angle(inner, left, right), Angle(left, inner, right), Angle(right, inner, left)
 
 
-DRAWINGS = (quadrilateral_drawing(), triangle_drawing(), polygon_drawing())
+DRAWINGS = (quadrilateral_drawing(), triangle_drawing(), four_corners_drawing(), polygon_drawing())
 
 
 def turn(angle):
@@ -258,8 +305,14 @@ def check_drawing(drawing):
     for condition in figure.conditions:
         measured = sum(sizes[angle - 1] for angle in condition.angles)
         require(isclose(measured, due[condition.target]), f"{drawing.file}: {condition.misclosure} does not close")
-    sines = sum(sign * log(sin(radians(s))) for sign, s in zip(figure.signs, sizes))
-    require(isclose(sines, 0, abs_tol=1e-9), f"{drawing.file}: the sine condition does not close")
+    require(isclose(log_sine_sum(figure.signs, sizes), 0, abs_tol=1e-9), f"{drawing.file}: the sine condition does not close")
+    known = sum(sign * log(dist(*sides(drawing.corners)[number - 1])) for number, sign in figure.sides)
+    side = log_sine_sum(figure.side_signs, sizes) + known
+    require(isclose(side, 0, abs_tol=1e-9), f"{drawing.file}: the side condition does not close")
+
+
+def log_sine_sum(signs, sizes):
+    return sum(sign * log(sin(radians(s))) for sign, s in zip(signs, sizes))
 
 
 def twice_area(corners):
@@ -290,6 +343,8 @@ ANGLE_DISTANCE = 40
 CORNER_ROOM = 12
 CORNER_DISTANCE = 20
 TRIANGLE_ROOM = 14
+SIDE_ROOM = 22
+SIDE_DISTANCE = 24
 MARGIN = 45  # to the right and below; to the left and above it is in the coordinates
 
 
@@ -320,6 +375,16 @@ def triangle_mark(number, angles):
     return Mark(str(number), middle(tuple(angle.at for angle in angles)), TRIANGLE_ROOM, "triangle")
 
 
+def side_mark(number, side, centre):
+    """Outside, at right angles to the side."""
+    (ax, ay), (bx, by) = side
+    half = middle(side)
+    outward = half[0] + by - ay, half[1] + ax - bx
+    if dist(outward, centre) < dist(half, centre):
+        outward = half[0] - by + ay, half[1] - ax + bx
+    return Mark(f"side {number}", toward(half, outward, SIDE_DISTANCE), SIDE_ROOM, "side")
+
+
 def marks(drawing):
     centre = middle(drawing.corners)
     numbers = [angle_mark(k, angle) for k, angle in enumerate(drawing.angles, 1)]
@@ -327,6 +392,7 @@ def marks(drawing):
     if drawing.inner:
         for i in range(1, len(drawing.corners) + 1):
             numbers.append(triangle_mark(i, [drawing.angles[k - 1] for k in triangle_angles(i)]))
+    numbers += [side_mark(number, sides(drawing.corners)[number - 1], centre) for number, _ in drawing.figure.sides]
     return numbers
 
 
@@ -363,6 +429,7 @@ STYLE = """\
     text.angle { font-size: 15px; }
     text.corner { font-size: 20px; font-weight: bold; }
     text.triangle { font-size: 14px; }
+    text.side { font-size: 14px; font-style: italic; }
     circle.triangle { fill: none; stroke: black; stroke-width: 1; }
   </style>"""
 
@@ -454,12 +521,12 @@ def markdown(head, lines):
 
 
 def counts(figure):
-    return len(figure.rows), len(figure.conditions), figure.fixed_angles, figure.denominator
+    return len(figure.rows), len(figure.conditions), figure.fixed_angles, figure.sine_conditions, figure.denominator
 
 
 def figures_table():
     lines = [(figure.code, figure.n, figure.name, *counts(figure)) for figure in FIGURES]
-    return markdown(("Code", "n", "Figure", "Angles", "Conditions", "Fixed angles", "D"), lines)
+    return markdown(("Code", "n", "Figure", "Angles", "Conditions", "Fixed angles", "Sine conditions", "D"), lines)
 
 
 def polygon_counts_table():
@@ -493,14 +560,29 @@ def triangles_table(drawing):
     return markdown(("Triangle", "c", "l", "r"), lines)
 
 
+SIGN_NAMES = {"+": 1, "−": -1, "0": 0}
+
+
+def numbers_with(signs, value):
+    return listed(number for number, sign in enumerate(signs, 1) if sign == value)
+
+
 def signs_table(figure):
-    named = {"+": 1, "−": -1, "0": 0}
-    lines = [
-        (name, listed(angle for angle, sign in enumerate(figure.signs, 1) if sign == value))
-        for name, value in named.items()
-        if value in figure.signs
-    ]
+    lines = [(name, numbers_with(figure.signs, value)) for name, value in SIGN_NAMES.items() if value in figure.signs]
     return markdown(("Sine sign", "Angles"), lines)
+
+
+def two_signs_table(figure):
+    """Of the pole and of the side condition; what is not named in the latter has sign 0."""
+    lines = [
+        (name, numbers_with(figure.signs, value), numbers_with(figure.side_signs, value), known_side(figure, value))
+        for name, value in SIGN_NAMES.items()
+    ]
+    return markdown(("Sine sign", "Pole: angles", "Side condition: angles", "Side condition: log sides"), lines)
+
+
+def known_side(figure, value):
+    return ", ".join(f"side {number}" for number, sign in figure.sides if sign == value)
 
 
 def misclosure_names(figure):
@@ -522,12 +604,12 @@ def ring_rows_table(figure, triangles):
     return markdown(("Angle", "", *misclosure_names(figure)), lines)
 
 
-# The worked cases of document 01, "Sheets worked through".
+# The worked cases of document 01, "Sheets worked through", and example 1 of book 004.
 
 
 @dataclass(frozen=True)
 class Worked:
-    case: int
+    source: str
     figure: Figure
     misclosures: tuple
     published: dict
@@ -535,7 +617,7 @@ class Worked:
 
 CASES = (
     Worked(
-        1,
+        "Document 01, case 1",
         QUADRILATERAL,
         (38, -5, -45),
         {
@@ -544,8 +626,24 @@ CASES = (
             "rests": [0, 1, 1],
         },
     ),
-    Worked(3, KNOWN_TRIANGLE, (10, 0, 0, 0, 0, 0), {"numerators": [-60, -20, -20, -20, 20, 0, -20, 0, 20]}),
-    Worked(4, POLYGONS[3], (6, 0, 0, 0), {"numerators": [-24, -42, -42, 12, -6, -6, 12, -6, -6]}),
+    Worked(
+        "Document 01, case 3",
+        KNOWN_TRIANGLE,
+        (10, 0, 0, 0, 0, 0),
+        {"numerators": [-60, -20, -20, -20, 20, 0, -20, 0, 20]},
+    ),
+    Worked(
+        "Book 004, example 1",
+        KNOWN_QUADRILATERAL,
+        (48, -108, 41, -56, -146, 64, 0, 7),
+        {"by hand": [-34, 65, -79, 60, 14, 34, -8, -34, 1, -17, -8, 81]},
+    ),
+    Worked(
+        "Document 01, case 4",
+        POLYGONS[3],
+        (6, 0, 0, 0),
+        {"numerators": [-24, -42, -42, 12, -6, -6, 12, -6, -6]},
+    ),
 )
 
 
@@ -567,9 +665,13 @@ def computed(worked):
 
 
 def check_worked(worked):
-    found = computed(worked)
+    found, denominator = computed(worked), worked.figure.denominator
     for name, values in worked.published.items():
-        require(found[name] == values, f"case {worked.case}: the {name} are not those of document 01")
+        if name == "by hand":  # each less than a tenth from the exact one
+            same = all(abs(n - denominator * tenths) < denominator for n, tenths in zip(found["numerators"], values))
+        else:
+            same = found[name] == values
+        require(same, f"{worked.source}: the {name} are not those that are published")
 
 
 def row_line(worked, angle):
@@ -610,7 +712,7 @@ def worked_text(worked, lines):
     of_first = [found["numerators"][angle - 1] for angle in figure.conditions[0].angles]
     return "\n\n".join(
         [
-            f"Document 01, case {worked.case} (n = {figure.n}, D = {figure.denominator}): {misclosures}.",
+            f"{worked.source} (n = {figure.n}, D = {figure.denominator}): {misclosures}.",
             " ".join(lines),
             f"Exact correction of angle 1: {plain(first)}/{figure.denominator}, rounded {plain(found['rounded'][0])}.",
             table,
@@ -620,9 +722,49 @@ def worked_text(worked, lines):
     )
 
 
+# Its second pass: the differences of the same example, and the two W that its log-sines and log sides give.
+DIFFERENCES = (-45, 246, 278, -69, 227, 381, 11, 139, 285, 109, 394, 2)
+SINE_MISCLOSURES = (252, -224)
+
+
+def reduced(figure, signs):
+    """D·d plus each angle's row applied to each condition's sum of d."""
+    d = [sign * difference for sign, difference in zip(signs, DIFFERENCES)]
+    sums = [sum(d[angle - 1] for angle in condition.angles) for condition in figure.conditions]
+    return [figure.denominator * own + product_sum(row, sums) for own, row in zip(d, figure.rows)]
+
+
+def product_sum(one, other):
+    return sum(a * b for a, b in zip(one, other))
+
+
+def second_text(figure):
+    """The second corrections of two sine conditions, as M-100 has them."""
+    (wa, wb), a, b = SINE_MISCLOSURES, reduced(figure, figure.signs), reduced(figure, figure.side_signs)
+    aa, ab, bb = product_sum(a, a), product_sum(a, b), product_sum(b, b)
+    determinant, pole, side = aa * bb - ab * ab, bb * wa - ab * wb, aa * wb - ab * wa
+    numerators = [-100 * figure.denominator * (x * pole + y * side) for x, y in zip(a, b)]
+    corrections = [rounded(numerator, determinant) for numerator in numerators]
+    table = markdown(
+        ("Angle", *range(1, len(figure.rows) + 1)),
+        [("A", *map(plain, a)), ("B", *map(plain, b)), ("Rounded", *map(plain, corrections))],
+    )
+    return "\n\n".join(
+        [
+            f"The same example, second pass: Wa = {plain(wa)}, Wb = {plain(wb)}.",
+            f"[AA] = {plain(aa)}, [AB] = {plain(ab)}, [BB] = {plain(bb)}; determinant {plain(determinant)}.",
+            table,
+            f"Angle 1: [BB]·Wa − [AB]·Wb = {plain(pole)}, [AA]·Wb − [AB]·Wa = {plain(side)}; "
+            f"−2400·({plain(a[0])}·{factor(pole)} + {factor(b[0])}·{factor(side)}) = {plain(numerators[0])}. "
+            f"Over the determinant {numerators[0] / determinant:.3f}, rounded {plain(corrections[0])}.".replace("-", "−"),
+            "Check: in every condition the A and the B add up to 0, and so do the numerators.",
+        ]
+    )
+
+
 def tables():
-    quadrilateral, triangle, polygon = CASES
-    quadrilateral_drawn, triangle_drawn, polygon_drawn = DRAWINGS
+    quadrilateral, triangle, four_corners, polygon = CASES
+    quadrilateral_drawn, triangle_drawn, four_corners_drawn, polygon_drawn = DRAWINGS
     return {
         "figures": figures_table(),
         "code 1 angles": sides_table(quadrilateral_drawn),
@@ -630,11 +772,17 @@ def tables():
         "code 1 rows": quadrilateral_rows_table(),
         "code 1 signs": signs_table(QUADRILATERAL),
         "code 1 worked": worked_text(quadrilateral, [row_line(quadrilateral, 1)]),
-        "code 2 angles": triangles_table(triangle_drawn),
-        "code 2 conditions": conditions_table(KNOWN_TRIANGLE),
-        "code 2 rows": ring_rows_table(KNOWN_TRIANGLE, (1, 2, 3)),
-        "code 2 signs": signs_table(KNOWN_TRIANGLE),
-        "code 2 worked": worked_text(triangle, [row_line(triangle, 1), row_line(triangle, 5)]),
+        "code 2 n 3 angles": triangles_table(triangle_drawn),
+        "code 2 n 3 conditions": conditions_table(KNOWN_TRIANGLE),
+        "code 2 n 3 rows": ring_rows_table(KNOWN_TRIANGLE, (1, 2, 3)),
+        "code 2 n 3 signs": signs_table(KNOWN_TRIANGLE),
+        "code 2 n 3 worked": worked_text(triangle, [row_line(triangle, 1), row_line(triangle, 5)]),
+        "code 2 n 4 angles": triangles_table(four_corners_drawn),
+        "code 2 n 4 conditions": conditions_table(KNOWN_QUADRILATERAL),
+        "code 2 n 4 rows": ring_rows_table(KNOWN_QUADRILATERAL, (1, 2, 3, 4)),
+        "code 2 n 4 signs": two_signs_table(KNOWN_QUADRILATERAL),
+        "code 2 n 4 worked": worked_text(four_corners, [row_line(four_corners, 1)]),
+        "code 2 n 4 second": second_text(KNOWN_QUADRILATERAL),
         "code 3 counts": polygon_counts_table(),
         "code 3 angles": triangles_table(polygon_drawn),
         "code 3 conditions": conditions_table(POLYGONS[5]),

@@ -28,10 +28,11 @@ static size_t word(FILE *file, const char *const *words, const char *what)
     return 0;
 }
 
-static int64_t number(FILE *file)
+/* One with a minus sign comes out as its two's complement. */
+static uint64_t number(FILE *file)
 {
-    int64_t found;
-    if (fscanf(file, "%" SCNd64, &found) != 1)
+    uint64_t found;
+    if (fscanf(file, "%" SCNu64, &found) != 1)
         malformed("number");
     return found;
 }
@@ -50,7 +51,7 @@ static void read_bytes(FILE *file, uint8_t *values, size_t count)
 static void read_numbers(FILE *file, const struct slice *slice)
 {
     for (size_t i = 0; i < slice->count; i++) {
-        const int64_t value = number(file);
+        const uint64_t value = number(file);
         memcpy(slice->values + i * slice->width, &value, slice->width);
     }
 }
@@ -116,16 +117,17 @@ uint32_t answer_of(const struct call *call, const struct lent *lent)
         return bienguloc_look(SLICE(const uint8_t, 0), SLICE(uint32_t, 1));
     case READ:
         return bienguloc_read(SLICE(const uint8_t, 0), SLICE(uint32_t, 1), SLICE(uint32_t, 2), SLICE(uint32_t, 3), SLICE(uint32_t, 4),
-            SLICE(int32_t, 5));
+            SLICE(int32_t, 5), SLICE(uint32_t, 6));
     case WRITE:
         return bienguloc_write(n[0], n[1], n[2], n[3], SLICE(const uint32_t, 0), SLICE(const uint32_t, 1), SLICE(const uint32_t, 2),
-            SLICE(const int32_t, 3), SLICE(uint8_t, 4));
+            SLICE(const int32_t, 3), SLICE(const uint32_t, 4), SLICE(uint8_t, 5));
     case FIRST_PASS:
         return bienguloc_first_pass(n[0], n[1], n[2], SLICE(const uint32_t, 0), SLICE(const uint32_t, 1), SLICE(int32_t, 2),
             SLICE(int32_t, 3), SLICE(int32_t, 4), SLICE(uint32_t, 5), SLICE(int32_t, 6));
     case SECOND_PASS:
         return bienguloc_second_pass(n[0], n[1], n[2], SLICE(const uint32_t, 0), SLICE(const uint32_t, 1), SLICE(const int32_t, 2),
-            SLICE(int64_t, 3), SLICE(int64_t, 4), SLICE(int64_t, 5), SLICE(int32_t, 6), SLICE(uint32_t, 7), SLICE(int32_t, 8));
+            SLICE(const uint32_t, 3), SLICE(int64_t, 4), SLICE(uint64_t, 5), SLICE(int64_t, 6), SLICE(int64_t, 7), SLICE(int64_t, 8),
+            SLICE(uint64_t, 9), SLICE(int32_t, 10), SLICE(uint32_t, 11), SLICE(int32_t, 12));
     case REPORT:
         return bienguloc_report(SLICE(const uint8_t, 0), SLICE(uint8_t, 1), SLICE(uint64_t, 2));
     }

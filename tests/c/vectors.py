@@ -31,10 +31,11 @@ EVERY = 50
 # Outside the range, and beside a value within it where bits are lost: 2^23 and 2^27 are past the fields, 2^31 and 2^32 - 1 at the ends.
 ODD_ANGLES = (0, 6_480_000, 2**23 + 1_620_000, 2**31, 2**31 + 1_620_000, 2**32 - 1)
 ODD_LOG_SINES = (0, 100_000_001, 2**27 + 50_000_000, 2**31 + 50_000_000, 2**32 - 1)
+ODD_LOG_SIDES = (0, 100_000_001, 2**27 + 37_000_000, 2**31 + 37_000_000, 2**32 - 1)
 ODD_DIFFERENCES = (-(2**31), -(2**15) + 100, -10_000, 10_000, 2**15 + 100, 2**31 - 1)
 ODD_LIMITS = (601, 1_023, 1_024 + 150, 2**16 + 150, 2**31, 2**32 - 1)
 ODD_TOLERANCES = (51, 63, 64 + 10, 256 + 10, 2**31, 2**32 - 1)
-ODD_NAMES = ((0, 0), (1, 3), (2, 0), (2, 4), (3, 2), (3, 9), (4, 3), (257, 0), (1, 256), (3, 2**31 + 3), (3, 2**32 - 5), (2**32 - 1,) * 2)
+ODD_NAMES = ((0, 0), (1, 3), (2, 0), (2, 5), (3, 2), (3, 9), (4, 3), (257, 0), (1, 256), (3, 2**31 + 3), (3, 2**32 - 5), (2**32 - 1,) * 2)
 ODD_KINDS = (0, 3, 17, 18, 256 + 1, 2**31 + 2, 2**32 - 1)
 
 
@@ -84,21 +85,21 @@ def look_call(name, sheet):
     head = None
     if found:
         kind, figure = found
-        angles, fixed, log_sines, _ = counts(kind, figure)
-        head = (kind, figure.code, figure.n, angles, fixed, log_sines, len(figure.conditions))
-    return lines("look", (), answer, [listed("sheet", "u8", sheet), stored("u32", 7, head)], name)
+        angles, fixed, log_sines, _, log_sides = counts(kind, figure)
+        head = (kind, figure.code, figure.n, angles, fixed, log_sines, len(figure.conditions), log_sides)
+    return lines("look", (), answer, [listed("sheet", "u8", sheet), stored("u32", 8, head)], name)
 
 
 def read_call(name, sheet):
     _, found = answered(lambda: named_head(sheet))
-    lent = counts(*found) if found else (8, 0, 0, 0)
+    lent = counts(*found) if found else (8, 0, 0, 0, 0)
     answer, values = answered(lambda: read_sheet(sheet))
-    columns = (None,) * 5
+    columns = (None,) * 6
     if values:
         figure = values.figure
         head = (values.kind, figure.code, figure.n, values.limit)
-        columns = (head, values.angles, values.fixed, values.log_sines, values.differences)
-    slices = [stored(*row) for row in zip(("u32",) * 4 + ("i32",), (4, *lent), columns)]
+        columns = (head, values.angles, values.fixed, values.log_sines, values.differences, values.log_sides)
+    slices = [stored(*row) for row in zip(("u32",) * 4 + ("i32", "u32"), (4, *lent), columns)]
     return lines("read", (), answer, [listed("sheet", "u8", sheet), *slices], name)
 
 
@@ -112,9 +113,9 @@ def report_call(name, sheet):
 
 
 def given(values):
-    """The four lists of values, as the writer takes them."""
-    lists = (values.angles, values.fixed, values.log_sines, values.differences)
-    return [listed("in", value_type, column) for value_type, column in zip(("u32",) * 3 + ("i32",), lists)]
+    """The five lists of values, as the writer takes them."""
+    lists = (values.angles, values.fixed, values.log_sines, values.differences, values.log_sides)
+    return [listed("in", value_type, column) for value_type, column in zip(("u32",) * 3 + ("i32", "u32"), lists)]
 
 
 def own(values):
@@ -145,11 +146,25 @@ def first_call(name, values, numbers):
     return lines("first", numbers, answer, [*given(values)[:2], *(stored(*row) for row in columns)], name)
 
 
+def words(value):
+    """The high and the low word of a number, which is high * 2^64 + low."""
+    return divmod(value, 2**64)
+
+
+def second_results(done):
+    """What the call stores, in the order of the header."""
+    high, low = zip(*map(words, done.numerators))
+    side_reduced = done.reduced[1] if len(done.reduced) == 2 else ()
+    return done.sine_misclosures, words(done.divisor), done.reduced[0], side_reduced, high, low, done.rounded, done.results, done.rests
+
+
 def second_call(name, values, numbers):
     answer, done = answered(lambda: passed(values, figure_of(*numbers[:2]), second_pass))
-    angles, conditions = values.figure.angle_count, len(values.figure.conditions)
-    results = [(done.sine_misclosure, done.square_sum), *done[2:]] if done else (None,) * 6
-    columns = zip(("i64", "i64", "i64", "i32", "u32", "i32"), (2, angles, angles, angles, angles, conditions), results)
+    figure = values.figure
+    angles, sines = figure.angle_count, len(figure.sines)
+    lent = (sines, 2, angles, angles if sines == 2 else 0, angles, angles, angles, angles, len(figure.conditions))
+    types = ("i64", "u64", "i64", "i64", "i64", "u64", "i32", "u32", "i32")
+    columns = zip(types, lent, second_results(done) if done else (None,) * len(lent))
     taken = given(values)
     return lines("second", numbers, answer, [taken[0], *taken[2:], *(stored(*row) for row in columns)], name)
 
@@ -180,7 +195,13 @@ def plain_sheets():
 
 def spoilt_columns(values):
     """The values with one odd value at a place: every odd value at the first place, and one at each other."""
-    columns = (("angles", ODD_ANGLES), ("fixed", ODD_ANGLES), ("log_sines", ODD_LOG_SINES), ("differences", ODD_DIFFERENCES))
+    columns = (
+        ("angles", ODD_ANGLES),
+        ("fixed", ODD_ANGLES),
+        ("log_sines", ODD_LOG_SINES),
+        ("differences", ODD_DIFFERENCES),
+        ("log_sides", ODD_LOG_SIDES),
+    )
     for column, odd in columns:
         given_values = getattr(values, column)
         for place in range(1, len(given_values) + 1):
@@ -191,7 +212,7 @@ def spoilt_columns(values):
 def all_alike(values):
     """Every value 0, and every bit 1."""
     for name, unsigned, signed in (("all 0", 0, 0), ("all ones", 2**32 - 1, -1)):
-        fill = {column: (unsigned,) * len(getattr(values, column)) for column in ("angles", "fixed", "log_sines")}
+        fill = {column: (unsigned,) * len(getattr(values, column)) for column in ("angles", "fixed", "log_sines", "log_sides")}
         yield name, values._replace(**fill, differences=(signed,) * len(values.differences))
 
 

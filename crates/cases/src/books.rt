@@ -1,4 +1,4 @@
-// The published examples, of code 1: the sheets of these names in sheets/, whose values stand as the books have them in sheets/values.py. Where a book
+// The published examples: the sheets of these names in sheets/, whose values stand as the books have them in sheets/values.py. Where a book
 // gives no value, the one expected is that of the independent computation.
 ghost use Prim.Native.Nat.{_≤_};
 use crate::comparing::tell_sheet;
@@ -73,6 +73,39 @@ pub fn book_001_example_8_1() -> u64
           1 1858719 1739 97384000 4 1858723\n2 1376711 -1733 -97048000 -4 1376707\n3 1074796 1945 108920000 4 1074800\n4 2169792 -1951 -109256000 -4 2169788\n\
           5 1372897 1739 97384000 4 1372901\n6 1862486 -1733 -97048000 -4 1862482\n7 2173169 1949 109144000 4 2173173\n8 1071435 -1955 -109480000 -4 1071431\n\
           condition 1 0\ncondition 2 0\ncondition 3 0\n",
+    );
+    first + second
+}
+
+// The book's corners a, d, c, b are 1 to 4 here, so its angles stand in the order 1, 2, 3, 10, 11, 12, 7, 9, 8, 4, 5, 6 (sheets/README.md).
+pub fn book_004_example_1() -> u64
+    ensures { λ count. ⌜ count ≤ 2 ⌝ }
+{
+    // The book cuts 353 / 24, that is 14.708, to 14 for its angle 11, and gives the tenth to its angle 10, which has 60 where the exact correction is
+    // 1427 / 24.
+    let first = tell_sheet(
+        b"004 example 1: misclosures 48, -108, 41, -56, -146, 64, 0, 7; last tenths of its angles 10 and 11 by hand, exact values compared",
+        b"\x12\x40\x01\xc1\x13\x39\x64\xaf\x92\x8e\x6a\x0e\xdb\xb2\x0b\xc7\x14\x8f\xe3\x23\x5f\xaf\xfe\x7b\xf6\xdc\xa0\x57\x9a\x25\x7d\x21\xee\xc5\x8c\x44\x92\xa3\xae\xea\xac\x01\x39\x5d\xc1\xb4\x8e\x04\x60",
+        b"figure 2 4 denominator 24\n\
+          1 3678823 -815 -34 3678789\n2 1460985 1552 65 1461050\n3 1340240 -1889 -79 1340161\n\
+          4 3894984 1427 59 3895043\n5 1543721 353 15 1543736\n6 1041187 812 34 1041221\n\
+          7 3135487 -197 -8 3135479\n8 2031031 -812 -34 2030997\n9 1313523 25 1 1313524\n\
+          10 2250706 -415 -17 2250689\n11 1013292 -193 -8 1013284\n12 3215946 1952 81 3216027\n\
+          condition 1 48 0\ncondition 2 -108 0\ncondition 3 41 0\ncondition 4 -56 0\ncondition 5 -146 0\ncondition 6 64 0\ncondition 7 0 0\ncondition 8 7 0\n",
+    );
+    // The book adds 2.46 and 0.02, the differences of its angles 2 and 6, to 2.56, so that its A are others, and its second corrections, by up to 1.2
+    // tenths. W of both conditions and B are its own.
+    let second = tell_sheet(
+        b"004 example 1: W = 252 and -224, and B; A and the corrections are those of its own differences",
+        b"\x22\x40\x12\x88\x32\x42\x5b\x17\x24\x70\x44\x8b\x7d\x17\x8d\x7f\xe9\x96\x4b\x3a\xbb\x2c\x7b\x00\x3d\x8a\x39\x80\xdd\x49\x2f\xe0\x22\xce\xdb\xc1\x2f\x93\xd6\x07\xfb\xb2\xf1\xc6\xf7\x71\x79\xdc\x07\x18\xfe\x34\x5b\x8b\x7a\xa8\x05\xf5\x7e\xbf\xbd\xf5\xcb\x36\x00\x16\x7b\xf6\x56\xf4\xe3\x6d\x00\x8b\x28\x15\xe9\x74\xdb\xae\x40\x8e\xa2\x57\xc1\xbd\xbe\x3d\x80\x1b\x47\xbb\x12\x5c\x41\x6b\x90\x31\x4c\x44\xa6\xef\xae\xfe\xd8\x00\x20",
+        b"figure 2 4 W 252 -224 determinant 3813876255227904\n\
+          1 3678789 1126 -982 -58962544916889600 -15 3678774\n2 1461050 4624 -1024 25634729130393600 7 1461057\n\
+          3 1340161 -5750 2006 33327815786496000 9 1340170\n4 3895044 506 598 65999754790502400 17 3895061\n\
+          5 1543735 5750 -2006 -33327815786496000 -9 1543726\n6 1041221 -6256 1408 -32671939004006400 -9 1041212\n\
+          7 3135479 538 -2218 -183814731001036800 -48 3135431\n8 2030997 6256 -1408 32671939004006400 9 2031006\n\
+          9 1313524 -6794 3626 151142791997030400 40 1313564\n10 2250689 -2170 2602 176777521127424000 46 2250735\n\
+          11 1013284 6794 -3626 -151142791997030400 -40 1013244\n12 3216027 -4624 1024 -25634729130393600 -7 3216020\n\
+          condition 1 1\ncondition 2 -1\ncondition 3 1\ncondition 4 -1\ncondition 5 0\ncondition 6 0\ncondition 7 0\ncondition 8 0\n",
     );
     first + second
 }

@@ -65,7 +65,8 @@ fn first_unchanged(
 // With angles of 45° and differences all 0.
 pub fn second_pass_refuses(log_sines: [u32; 8], expected: &[u8]) -> bool {
     let mut reduced = [0; 8];
-    let mut numerators = [0; 8];
+    let mut numerators_high = [0; 8];
+    let mut numerators_low = [0; 8];
     let mut rounded = [0; 8];
     let mut adjusted = [0; 8];
     let mut rests = [0; 3];
@@ -76,21 +77,33 @@ pub fn second_pass_refuses(log_sines: [u32; 8], expected: &[u8]) -> bool {
         &[1620000; 8],
         &log_sines,
         &[0; 8],
+        &[0; 0],
         &mut reduced,
-        &mut numerators,
+        &mut [0; 0],
+        &mut numerators_high,
+        &mut numerators_low,
         &mut rounded,
         &mut adjusted,
         &mut rests,
     ) else {
         return false;
     };
-    reads(refusal, expected) && second_unchanged(reduced, numerators, rounded, adjusted, rests)
+    reads(refusal, expected)
+        && second_unchanged(
+            reduced,
+            numerators_high,
+            numerators_low,
+            rounded,
+            adjusted,
+            rests,
+        )
 }
 
 // Shown as the program shows results, with no given angles, W or S.
 fn second_unchanged(
     reduced: [i64; 8],
-    numerators: [i64; 8],
+    numerators_high: [i64; 8],
+    numerators_low: [u64; 8],
     rounded: [i32; 8],
     adjusted: [u32; 8],
     rests: [i32; 3],
@@ -101,9 +114,13 @@ fn second_unchanged(
         Figure::Quadrilateral,
         0,
         0,
+        0,
+        0,
         &[0; 0],
         &reduced,
-        &numerators,
+        &[0; 0],
+        &numerators_high,
+        &numerators_low,
         &rounded,
         &adjusted,
         &rests,

@@ -8,14 +8,17 @@ mod triangles;
 
 use libc::STDOUT_FILENO;
 
-const CASES: u64 = 17;
+const CASES: u64 = 21;
 
 fn main() {
     let document = document::case_8() + document::case_9() + document::case_10();
-    let accepted = triangles::point_in_triangle() + triangles::central_triangle();
+    let accepted = triangles::point_in_triangle()
+        + triangles::point_in_quadrilateral()
+        + triangles::central_triangle();
     let published = books::book_000_example_1()
         + books::book_000_example_2()
-        + books::book_001_example_8_1();
+        + books::book_001_example_8_1()
+        + books::book_004_example_1();
     io::print_decimal(STDOUT_FILENO, document + accepted + published);
     io::write_all(STDOUT_FILENO, b" of ");
     io::print_decimal(STDOUT_FILENO, CASES);

@@ -1,4 +1,4 @@
-// Accepted sheets of codes 2 and 3, of both kinds, n = 3: bytes and texts of the independent computation (sheets/), a row for each triangle.
+// Accepted sheets of codes 2 and 3, of both kinds: bytes and texts of the independent computation (sheets/), a row for each triangle.
 ghost use Prim.Native.Nat.{_≤_};
 use crate::comparing::tell_sheet;
 
@@ -22,6 +22,32 @@ pub fn point_in_triangle() -> u64
           4 4174473 -204 -28764000 0 4174473\n5 1116751 3715 523815000 6 1116757\n6 1188775 -3511 -495051000 -6 1188769\n\
           7 4245259 288 40608000 0 4245259\n8 1174946 3511 495051000 6 1174952\n9 1059796 -3799 -535659000 -7 1059789\n\
           condition 1 1\ncondition 2 0\ncondition 3 -1\ncondition 4 0\ncondition 5 0\ncondition 6 0\n",
+    );
+    first + second
+}
+
+pub fn point_in_quadrilateral() -> u64
+    ensures { λ count. ⌜ count ≤ 2 ⌝ }
+{
+    let first = tell_sheet(
+        b"code 2, n = 4, a sheet of kind 1",
+        b"\x12\x40\x01\xba\xe2\xe1\x65\xdb\x32\xa4\xcf\x4a\xab\xf6\x8f\x5d\xd9\x99\x74\xe1\x62\x04\x24\x5e\xd5\xc4\xd1\x4a\x6b\x2b\x30\xa2\xcf\xf1\xc6\x6b\x80\x58\x05\xdc\xb3\xe2\x2d\x62\x54\x86\xc2\xa3\x5c",
+        b"figure 2 4 denominator 24\n\
+          1 3628124 -302 -13 3628111\n2 1465779 226 9 1465788\n3 1386106 -140 -6 1386100\n\
+          4 2797530 -22 -1 2797529\n5 2014131 140 6 2014137\n6 1668321 314 13 1668334\n\
+          7 3211794 -1010 -42 3211752\n8 1553777 -674 -28 1553749\n9 1714509 -236 -10 1714499\n\
+          10 3322634 -634 -26 3322608\n11 1474446 140 6 1474452\n12 1682945 -106 -4 1682941\n\
+          condition 1 9 -1\ncondition 2 -18 0\ncondition 3 80 0\ncondition 4 25 1\ncondition 5 -5 0\ncondition 6 0 0\ncondition 7 15 0\ncondition 8 4 0\n",
+    );
+    let second = tell_sheet(
+        b"code 2, n = 4, a sheet of kind 2",
+        b"\x22\x40\x11\xf4\x34\x82\x3c\x3c\x36\x6e\xb8\x9f\x7d\x2c\xb9\xbf\xec\x16\x5d\xbc\xbb\x32\x27\x40\x3d\x4a\x93\x3a\x5d\x67\x90\x00\x21\x2a\xab\xf6\x6f\xa2\xbd\x18\x02\xe3\xd7\x77\x37\xa5\xa7\xd8\x04\x71\x97\x4e\xeb\xc0\xdb\xbc\x03\x25\x88\x0f\x45\xf5\xdf\x69\x00\x06\x5e\xd5\x56\xee\x5b\x5d\x00\xe1\x34\x52\x87\x78\x74\x0a\x80\x60\x32\xb2\xf0\xbe\xba\x6c\x9f\xfe\x0b\x3f\xca\x5d\x9e\x3a\xd0\x1e\x66\x6b\x7f\x6f\x06\xfd\x88\x0c\x60",
+        b"figure 2 4 W -290 43 determinant 920843533810944\n\
+          1 3628111 -189 -650 -15867082251302400 -17 3628094\n2 1465788 5211 -1256 22029318912614400 24 1465812\n3 1386100 -5022 1906 -6162236661312000 -7 1386093\n\
+          4 2797529 87 938 21142354030732800 23 2797552\n5 2014137 5022 -1906 6162236661312000 7 2014144\n6 1668334 -5109 968 -27304590692044800 -30 1668304\n\
+          7 3211752 81 -998 -20854732654656000 -23 3211729\n8 1553749 5109 -968 27304590692044800 30 1553779\n9 1714499 -5190 1966 -6449858037388800 -7 1714492\n\
+          10 3322608 21 710 15579460875225600 17 3322625\n11 1474452 5190 -1966 6449858037388800 7 1474459\n12 1682941 -5211 1256 -22029318912614400 -24 1682917\n\
+          condition 1 0\ncondition 2 0\ncondition 3 0\ncondition 4 0\ncondition 5 0\ncondition 6 0\ncondition 7 0\ncondition 8 0\n",
     );
     first + second
 }

@@ -1,25 +1,25 @@
--- No place that is answered is above 24, the most angles that a figure has: a row with places comes after that of the lengths, or has no more places than
--- the figure. So the place of an answer stays below 256. Assumes nothing.
+-- No place that is answered is above 24, the most angles that a figure has: a row with places comes after that of the lengths, or has no
+-- more places than the figure. So the place of an answer stays below 256. Assumes nothing.
 use Prim.Native.Nat.{ℕ, _≤_}
 use mathlib.Core.Bool.{Bool, true, false, cond}
 use mathlib.Core.List.{List, [], _∷_, _++_}
 use mathlib.Core.Path.{_≡_}
 use native.Mathlib.Omega.{arith}
 use lib.Dec.{T, eqb}
-use lib.ListN.{length}
+use lib.ListN.{length, length-append}
 use Rattle.refusals.specs.Order.{allInTable}
 use Rattle.refusals.proofs.Nowhere.{same-lengths}
 use Rattle.refusals.proofs.PlaceBounds.{PlacesWithin}
 use Rattle.figures.specs.declared.Figure.{Figure}
 use Rattle.figures.specs.declared.Named.{Named}
 use Rattle.figures.specs.declared.Named.the-variants.{As, Nothing}
-use Rattle.figures.specs.Figure.{angleCount, fixedCount, figureOf, ofNamed}
+use Rattle.figures.specs.Figure.{angleCount, fixedCount, sideCount, figureOf, ofNamed}
 use Rattle.figures.specs.Numerators.{mostAngles}
 use Rattle.figures.proofs.Figures.{angle-bound}
 use Rattle.sheet_layout.specs.declared.Kind.{Kind}
 use Rattle.sheet_layout.specs.declared.Kind.the-variants.{FirstPass, SecondPass}
 use Rattle.sheet_layout.specs.Layout.{lengthsOf, sheetSize}
-use Rattle.sheet_layout.proofs.Sizes.{fixed-bound}
+use Rattle.sheet_layout.proofs.Sizes.{fixed-bound, entry-bound}
 use Rattle.sheet_layout.specs.declared.head.Look.{Look}
 use Rattle.sheet_layout.specs.declared.head.Look.the-variants.{Head}
 use Rattle.sheet_layout.specs.Head.{headRows, headOf, lookOf, ofHead}
@@ -27,12 +27,11 @@ use Rattle.sheet_rules.specs.Sheet.{Values}
 use Rattle.sheet_rules.specs.Judging.{ownLengths, lengthsGiven, bodyRows, readerRows, givenRows, writerRows}
 use Rattle.sheet_rules.proofs.Refusals.{reader-in-table}
 use Rattle.pass_rules.specs.FirstPass.{firstLengths, firstRows, firstPassRows}
-use Rattle.pass_rules.specs.SecondPass.{secondLengths, secondRows, secondPassRows}
+use Rattle.pass_rules.specs.SecondPass.{SineEntries, secondLengths, secondRows, secondPassRows}
 use Rattle.pass_rules.proofs.Refusals.{second-in-table}
-use Rattle.pass_rules.specs.Promises.{FirstGiven, FirstLent, firstLengthsLent, firstRowsOf, SecondGiven, secondLengthsLent}
+use Rattle.pass_rules.specs.Promises.{FirstGiven, FirstLent, firstLengthsLent, firstRowsOf, SecondGiven}
 use Rattle.report.proofs.PlaceBounds as pages
-use Rattle.controller.specs.Answer.{lengthsWith}
-use Rattle.controller.specs.Promises.{lookRows, ReadLent, readRows, SumsLent, sumsRows, TextLent, reportRows}
+use Rattle.controller.specs.Promises.{lookRows, ReadLent, readRows, SumsLent, sineCount, sumsLengths, sumsRows, TextLent, reportRows}
 
 -- ---- a look, the reader
 
@@ -67,8 +66,10 @@ fixed-in-few FirstPass f = fixed-few f
 fixed-in-few SecondPass f = omega arith
 
 pub sines-in-few : (kind : Kind) (f : Figure) → lengthsOf kind f .«log_sines» ≤ mostAngles
-sines-in-few FirstPass f = omega arith
-sines-in-few SecondPass f = angle-bound f
+sines-in-few kind f = omega (arith, entry-bound kind f)
+
+pub sides-in-few : (kind : Kind) (f : Figure) → lengthsOf kind f .«log_sides» ≤ mostAngles
+sides-in-few kind f = omega (arith, entry-bound kind f)
 
 pub write-within : (kind code n : ℕ) (v : Values) (size : ℕ) → PlacesWithin mostAngles (writerRows kind code n v size)
 unfolding writerRows givenRows
@@ -79,9 +80,12 @@ write-within kind code n v size = λ no-kind no-figure. go (headOf kind code n)
         let same = same-lengths (lengthsGiven v ++ (size ∷ [])) (ownLengths k f ++ (sheetSize k f ∷ [])) lengths in
         let by-angle : length (v .angles) ≡ lengthsOf k f .angles = cc in
         let by-fixed : length (v .fixed) ≡ lengthsOf k f .fixed = cc in
-        let by-sine : length (v .logSines) ≡ lengthsOf k f .«log_sines» = cc in (
+        let by-sine : length (v .logSines) ≡ lengthsOf k f .«log_sines» = cc in
+        let by-side : length (v .logSides) ≡ lengthsOf k f .«log_sides» = cc in
+        let entries : length (v .logSines ++ v .logSides) ≤ mostAngles =
+        omega (arith, length-append (v .logSines) (v .logSides), entry-bound k f) in (
           omega (arith, by-angle, angle-bound f),
-          λ angles. (omega (arith, by-fixed, fixed-in-few k f), λ fixed. (omega (arith, by-sine, sines-in-few k f), λ sines. tt)),
+          λ angles. (omega (arith, by-fixed, fixed-in-few k f), λ fixed. (entries, λ sines. tt)),
         )
         )
     go (Look.Refused refusal) = tt
@@ -93,7 +97,8 @@ unfolding firstPassRows
 first-within given lent = λ no-figure. go (figureOf (given .code) (given .n))
   where
     go : (named : Named)
-        → PlacesWithin mostAngles (ofNamed named [] (λ f. firstRows f (given .limit) (given .angles) (given .fixed) (firstLengthsLent given lent)))
+        → PlacesWithin mostAngles
+        (ofNamed named [] (λ f. firstRows f (given .limit) (given .angles) (given .fixed) (firstLengthsLent given lent)))
     go Nothing = tt
     go (As f) =
         pages.first-within f (given .limit) (given .angles) (given .fixed) (firstLengthsLent given lent) (λ lengths.
@@ -103,29 +108,35 @@ first-within given lent = λ no-figure. go (figureOf (given .code) (given .n))
         (omega (arith, by-angle, angle-bound f), omega (arith, by-fixed, fixed-few f)))
 
 -- the lengths that are judged are those of the slices, or none
-judged-lengths : (b : Bool) (f : Figure) (given : SecondGiven) (others : List ℕ)
-    → cond b (length (given .angles) ∷ length (given .logSines) ∷ others) [] ≡ secondLengths f
-    → (length (given .angles) ≤ mostAngles) × (length (given .logSines) ≤ mostAngles)
-judged-lengths true f given others same =
-    let by-angle : length (given .angles) ≡ angleCount f = cc in
-    let by-sine : length (given .logSines) ≡ angleCount f = cc in
-    (omega (arith, by-angle, angle-bound f), omega (arith, by-sine, angle-bound f))
-judged-lengths false f given others same = absurd (let z : _≡_ {A = ℕ} 0 1 = cc in omega arith)
+judged-lengths : (b c : Bool) (f : Figure) (angles : List ℕ) (e : SineEntries) (others : List ℕ)
+    → cond b (cond c (length angles ∷ length (e .logSines) ∷ length (e .differences) ∷ length (e .logSides) ∷ others) []) []
+    ≡ secondLengths f
+    → (length angles ≤ mostAngles) × (length (e .logSines ++ e .logSides) ≤ mostAngles)
+judged-lengths true true f angles e others same =
+    let by-angle : length angles ≡ angleCount f = cc in
+    let by-sine : length (e .logSines) ≡ angleCount f = cc in
+    let by-side : length (e .logSides) ≡ sideCount f = cc in
+    let entries : length (e .logSines ++ e .logSides) ≤ mostAngles =
+    omega (arith, length-append (e .logSines) (e .logSides), by-sine, by-side, entry-bound SecondPass f) in
+    (omega (arith, by-angle, angle-bound f), entries)
+judged-lengths true false f angles e others same = absurd (let z : _≡_ {A = ℕ} 0 1 = cc in omega arith)
+judged-lengths false c f angles e others same = absurd (let z : _≡_ {A = ℕ} 0 1 = cc in omega arith)
 
 pub sums-in-table : (given : SecondGiven) (lent : SumsLent) → T (allInTable (sumsRows given lent))
-sums-in-table given lent = second-in-table (given .code) (given .n) (given .tolerance) (given .angles) (given .logSines) (given .differences) _
+sums-in-table given lent = second-in-table (given .code) (given .n) (given .tolerance) (given .angles) (given .entries) _
 
 pub sums-within : (given : SecondGiven) (lent : SumsLent) → PlacesWithin mostAngles (sumsRows given lent)
 unfolding secondPassRows
 sums-within given lent = λ no-figure. go (figureOf (given .code) (given .n))
   where
     go : (named : Named)
-        → PlacesWithin mostAngles (ofNamed named [] (λ f. secondRows f (given .tolerance) (given .angles) (given .logSines) (given .differences)
-        (lengthsWith (length (lent .sums)) 2 (secondLengthsLent given (lent .values)))))
+        → PlacesWithin mostAngles
+        (ofNamed named [] (λ f. secondRows f (given .tolerance) (given .angles) (given .entries) (sumsLengths given lent)))
     go Nothing = tt
     go (As f) =
-        pages.second-within f (given .tolerance) (given .angles) (given .logSines) (given .differences) _ (λ lengths.
-        judged-lengths (eqb (length (lent .sums)) 2) f given _ (same-lengths _ (secondLengths f) lengths))
+        pages.second-within f (given .tolerance) (given .angles) (given .entries) _ (λ lengths.
+        judged-lengths (eqb (length (lent .misclosures)) (sineCount (given .code) (given .n))) (eqb (length (lent .divisor)) 2) f
+        (given .angles) (given .entries) _ (same-lengths _ (secondLengths f) lengths))
 
 -- ---- a sheet's text
 

@@ -1,8 +1,8 @@
--- What the operations promise to C: what `passes`, `sheet_rules` and `report` promise, with the answer as one number, and W and S, what stands in a head, and the
--- size of a text in slices of their own.
-use Prim.Native.Nat.{ℕ}
-use mathlib.Core.List.{List, [], _∷_, _++_}
-use lib.IntN.{ℤ}
+-- What the operations promise to C: what the passes, `sheet_rules` and `report` promise, with the answer as one number, and W, S or the
+-- determinant, what stands in a head, and the size of a text in slices of their own.
+use Prim.Native.Nat.{ℕ, _/_, _%_, _^_}
+use mathlib.Core.List.{List, [], _∷_, _++_, map}
+use lib.IntN.{ℤ, natAbs}
 use lib.ListN.{length, drop}
 use Rattle.refusals.specs.Numbers.{verdictTold}
 use Rattle.refusals.specs.Order.{Row, row, judged}
@@ -17,7 +17,7 @@ use Rattle.sheet_layout.specs.Head.{headRows, lookOf, ofHead}
 use Rattle.sheet_rules.specs.Sheet.{Values, valuesRead}
 use Rattle.sheet_rules.specs.Judging.{readerRows, writerRows, writtenOf}
 use Rattle.sheet_rules.specs.Promises.{Slices, slicesOf, lengthsLent}
-use Rattle.pass_rules.specs.SecondPass.{sineMisclosure, sumOfSquares, secondPassRows}
+use Rattle.pass_rules.specs.SecondPass.{SineEntries, misclosureIn, divisor, secondPassRows}
 use Rattle.pass_rules.specs.Promises.{FirstGiven, FirstLent, firstRowsOf, firstLeft, SecondGiven, SecondLent, secondLengthsLent, secondValues}
 use Rattle.report.specs.Report.{reportText}
 use Rattle.controller.specs.Answer.{answerNumber, lengthsWith}
@@ -26,16 +26,17 @@ use Rattle.controller.specs.Answer.{answerNumber, lengthsWith}
 abbrev pub answerBy : List Row → ℕ
 answerBy rows = answerNumber (verdictTold (judged rows))
 
--- ---- a look: kind, code, n, and how many angles, fixed angles, log-sines and conditions
+-- ---- a look: kind, code, n, and how many angles, fixed angles, log-sines, conditions and log sides
 
 abbrev pub lookHead : Kind → Figure → List ℕ
 lookHead kind f =
     numberOfKind kind ∷ description f .code ∷ description f .n
-    ∷ lengthsOf kind f .angles ∷ lengthsOf kind f .fixed ∷ lengthsOf kind f .«log_sines» ∷ conditionCount f ∷ []
+    ∷ lengthsOf kind f .angles ∷ lengthsOf kind f .fixed ∷ lengthsOf kind f .«log_sines» ∷ conditionCount f
+    ∷ lengthsOf kind f .«log_sides» ∷ []
 
--- 12 if under two bytes, 11, 1, 2: `head` has seven values
+-- 12 if under two bytes, 11, 1, 2: `head` has eight values
 abbrev pub lookRows : (sheet head : List ℕ) → List Row
-lookRows sheet head = headRows sheet ++ (lengthsRow (length head ∷ []) (7 ∷ []) ∷ [])
+lookRows sheet head = headRows sheet ++ (lengthsRow (length head ∷ []) (8 ∷ []) ∷ [])
 
 abbrev pub lookLeft : (sheet head : List ℕ) → List ℕ
 lookLeft sheet head = ofHead (lookOf sheet) head (λ kind f. stored (judged (lookRows sheet head)) (lookHead kind f) head)
@@ -79,28 +80,45 @@ WritePromise kind code n v entry answer exit =
 abbrev pub FirstPassPromise : FirstGiven → (entry : FirstLent) → (answer : ℕ) → (exit : FirstLent) → Type 0
 FirstPassPromise given entry answer exit = Promised (answerBy (firstRowsOf given entry)) (firstLeft given entry) answer exit
 
--- ---- the second pass: W and S, and the values
+-- ---- the second pass: W of each sine condition, S or the determinant as two words, and the values
 
 pub record SumsLent : Type 0 where
-  pub sums : List ℤ
+  pub misclosures : List ℤ
+  pub divisor : List ℕ
   pub values : SecondLent
 
-abbrev pub sumsLent : (sums : List ℤ) → SecondLent → SumsLent
-sumsLent sums values = record { sums = sums; values = values }
+abbrev pub sumsLent : (misclosures : List ℤ) → (divisor : List ℕ) → SecondLent → SumsLent
+sumsLent misclosures divisor values = record { misclosures = misclosures; divisor = divisor; values = values }
 
--- the rows of the second pass: `sums` has two values
+-- how many sine conditions the figure has that code and n name
+abbrev pub sineCount : (code n : ℕ) → ℕ
+sineCount code n = ofNamed (figureOf code n) 0 (λ f. length (description f .sines))
+
+-- the lengths for number 2: `sine_misclosures` has a value for each sine condition, `divisor` has two
+abbrev pub sumsLengths : SecondGiven → SumsLent → List ℕ
+sumsLengths given lent =
+    lengthsWith (length (lent .misclosures)) (sineCount (given .code) (given .n))
+    (lengthsWith (length (lent .divisor)) 2 (secondLengthsLent given (lent .values)))
+
+-- the rows of the second pass
 abbrev pub sumsRows : SecondGiven → SumsLent → List Row
 sumsRows given lent =
-    secondPassRows (given .code) (given .n) (given .tolerance) (given .angles) (given .logSines) (given .differences)
-    (lengthsWith (length (lent .sums)) 2 (secondLengthsLent given (lent .values)))
+    secondPassRows (given .code) (given .n) (given .tolerance) (given .angles) (given .entries) (sumsLengths given lent)
 
-abbrev pub sumsOf : Figure → SecondGiven → List ℤ
-sumsOf f given = sineMisclosure f (given .logSines) ∷ sumOfSquares f (given .differences) ∷ []
+-- W of the pole and, where the figure has it, of the side condition
+abbrev pub sineMisclosuresOf : Figure → SineEntries → List ℤ
+sineMisclosuresOf f e = map (λ c. misclosureIn f c e) (description f .sines)
+
+-- S or the determinant is high·2^64 + low
+abbrev pub divisorWordsOf : Figure → SineEntries → List ℕ
+divisorWordsOf f e = natAbs (divisor f e) / 2 ^ 64 ∷ natAbs (divisor f e) % 2 ^ 64 ∷ []
+
+abbrev pub sumsValues : Figure → SecondGiven → SumsLent
+sumsValues f given = sumsLent (sineMisclosuresOf f (given .entries)) (divisorWordsOf f (given .entries)) (secondValues f given)
 
 abbrev pub sumsLeft : SecondGiven → SumsLent → SumsLent
 sumsLeft given lent =
-    ofNamed (figureOf (given .code) (given .n)) lent
-    (λ f. stored (judged (sumsRows given lent)) (sumsLent (sumsOf f given) (secondValues f given)) lent)
+    ofNamed (figureOf (given .code) (given .n)) lent (λ f. stored (judged (sumsRows given lent)) (sumsValues f given) lent)
 
 abbrev pub SecondPassPromise : SecondGiven → (entry : SumsLent) → (answer : ℕ) → (exit : SumsLent) → Type 0
 SecondPassPromise given entry answer exit = Promised (answerBy (sumsRows given entry)) (sumsLeft given entry) answer exit

@@ -56,18 +56,21 @@ pub extern "C" fn bienguloc_read(
     fixed: &mut [u32],
     log_sines: &mut [u32],
     differences: &mut [i32],
+    log_sides: &mut [u32],
 ) -> u32
     ensures { λ answer. ⌜ ReadPromise (now (sheet .entry))
         (readLent (now (head .entry))
-        (slices (now (angles .entry)) (now (fixed .entry)) (now («log_sines» .entry)) (now (differences .entry))))
+        (slices (now (angles .entry)) (now (fixed .entry)) (now («log_sines» .entry)) (now (differences .entry))
+        (now («log_sides» .entry))))
         answer
         (readLent (now (head .exit))
-        (slices (now (angles .exit)) (now (fixed .exit)) (now («log_sines» .exit)) (now (differences .exit)))) ⌝ }
+        (slices (now (angles .exit)) (now (fixed .exit)) (now («log_sines» .exit)) (now (differences .exit))
+        (now («log_sides» .exit)))) ⌝ }
 {
     if head.len() != HEAD_LENGTH {
         return refused(refusal_of_lengths(sheet));
     }
-    match read_sheet(sheet, angles, fixed, log_sines, differences) {
+    match read_sheet(sheet, angles, fixed, log_sines, differences, log_sides) {
         Reading::Refused(refusal) => refused(refusal),
         Reading::Read {
             kind,

@@ -1,12 +1,19 @@
 // The two passes for C.
 ghost use mathlib.Core.Path.{_≡_};
+ghost use mathlib.Core.Bool.{_&&_};
+ghost use mathlib.Core.List.{[], _∷_};
+ghost use Prim.Native.Nat.{_≤_};
+ghost use lib.Dec.{eqb};
+ghost use lib.ListN.{length, take};
 ghost use Rattle.refusals.specs.declared.Refusal.{Refusal};
 ghost use Rattle.figures.specs.Figure.{figureOf, ofNamed};
+ghost use Rattle.pass_rules.specs.SecondPass.{sineEntries};
 ghost use Rattle.pass_rules.specs.Promises.{firstGiven, firstLent, secondGiven, secondLent};
-ghost use Rattle.controller.specs.Promises.{FirstPassPromise, sumsLent, SecondPassPromise};
+ghost use Rattle.controller.specs.Promises.{FirstPassPromise, sineCount, sumsLent, SecondPassPromise};
 use crate::answer::DONE;
 use crate::answer::answered;
 use crate::answer::refused;
+use figure_tables::counts_of;
 use figures::Named;
 use figures::figure_of;
 use pass_first::first_pass;
@@ -14,8 +21,8 @@ use pass_rules::SecondAnswer;
 use pass_second::second_pass;
 use refusals::Refusal;
 
-// W and S.
-const SUMS_LENGTH: usize = 2;
+// The high word of S or the determinant, and the low one.
+const DIVISOR_LENGTH: usize = 2;
 
 #[no_mangle]
 pub extern "C" fn bienguloc_first_pass(
@@ -62,6 +69,36 @@ fn refusal_of_lengths(code: u32, n: u32) -> Refusal
     }
 }
 
+// A figure with known sides has the side condition beside the pole.
+fn sine_count(code: u32, n: u32) -> usize
+    ensures { λ count. ⌜ count ≡ sineCount code n ⌝ }
+{
+    match figure_of(code, n) {
+        Named::Nothing => 0,
+        Named::As(figure) => {
+            let counts = counts_of(figure);
+            if counts.sides == 0 { 1 } else { 2 }
+        }
+    }
+}
+
+fn have_own_lengths(code: u32, n: u32, misclosures: usize, divisor: usize) -> bool
+    ensures { λ own. ⌜ own ≡ (eqb misclosures (sineCount code n) && eqb divisor 2) ⌝ }
+{
+    misclosures == sine_count(code, n) && divisor == DIVISOR_LENGTH
+}
+
+fn store_misclosures(misclosure: i64, side_misclosure: i64, lent: &mut [i64])
+    requires { ⌜ 1 ≤ length (now lent) ⌝ }
+    requires { ⌜ length (now lent) ≤ 2 ⌝ }
+    ensures { λ _. ⌜ now (lent .exit) ≡ take (length (now (lent .entry))) (misclosure ∷ «side_misclosure» ∷ []) ⌝ }
+{
+    lent[0] = misclosure;
+    if lent.len() > 1 {
+        lent[1] = side_misclosure;
+    }
+}
+
 #[no_mangle]
 pub extern "C" fn bienguloc_second_pass(
     code: u32,
@@ -70,22 +107,29 @@ pub extern "C" fn bienguloc_second_pass(
     angles: &[u32],
     log_sines: &[u32],
     differences: &[i32],
-    sums: &mut [i64],
+    log_sides: &[u32],
+    sine_misclosures: &mut [i64],
+    divisor: &mut [u64],
     reduced: &mut [i64],
-    numerators: &mut [i64],
+    side_reduced: &mut [i64],
+    numerators_high: &mut [i64],
+    numerators_low: &mut [u64],
     rounded: &mut [i32],
     adjusted: &mut [u32],
     rests: &mut [i32],
 ) -> u32
     ensures { λ answer. ⌜ SecondPassPromise
-        (secondGiven code n tolerance (now (angles .entry)) (now («log_sines» .entry)) (now (differences .entry)))
-        (sumsLent (now (sums .entry))
-        (secondLent (now (reduced .entry)) (now (numerators .entry)) (now (rounded .entry)) (now (adjusted .entry)) (now (rests .entry))))
+        (secondGiven code n tolerance (now (angles .entry))
+        (sineEntries (now («log_sines» .entry)) (now (differences .entry)) (now («log_sides» .entry))))
+        (sumsLent (now («sine_misclosures» .entry)) (now (divisor .entry))
+        (secondLent (now (reduced .entry)) (now («side_reduced» .entry)) (now («numerators_high» .entry)) (now («numerators_low» .entry))
+        (now (rounded .entry)) (now (adjusted .entry)) (now (rests .entry))))
         answer
-        (sumsLent (now (sums .exit))
-        (secondLent (now (reduced .exit)) (now (numerators .exit)) (now (rounded .exit)) (now (adjusted .exit)) (now (rests .exit)))) ⌝ }
+        (sumsLent (now («sine_misclosures» .exit)) (now (divisor .exit))
+        (secondLent (now (reduced .exit)) (now («side_reduced» .exit)) (now («numerators_high» .exit)) (now («numerators_low» .exit))
+        (now (rounded .exit)) (now (adjusted .exit)) (now (rests .exit)))) ⌝ }
 {
-    if sums.len() != SUMS_LENGTH {
+    if !have_own_lengths(code, n, sine_misclosures.len(), divisor.len()) {
         return refused(refusal_of_lengths(code, n));
     }
     match second_pass(
@@ -95,16 +139,20 @@ pub extern "C" fn bienguloc_second_pass(
         angles,
         log_sines,
         differences,
+        log_sides,
         reduced,
-        numerators,
+        side_reduced,
+        numerators_high,
+        numerators_low,
         rounded,
         adjusted,
         rests,
     ) {
         SecondAnswer::Refused(refusal) => refused(refusal),
-        SecondAnswer::Done(misclosure, squares) => {
-            sums[0] = misclosure;
-            sums[1] = squares;
+        SecondAnswer::Done(misclosure, side_misclosure, divisor_high, divisor_low) => {
+            store_misclosures(misclosure, side_misclosure, sine_misclosures);
+            divisor[0] = divisor_high;
+            divisor[1] = divisor_low;
             DONE
         }
     }

@@ -14,10 +14,12 @@ pub extern "C" fn bienguloc_write(
     fixed: &[u32],
     log_sines: &[u32],
     differences: &[i32],
+    log_sides: &[u32],
     sheet: &mut [u8],
 ) -> u32
     ensures { λ answer. ⌜ WritePromise kind code n
-        (valuesFrom «limit_or_tolerance» (now (angles .entry)) (now (fixed .entry)) (now («log_sines» .entry)) (now (differences .entry)))
+        (valuesFrom «limit_or_tolerance» (now (angles .entry)) (now (fixed .entry)) (now («log_sines» .entry)) (now (differences .entry))
+        (now («log_sides» .entry)))
         (now (sheet .entry)) answer (now (sheet .exit)) ⌝ }
 {
     answered(write_sheet(
@@ -29,6 +31,7 @@ pub extern "C" fn bienguloc_write(
         fixed,
         log_sines,
         differences,
+        log_sides,
         sheet,
     ))
 }

@@ -16,7 +16,7 @@ use Rattle.pass_rules.specs.SecondPass.{secondTold, secondPassVerdict}
 use Rattle.pass_rules.proofs.Refusals.{first-in-table, second-in-table, second-tells}
 use Rattle.pass_rules.specs.Promises.{FirstGiven, FirstLent, firstLengthsLent, firstValues, firstLeft, firstRowsOf, secondLengthsLent, secondValues, secondRowsOf}
 use Rattle.controller.specs.Answer.{answerTold}
-use Rattle.controller.specs.Promises.{lookRows, lookHead, readRows, readValues, sumsRows, sumsOf, sumsLent, reportRows, textLent, textLaid}
+use Rattle.controller.specs.Promises.{lookRows, lookHead, readRows, readValues, sumsRows, sumsValues, reportRows, textLent, textLaid}
 use Rattle.controller.proofs.Answers.{answer-tells}
 use Rattle.controller.proofs.Lengths.{kept-told, kept-head, kept-named}
 use Rattle.controller.proofs.PlaceBounds.{look-in-table, look-within, read-in-table, read-within, write-within, first-within, sums-in-table, sums-within, report-within}
@@ -28,7 +28,8 @@ use Rattle.demands.proofs.ByTheTable.{by-the-table}
 
 pub look-at : LookAt
 look-at sheet answer e =
-    by-the-table lookTold (headRows sheet) (head-in-table sheet) answer (tt {0}) (tt {0}) (ap lookTold e ∙ head-tells sheet) (λ refusal failed. refl)
+    by-the-table lookTold (headRows sheet) (head-in-table sheet) answer (tt {0}) (tt {0})
+    (ap lookTold e ∙ head-tells sheet) (λ refusal failed. refl)
 
 pub read-sheet : ReadSheet
 read-sheet sheet entry exit answer promise =
@@ -45,10 +46,12 @@ write-sheet kind code n v entry exit answer promise =
 
 -- ---- the passes
 
-kept-first : (given : FirstGiven) (entry : FirstLent) (refusal : Refusal) → judged (firstRowsOf given entry) ≡ Failed refusal → firstLeft given entry ≡ entry
+kept-first : (given : FirstGiven) (entry : FirstLent) (refusal : Refusal) → judged (firstRowsOf given entry) ≡ Failed refusal
+    → firstLeft given entry ≡ entry
 unfolding firstPassVerdict
 kept-first given entry refusal failed =
-    kept-named (figureOf (given .code) (given .n)) (judged (firstRowsOf given entry)) refusal (λ f. firstValues f given) entry (ap verdictTold failed)
+    kept-named (figureOf (given .code) (given .n)) (judged (firstRowsOf given entry)) refusal (λ f. firstValues f given) entry
+    (ap verdictTold failed)
 
 pub first-pass : FirstPass
 unfolding firstPassVerdict
@@ -62,10 +65,13 @@ pub second-pass : SecondPass
 unfolding secondPassVerdict
 second-pass given entry exit answer promise =
     by-the-table secondTold (secondRowsOf given entry)
-    (second-in-table (given .code) (given .n) (given .tolerance) (given .angles) (given .logSines) (given .differences) (secondLengthsLent given entry)) answer entry exit
+    (second-in-table (given .code) (given .n) (given .tolerance) (given .angles) (given .entries) (secondLengthsLent given entry))
+    answer entry exit
     (ap secondTold (promise .answered)
-    ∙ second-tells (given .code) (given .n) (given .tolerance) (given .angles) (given .logSines) (given .differences) (secondLengthsLent given entry))
-    (λ refusal failed. promise .leaves ∙ kept-named (figureOf (given .code) (given .n)) (judged (secondRowsOf given entry)) refusal (λ f. secondValues f given) entry (ap verdictTold failed))
+    ∙ second-tells (given .code) (given .n) (given .tolerance) (given .angles) (given .entries) (secondLengthsLent given entry))
+    (λ refusal failed. promise .leaves
+    ∙ kept-named (figureOf (given .code) (given .n)) (judged (secondRowsOf given entry)) refusal (λ f. secondValues f given) entry
+    (ap verdictTold failed))
 
 -- ---- the same operations for C
 
@@ -73,18 +79,21 @@ pub look-C : Look-C
 look-C sheet entry exit answer promise =
     by-the-table answerTold (lookRows sheet entry) (look-in-table sheet entry) answer entry exit
     (answer-tells (lookRows sheet entry) (look-in-table sheet entry) (look-within sheet entry) (promise .answered))
-    (λ refusal failed. promise .leaves ∙ kept-head (lookOf sheet) (judged (lookRows sheet entry)) refusal lookHead entry (ap verdictTold failed))
+    (λ refusal failed. promise .leaves
+    ∙ kept-head (lookOf sheet) (judged (lookRows sheet entry)) refusal lookHead entry (ap verdictTold failed))
 
 pub read-C : Read-C
 read-C sheet entry exit answer promise =
     by-the-table answerTold (readRows sheet entry) (read-in-table sheet entry) answer entry exit
     (answer-tells (readRows sheet entry) (read-in-table sheet entry) (read-within sheet entry) (promise .answered))
-    (λ refusal failed. promise .leaves ∙ kept-head (lookOf sheet) (judged (readRows sheet entry)) refusal (λ kind f. readValues kind f sheet) entry (ap verdictTold failed))
+    (λ refusal failed. promise .leaves
+    ∙ kept-head (lookOf sheet) (judged (readRows sheet entry)) refusal (λ kind f. readValues kind f sheet) entry (ap verdictTold failed))
 
 pub write-C : Write-C
 write-C kind code n v entry exit answer promise =
     by-the-table answerTold (writerRows kind code n v (length entry)) (writer-in-table kind code n v (length entry)) answer entry exit
-    (answer-tells (writerRows kind code n v (length entry)) (writer-in-table kind code n v (length entry)) (write-within kind code n v (length entry)) (promise .answered))
+    (answer-tells (writerRows kind code n v (length entry)) (writer-in-table kind code n v (length entry))
+    (write-within kind code n v (length entry)) (promise .answered))
     (λ refusal failed. promise .leaves ∙ kept-written kind code n v (length entry) entry refl failed)
 
 pub first-pass-C : FirstPass-C
@@ -98,12 +107,14 @@ pub second-pass-C : SecondPass-C
 second-pass-C given entry exit answer promise =
     by-the-table answerTold (sumsRows given entry) (sums-in-table given entry) answer entry exit
     (answer-tells (sumsRows given entry) (sums-in-table given entry) (sums-within given entry) (promise .answered))
-    (λ refusal failed. promise .leaves ∙ kept-named (figureOf (given .code) (given .n)) (judged (sumsRows given entry)) refusal (λ f. sumsLent (sumsOf f given) (secondValues f given)) entry
+    (λ refusal failed. promise .leaves
+    ∙ kept-named (figureOf (given .code) (given .n)) (judged (sumsRows given entry)) refusal (λ f. sumsValues f given) entry
     (ap verdictTold failed))
 
 pub report-C : Report-C
 report-C sheet entry exit answer promise =
     by-the-table answerTold (reportRows sheet entry) tt answer entry exit
     (answer-tells (reportRows sheet entry) tt (report-within sheet entry) (promise .answered))
-    (λ refusal failed. promise .leaves ∙ kept-told (judged (reportRows sheet entry)) refusal (textLent (textLaid sheet (entry .text)) (length (reportText sheet) ∷ [])) entry
+    (λ refusal failed. promise .leaves
+    ∙ kept-told (judged (reportRows sheet entry)) refusal (textLent (textLaid sheet (entry .text)) (length (reportText sheet) ∷ [])) entry
     (ap verdictTold failed))

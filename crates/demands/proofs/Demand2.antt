@@ -1,16 +1,19 @@
 -- Demand 2: each value in each slice, from the promises alone, and both round trips. Assumes nothing.
-use Prim.Native.Nat.{ℕ, suc, _*_, _≤_, _<_}
+use Prim.Native.Nat.{ℕ, suc, _*_, _/_, _%_, _^_, _≤_, _<_}
+use mathlib.Core.Bool.{true, false}
 use mathlib.Core.List.{List}
 use mathlib.Core.Path.{_≡_, refl, sym, ap, ap₂, subst, _∙_}
 use native.Mathlib.Omega.{arith}
-use lib.IntN.{ℤ, pos, negsuc, negℤ, natAbs, _+ℤ_, _*ℤ_}
+use lib.IntN.{ℤ, pos, negsuc, natAbs, _+ℤ_}
 use lib.ListN.{length, getD}
 use lib.Signed.{_≤ℤ_}
 use Rattle.whole.specs.Lists.{listed}
 use Rattle.whole.specs.Quotient.{roundedQuotient}
 use Rattle.whole.specs.Sums.{vector}
 use Rattle.whole.proofs.Lists.{length-listed, getD-listed}
-use Rattle.whole.proofs.Sums.{squares-ext}
+use Rattle.wide.specs.Wide.{radix}
+use Rattle.wide_words.specs.Words.{joined, highWord, lowWord}
+use Rattle.wide_words.proofs.Joining.{joined-words}
 use Rattle.refusals.specs.declared.Refusal.{Refusal}
 use Rattle.refusals.specs.declared.Verdict.{Verdict}
 use Rattle.refusals.specs.declared.Verdict.the-variants.{Passed, Failed}
@@ -21,7 +24,7 @@ use Rattle.refusals.proofs.Rows.{none-holds}
 use Rattle.figures.specs.declared.Figure.{Figure}
 use Rattle.figures.specs.declared.Named.{Named}
 use Rattle.figures.specs.declared.Named.the-variants.{As, Nothing}
-use Rattle.figures.specs.Figure.{description, denominator, angleCount, conditionCount, membersOf, figureOf, ofNamed}
+use Rattle.figures.specs.Figure.{description, denominator, angleCount, conditionCount, membersOf, hasSide, figureOf, ofNamed}
 use Rattle.figures.specs.Numerators.{reducedCoefficient}
 use Rattle.sheet_layout.specs.Layout.{numberOfKind}
 use Rattle.sheet_rules.specs.declared.Reading.{Reading}
@@ -34,16 +37,18 @@ use Rattle.sheet_rules.proofs.ReadThenWritten.{read-then-accepted}
 use Rattle.sheet_rules.proofs.WrittenThenRead.{written-then-read as sheet-read-back}
 use Rattle.pass_rules.specs.declared.second.SecondAnswer.the-variants.{Done, Refused}
 use Rattle.pass_rules.specs.FirstPass.{misclosure, firstNumerator, firstRounded, corrected, firstRest, firstRows, firstPassRows, firstPassVerdict}
-use Rattle.pass_rules.specs.SecondPass.{signedDifference, secondReduced, sumOfSquares, sineMisclosure, secondNumerator, secondRounded, secondAdjusted, secondRest, secondRows, secondPassRows, secondPassVerdict, secondAnswerOf, secondPassAnswer}
+use Rattle.pass_rules.specs.SecondPass.{SineEntries, signedIn, reducedIn, misclosureIn, secondReduced, sideReduced, sideReducedCount, sineMisclosure, sideMisclosure, divisor, secondNumerator, secondRounded, secondAdjusted, secondRest, secondRows, secondPassRows, secondPassVerdict, secondAnswerFor, secondPassAnswer}
 use Rattle.figures.proofs.Figures.{denominator-positive}
 use Rattle.figures.proofs.Theorem.{condition-agrees, numerator-agrees, numerators-cancel}
 use Rattle.pass_rules.proofs.PassRows.{of-figure, one-judged}
 use Rattle.pass_rules.proofs.Rests.{rest-small}
 use Rattle.pass_rules.proofs.SecondAccepted.{Accepted, accepted}
-use Rattle.pass_rules.proofs.SecondLaws.{squares-sum, rest-half}
+use Rattle.pass_rules.proofs.SecondLaws.{divisor-natural, rest-half}
 use Rattle.pass_rules.proofs.WithinRange.{result-within}
 use Rattle.pass_rules.specs.Promises.{FirstGiven, firstLengthsLent, firstValues, SecondGiven, SecondLent, secondLengthsLent, secondVerdict, secondAnswer, secondValues}
-use Rattle.demands.specs.Demand2.{FirstDone, FirstPass, SecondDone, SecondPass, valuesIn, ReadThenWritten, WrittenThenRead}
+use Rattle.pass_rules.proofs.SineSums.{pole-misclosure, no-misclosure}
+use Rattle.demands.specs.Demand2.{FirstDone, FirstPass, OneSine, TwoSines, SecondDone, SecondPass, valuesIn, ReadThenWritten, WrittenThenRead}
+use Rattle.demands.proofs.WorkedValues.{second-numerators, joined-numerators, one-squares, one-numerators, side-reduced-at, two-determinant, two-numerators}
 
 -- a slice of values by a rule has them by the index
 slice-at : (n : ℕ) (g : ℕ → ℤ) (i : ℕ) → i < n → vector (listed n g) i ≡ g i
@@ -82,11 +87,16 @@ module _ (f : Figure) (given : FirstGiven) (lent : List ℕ) (named : figureOf (
     figure = f;
     named = named;
     condition-many = (length-listed M (misclosure f a x), length-listed M (firstRest f a x));
-    angle-many = (length-listed N (firstNumerator f a x), length-listed N (firstRounded f a x), length-listed N (λ i. natAbs (corrected f a x i)));
+    angle-many = (
+      length-listed N (firstNumerator f a x),
+      length-listed N (firstRounded f a x),
+      length-listed N (λ i. natAbs (corrected f a x i)),
+    );
     misclosures = slice-at M (misclosure f a x);
     numerators = λ i h.
         slice-at N (firstNumerator f a x) i h
-        ∙ numerator-agrees f (misclosure f a x) (vector (firstValues f given .misclosures)) (λ j b. sym (slice-at M (misclosure f a x) j b)) i;
+        ∙ numerator-agrees f (misclosure f a x) (vector (firstValues f given .misclosures))
+        (λ j b. sym (slice-at M (misclosure f a x) j b)) i;
     rounded = λ i h.
         slice-at N (firstRounded f a x) i h
         ∙ ap (λ (z : ℤ). roundedQuotient z (denominator f)) (sym (slice-at N (firstNumerator f a x) i h));
@@ -97,111 +107,154 @@ module _ (f : Figure) (given : FirstGiven) (lent : List ℕ) (named : figureOf (
     rests = λ j h.
         slice-at M (firstRest f a x) j h
         ∙ ap₂ _+ℤ_ (sym (slice-at M (misclosure f a x) j h))
-        (condition-agrees f (firstRounded f a x) (vector (firstValues f given .rounded)) (λ i b. sym (slice-at N (firstRounded f a x) i b)) j h);
+        (condition-agrees f (firstRounded f a x) (vector (firstValues f given .rounded))
+        (λ i b. sym (slice-at N (firstRounded f a x) i b)) j h);
     rests-small = λ j h.
         subst (λ (z : ℤ). 2 * natAbs z ≤ length (membersOf f (suc j))) (sym (slice-at M (firstRest f a x) j h))
-        (rest-small f (firstNumerator f a x) (denominator f) j (misclosure f a x j) (denominator-positive f) (numerators-cancel f (misclosure f a x) j h));
+        (rest-small f (firstNumerator f a x) (denominator f) j (misclosure f a x j) (denominator-positive f)
+        (numerators-cancel f (misclosure f a x) j h));
   }
 
 pub first-pass : FirstPass
 unfolding firstPassVerdict firstPassRows
 first-pass given entry exit promise =
-    let accepted = of-figure (given .code) (given .n) (λ f. firstRows f (given .limit) (given .angles) (given .fixed) (firstLengthsLent given entry)) (sym (promise .answered)) in
+    let accepted = of-figure (given .code) (given .n)
+    (λ f. firstRows f (given .limit) (given .angles) (given .fixed) (firstLengthsLent given entry)) (sym (promise .answered)) in
     let left : exit ≡ firstValues (accepted .figure) given =
     promise .leaves
-    ∙ ap₂ (λ (m : Named) (v : Verdict). ofNamed m entry (λ f. stored v (firstValues f given) entry)) (accepted .named) (sym (promise .answered)) in
-    subst (FirstDone given) (sym left) (first-values-done (accepted .figure) given (firstLengthsLent given entry) (accepted .named) (accepted .passed))
+    ∙ ap₂ (λ (m : Named) (v : Verdict). ofNamed m entry (λ f. stored v (firstValues f given) entry)) (accepted .named)
+    (sym (promise .answered)) in
+    subst (FirstDone given) (sym left)
+    (first-values-done (accepted .figure) given (firstLengthsLent given entry) (accepted .named) (accepted .passed))
 
 -- ---- the second pass
 
 module _ (f : Figure) (given : SecondGiven) (lent : List ℕ) (named : figureOf (given .code) (given .n) ≡ As f)
-    (passed : judged (secondRows f (given .tolerance) (given .angles) (given .logSines) (given .differences) lent) ≡ Passed) where
+    (passed : judged (secondRows f (given .tolerance) (given .angles) (given .entries) lent) ≡ Passed) where
   abbrev N₂ : ℕ
   N₂ = angleCount f
 
   abbrev M₂ : ℕ
   M₂ = conditionCount f
 
-  abbrev l : List ℕ
-  l = given .logSines
+  abbrev e : SineEntries
+  e = given .entries
 
-  abbrev d : List ℤ
-  d = given .differences
+  abbrev left : SecondLent
+  left = secondValues f given
 
-  ok : Accepted f (given .tolerance) (given .angles) l d lent
-  ok = accepted f (given .tolerance) (given .angles) l d lent passed
+  ok : Accepted f (given .tolerance) (given .angles) e lent
+  ok = accepted f (given .tolerance) (given .angles) e lent passed
 
-  pub second-values-done : SecondDone given (sineMisclosure f l) (sumOfSquares f d) (secondValues f given)
-  unfolding secondReduced reducedCoefficient signedDifference sineMisclosure secondNumerator secondRounded secondAdjusted secondRest
+  one-done : hasSide f ≡ false → OneSine f (sineMisclosure f e) (sideMisclosure f e) (divisor f e) left
+  one-done one = record {
+    sum-of-squares = one-squares f e one;
+    no-side = no-misclosure f e one;
+    numerators = λ i h. joined-numerators f e i ∙ one-numerators f e one i h;
+  }
+
+  two-done : hasSide f ≡ true → TwoSines f given (sineMisclosure f e) (sideMisclosure f e) (divisor f e) left
+  unfolding signedIn reducedIn reducedCoefficient misclosureIn
+  two-done both = record {
+    side-reduced = side-reduced-at f e both;
+    side-misclosure = refl;
+    determinant = two-determinant f e both;
+    numerators = λ i h. joined-numerators f e i ∙ two-numerators f e both i h;
+  }
+
+  pub second-values-done : SecondDone given (sineMisclosure f e) (sideMisclosure f e) (divisor f e) left
+  unfolding signedIn reducedIn reducedCoefficient secondRounded secondAdjusted secondRest
   second-values-done = record {
     figure = f;
     named = named;
     angle-many = (
-      length-listed N₂ (secondReduced f d),
-      length-listed N₂ (secondNumerator f l d),
-      length-listed N₂ (secondRounded f l d),
-      length-listed N₂ (λ i. natAbs (secondAdjusted f (given .angles) l d i)),
+      length-listed N₂ (secondReduced f e),
+      length-listed N₂ (λ i. highWord (secondNumerator f e i)),
+      length-listed N₂ (λ i. lowWord (secondNumerator f e i)),
+      length-listed N₂ (secondRounded f e),
+      length-listed N₂ (λ i. natAbs (secondAdjusted f (given .angles) e i)),
     );
-    condition-many = length-listed M₂ (secondRest f l d);
-    reduced = slice-at N₂ (secondReduced f d);
-    sum-of-squares =
-        squares-sum f d
-        ∙ squares-ext N₂ (secondReduced f d) (vector (secondValues f given .reduced)) (λ i h. sym (slice-at N₂ (secondReduced f d) i h));
-    sine-misclosure = refl;
-    numerators = λ i h.
-        slice-at N₂ (secondNumerator f l d) i h
-        ∙ ap (λ (z : ℤ). negℤ (pos 100) *ℤ pos (denominator f) *ℤ z *ℤ sineMisclosure f l) (sym (slice-at N₂ (secondReduced f d) i h));
+    side-many = length-listed (sideReducedCount f) (sideReduced f e);
+    condition-many = length-listed M₂ (secondRest f e);
+    reduced = slice-at N₂ (secondReduced f e);
+    sine-misclosure = pole-misclosure f e;
+    one-sine = one-done;
+    two-sines = two-done;
     rounded = λ i h.
-        slice-at N₂ (secondRounded f l d) i h
-        ∙ ap (λ (z : ℤ). roundedQuotient z (natAbs (sumOfSquares f d))) (sym (slice-at N₂ (secondNumerator f l d) i h));
+        slice-at N₂ (secondRounded f e) i h
+        ∙ ap (λ (z : ℤ). roundedQuotient z (natAbs (divisor f e))) (sym (joined-numerators f e i ∙ second-numerators f e i h));
     adjusted = λ i h.
-        ap pos (getD-listed N₂ (λ k. natAbs (secondAdjusted f (given .angles) l d k)) i 0 h)
-        ∙ own-magnitude (secondAdjusted f (given .angles) l d i) (ok .result-within i h .0)
-        ∙ ap (λ (z : ℤ). pos (getD (given .angles) i 0) +ℤ z) (sym (slice-at N₂ (secondRounded f l d) i h));
+        ap pos (getD-listed N₂ (λ k. natAbs (secondAdjusted f (given .angles) e k)) i 0 h)
+        ∙ own-magnitude (secondAdjusted f (given .angles) e i) (ok .result-within i h .0)
+        ∙ ap (λ (z : ℤ). pos (getD (given .angles) i 0) +ℤ z) (sym (slice-at N₂ (secondRounded f e) i h));
     rests = λ j h.
-        slice-at M₂ (secondRest f l d) j h
-        ∙ condition-agrees f (secondRounded f l d) (vector (secondValues f given .rounded)) (λ i b. sym (slice-at N₂ (secondRounded f l d) i b)) j h;
+        slice-at M₂ (secondRest f e) j h
+        ∙ condition-agrees f (secondRounded f e) (vector (left .rounded)) (λ i b. sym (slice-at N₂ (secondRounded f e) i b)) j h;
     rests-small = λ j h.
-        subst (λ (z : ℤ). 2 * natAbs z ≤ length (membersOf f (suc j))) (sym (slice-at M₂ (secondRest f l d) j h))
-        (rest-half f l d j h (ok .squares-positive));
+        subst (λ (z : ℤ). 2 * natAbs z ≤ length (membersOf f (suc j))) (sym (slice-at M₂ (secondRest f e) j h))
+        (rest-half f e j h (ok .divisor-positive));
   }
 
--- what an answer of W and S tells
-pub record Worked (given : SecondGiven) (entry : SecondLent) (w s : ℤ) : Type 0 where
+-- a number from 0 up, from its two words
+pub natural-joined : (z : ℤ) → pos 0 ≤ℤ z → joined (pos (natAbs z / 2 ^ 64)) (natAbs z % 2 ^ 64) ≡ z
+unfolding highWord lowWord radix
+natural-joined (pos n) low = joined-words (pos n)
+natural-joined (negsuc n) low = absurd (low .le)
+
+-- what an answer of both misclosures and the words of S or the determinant tells
+pub record Worked (given : SecondGiven) (entry : SecondLent) (w sideW divisor-told : ℤ) : Type 0 where
   pub figure : Figure
   pub named : figureOf (given .code) (given .n) ≡ As figure
   pub passed : secondVerdict given entry ≡ Passed
-  pub w-is : sineMisclosure figure (given .logSines) ≡ w
-  pub s-is : sumOfSquares figure (given .differences) ≡ s
+  pub w-is : sineMisclosure figure (given .entries) ≡ w
+  pub side-w-is : sideMisclosure figure (given .entries) ≡ sideW
+  pub divisor-is : divisor figure (given .entries) ≡ divisor-told
 
-pub worked : (given : SecondGiven) (entry : SecondLent) (w s : ℤ) → secondAnswer given entry ≡ Done w s → Worked given entry w s
+pub worked : (given : SecondGiven) (entry : SecondLent) (w sideW : ℤ) (high low : ℕ) → secondAnswer given entry ≡ Done w sideW high low
+    → Worked given entry w sideW (joined (pos high) low)
 unfolding secondPassAnswer
-worked given entry w s e = go (figureOf (given .code) (given .n)) refl e
+worked given entry w sideW high low e = go (figureOf (given .code) (given .n)) refl e
   where
     by-verdict : (f : Figure) (v : Verdict) → figureOf (given .code) (given .n) ≡ As f → secondVerdict given entry ≡ v
-        → secondAnswerOf v (sineMisclosure f (given .logSines)) (sumOfSquares f (given .differences)) ≡ Done w s → Worked given entry w s
-    by-verdict f Passed named v e = record { figure = f; named = named; passed = v; w-is = cc; s-is = cc }
-    by-verdict f (Failed r) named v e = record { figure = f; named = named; passed = cc; w-is = cc; s-is = cc }
+        → secondAnswerFor f (given .entries) v ≡ Done w sideW high low → Worked given entry w sideW (joined (pos high) low)
+    by-verdict f Passed named v e =
+        let told : ℤ = divisor f (given .entries) in
+        let high-is : natAbs told / 2 ^ 64 ≡ high = cc in
+        let low-is : natAbs told % 2 ^ 64 ≡ low = cc in
+        record {
+          figure = f;
+          named = named;
+          passed = v;
+          w-is = cc;
+          side-w-is = cc;
+          divisor-is = sym (natural-joined told (divisor-natural f (given .entries))) ∙ ap₂ (λ (h l : ℕ). joined (pos h) l) high-is low-is;
+        }
+    by-verdict f (Failed r) named v e = absurd (let z : _≡_ {A = ℕ} 0 1 = cc in omega arith)
 
     go : (m : Named) → figureOf (given .code) (given .n) ≡ m
-        → ofNamed m (Refused Refusal.NoSuchFigure)
-        (λ f. secondAnswerOf (secondVerdict given entry) (sineMisclosure f (given .logSines)) (sumOfSquares f (given .differences))) ≡ Done w s
-        → Worked given entry w s
+        → ofNamed m (Refused Refusal.NoSuchFigure) (λ f. secondAnswerFor f (given .entries) (secondVerdict given entry))
+        ≡ Done w sideW high low
+        → Worked given entry w sideW (joined (pos high) low)
     go Nothing named e = absurd (let z : _≡_ {A = ℕ} 0 1 = cc in omega arith)
     go (As f) named e = by-verdict f (secondVerdict given entry) named refl e
 
+told-so : {given : SecondGiven} {w w′ sideW sideW′ over over′ : ℤ} {lent lent′ : SecondLent}
+    → w ≡ w′ → sideW ≡ sideW′ → over ≡ over′ → lent ≡ lent′
+    → SecondDone given w sideW over lent → SecondDone given w′ sideW′ over′ lent′
+told-so e e′ e″ e‴ done = rw (← e, ← e′, ← e″, ← e‴) done
+
 pub second-pass : SecondPass
 unfolding secondPassVerdict secondPassRows
-second-pass given w s entry exit promise =
-    let is = worked given entry w s (sym (promise .answered)) in
-    let rows = one-judged (given .code) (given .n) (λ f. secondRows f (given .tolerance) (given .angles) (given .logSines) (given .differences) (secondLengthsLent given entry)) (is .named) in
-    let left : exit ≡ secondValues (is .figure) given =
+second-pass given w sideW high low entry exit promise =
+    let is = worked given entry w sideW high low (sym (promise .answered)) in
+    let f : Figure = is .figure in
+    let rows = one-judged (given .code) (given .n)
+    (λ g. secondRows g (given .tolerance) (given .angles) (given .entries) (secondLengthsLent given entry)) (is .named) in
+    let left-is : exit ≡ secondValues f given =
     promise .leaves
-    ∙ ap₂ (λ (m : Named) (v : Verdict). ofNamed m entry (λ f. stored v (secondValues f given) entry)) (is .named) (is .passed) in
-    subst (SecondDone given w s) (sym left)
-    (subst (λ (z : ℤ). SecondDone given z s (secondValues (is .figure) given)) (is .w-is)
-    (subst (λ (z : ℤ). SecondDone given (sineMisclosure (is .figure) (given .logSines)) z (secondValues (is .figure) given)) (is .s-is)
-    (second-values-done (is .figure) given (secondLengthsLent given entry) (is .named) (sym rows ∙ is .passed))))
+    ∙ ap₂ (λ (m : Named) (v : Verdict). ofNamed m entry (λ g. stored v (secondValues g given) entry)) (is .named) (is .passed) in
+    told-so (is .w-is) (is .side-w-is) (is .divisor-is) (sym left-is)
+    (second-values-done f given (secondLengthsLent given entry) (is .named) (sym rows ∙ is .passed))
 
 -- ---- packed sheets
 

@@ -1,12 +1,13 @@
 -- Demand 3 of the passes, of the same for C, and of a sheet worked from its bytes. Assumes nothing.
-use Prim.Native.Nat.{ℕ, _<_}
-use mathlib.Core.List.{List}
+use Prim.Native.Nat.{ℕ}
+use mathlib.Core.List.{List, map}
 use mathlib.Core.Logic.{⊎-elim}
 use mathlib.Core.Path.{_≡_, sym, ap, ap₂, subst, _∙_}
 use native.Mathlib.Omega.{arith}
-use lib.IntN.{ℤ, pos, natAbs}
-use lib.ListN.{length}
+use lib.IntN.{ℤ, pos}
+use lib.ListN.{getD, List·getD-map}
 use Rattle.whole.specs.Sums.{vector}
+use Rattle.wide_words.specs.Words.{joined}
 use Rattle.refusals.specs.declared.Refusal.{Refusal}
 use Rattle.refusals.specs.declared.Verdict.{Verdict}
 use Rattle.refusals.specs.declared.Verdict.the-variants.{Passed}
@@ -15,24 +16,25 @@ use Rattle.refusals.specs.Promise.{stored}
 use Rattle.figures.specs.declared.Figure.{Figure}
 use Rattle.figures.specs.declared.Named.{Named}
 use Rattle.figures.specs.declared.Named.the-variants.{As}
-use Rattle.figures.specs.Figure.{figureOf, ofNamed}
-use Rattle.figures.specs.Numerators.{reducedCoefficient}
+use Rattle.figures.specs.Figure.{SineCondition, description, noSine, ofNamed}
 use Rattle.pass_rules.specs.FirstPass.{firstPassVerdict}
-use Rattle.pass_rules.specs.SecondPass.{sineMisclosure, sumOfSquares, secondRows, secondPassRows, secondPassVerdict}
+use Rattle.pass_rules.specs.SecondPass.{SineEntries, misclosureIn, sineMisclosure, sideMisclosure, divisor, secondRows, secondPassRows, secondPassVerdict}
 use Rattle.pass_rules.proofs.PassRows.{one-judged}
 use Rattle.pass_rules.proofs.Refusals.{first-in-table}
 use Rattle.pass_rules.proofs.SecondAccepted.{accepted}
+use Rattle.pass_rules.proofs.SecondLaws.{divisor-natural}
+use Rattle.pass_rules.proofs.SineSums.{none-misclosure}
 use Rattle.pass_rules.specs.Promises.{firstLengthsLent, firstRowsOf, SecondGiven, secondLengthsLent, secondValues}
-use Rattle.pass_sheet.specs.Worked.{Outcome, First, Second, WorkedSheet, workedOf, secondSheetLengths, differencesIn}
+use Rattle.pass_sheet.specs.Worked.{Outcome, First, Second, WorkedSheet, workedOf, secondSheetLengths, entriesIn}
 use Rattle.pass_sheet.proofs.ShownAs.{FirstShown, SecondShown, RefusedShown, shown-as}
-use Rattle.controller.specs.Answer.{lengthsWith}
-use Rattle.controller.specs.Promises.{sumsLent, sumsOf, sumsRows}
+use Rattle.controller.specs.Promises.{sumsRows, sumsLengths, sumsValues, sineMisclosuresOf}
 use Rattle.controller.proofs.Answers.{answered-done}
 use Rattle.controller.proofs.PlaceBounds.{first-within, sums-in-table, sums-within}
+use Rattle.demands.specs.Demand2.{numeratorsIn}
 use Rattle.demands.specs.Demand3.{LeastSquares, SineCloses, FirstPass, SecondPass, FirstPass-C, SecondPass-C, FirstSheet, SecondSheet}
 use Rattle.demands.proofs.Closing.{are-least-squares, sine-closes}
 use Rattle.demands.proofs.Demand2 as values
-use Rattle.demands.proofs.WorkedValues.{first-numerators, second-reduced, second-numerators, second-squares}
+use Rattle.demands.proofs.WorkedValues.{exact, first-numerators, second-numerators, joined-numerators}
 
 -- a code and an n name one figure
 one-figure : {named : Named} {f g : Figure} → named ≡ As f → named ≡ As g → f ≡ g
@@ -51,52 +53,57 @@ unfolding firstPassVerdict
 first-pass-C given entry exit promise f named =
     let passed : judged (firstRowsOf given entry) ≡ Passed =
     answered-done (firstRowsOf given entry)
-    (first-in-table (given .code) (given .n) (given .limit) (given .angles) (given .fixed) (firstLengthsLent given entry)) (first-within given entry)
-    (sym (promise .answered)) in
+    (first-in-table (given .code) (given .n) (given .limit) (given .angles) (given .fixed) (firstLengthsLent given entry))
+    (first-within given entry) (sym (promise .answered)) in
     first-pass given entry exit (record { answered = sym passed; leaves = promise .leaves }) f named
 
 -- ---- the second pass
 
-pub not-zero : (s : ℤ) → 0 < natAbs s → s ≡ pos 0 → ⊥
-not-zero s positive e = let none : natAbs s ≡ 0 = ap natAbs e in omega arith
-
 -- of the values of any figure's sheet that passes
-module _ (f : Figure) (given : SecondGiven) (lent : List ℕ) (named : figureOf (given .code) (given .n) ≡ As f)
-    (passed : judged (secondRows f (given .tolerance) (given .angles) (given .logSines) (given .differences) lent) ≡ Passed) where
-  values-close : SineCloses f (given .differences) (vector (secondValues f given .numerators)) (sineMisclosure f (given .logSines)) (sumOfSquares f (given .differences))
-  unfolding reducedCoefficient
+module _ (f : Figure) (given : SecondGiven) (lent : List ℕ)
+    (passed : judged (secondRows f (given .tolerance) (given .angles) (given .entries) lent) ≡ Passed) where
+  abbrev e : SineEntries
+  e = given .entries
+
+  values-close : SineCloses f (e .differences) (numeratorsIn (secondValues f given)) (sineMisclosure f e) (sideMisclosure f e) (divisor f e)
   values-close =
-      let done = values.second-values-done f given lent named passed in
-      let ok = accepted f (given .tolerance) (given .angles) (given .logSines) (given .differences) lent passed in
-      let w : ℤ = sineMisclosure f (given .logSines) in
-      let s : ℤ = sumOfSquares f (given .differences) in
-      subst (λ (g : Figure). SineCloses g (given .differences) (vector (secondValues f given .numerators)) w s) (one-figure (done .named) named)
-      (sine-closes (done .figure) (given .differences) (vector (secondValues f given .reduced)) (vector (secondValues f given .numerators)) w s
-      (done .reduced) (done .numerators) (done .sum-of-squares) (not-zero s (ok .squares-positive)))
+      sine-closes f e (numeratorsIn (secondValues f given)) (λ i h. joined-numerators f e i ∙ second-numerators f e i h)
+      (accepted f (given .tolerance) (given .angles) e lent passed .divisor-positive)
 
 pub second-pass : SecondPass
 unfolding secondPassVerdict secondPassRows
-second-pass given w s entry exit promise f named =
-    let is = values.worked given entry w s (sym (promise .answered)) in
+second-pass given w sideW high low entry exit promise f named =
+    let e : SineEntries = given .entries in
+    let is = values.worked given entry w sideW high low (sym (promise .answered)) in
     let same : is .figure ≡ f = one-figure (is .named) named in
-    let rows = one-judged (given .code) (given .n) (λ g. secondRows g (given .tolerance) (given .angles) (given .logSines) (given .differences) (secondLengthsLent given entry)) named in
+    let rows = one-judged (given .code) (given .n)
+    (λ g. secondRows g (given .tolerance) (given .angles) e (secondLengthsLent given entry)) named in
     let left : exit ≡ secondValues f given =
     promise .leaves ∙ ap₂ (λ (m : Named) (v : Verdict). ofNamed m entry (λ g. stored v (secondValues g given) entry)) named (is .passed) in
-    let w-is : sineMisclosure f (given .logSines) ≡ w = ap (λ (g : Figure). sineMisclosure g (given .logSines)) (sym same) ∙ is .w-is in
-    let s-is : sumOfSquares f (given .differences) ≡ s = ap (λ (g : Figure). sumOfSquares g (given .differences)) (sym same) ∙ is .s-is in
-    rw (left, ← w-is, ← s-is) (values-close f given (secondLengthsLent given entry) named (sym rows ∙ is .passed))
+    let w-is : sineMisclosure f e ≡ w = ap (λ (g : Figure). sineMisclosure g e) (sym same) ∙ is .w-is in
+    let side-w-is : sideMisclosure f e ≡ sideW = ap (λ (g : Figure). sideMisclosure g e) (sym same) ∙ is .side-w-is in
+    let divisor-is : divisor f e ≡ joined (pos high) low = ap (λ (g : Figure). divisor g e) (sym same) ∙ is .divisor-is in
+    rw (left, ← w-is, ← side-w-is, ← divisor-is) (values-close f given (secondLengthsLent given entry) (sym rows ∙ is .passed))
+
+-- W of each sine condition by the index; 0 for one that the figure has not
+misclosure-at : (f : Figure) (e : SineEntries) (i : ℕ)
+    → vector (sineMisclosuresOf f e) i ≡ misclosureIn f (getD (description f .sines) i (noSine f)) e
+misclosure-at f e i =
+    let own : SineCondition → ℤ = λ c. misclosureIn f c e in
+    ap (getD (map own (description f .sines)) i) (sym (none-misclosure f e)) ∙ List·getD-map own (description f .sines) i (noSine f)
 
 pub second-pass-C : SecondPass-C
 unfolding secondPassRows
 second-pass-C given entry exit promise f named =
-    let lent : List ℕ = lengthsWith (length (entry .sums)) 2 (secondLengthsLent given (entry .values)) in
+    let e : SineEntries = given .entries in
     let passed : judged (sumsRows given entry) ≡ Passed =
     answered-done (sumsRows given entry) (sums-in-table given entry) (sums-within given entry) (sym (promise .answered)) in
-    let rows = one-judged (given .code) (given .n) (λ g. secondRows g (given .tolerance) (given .angles) (given .logSines) (given .differences) lent) named in
-    let left : exit ≡ sumsLent (sumsOf f given) (secondValues f given) =
-    promise .leaves
-    ∙ ap₂ (λ (m : Named) (v : Verdict). ofNamed m entry (λ g. stored v (sumsLent (sumsOf g given) (secondValues g given)) entry)) named passed in
-    rw left (values-close f given lent named (sym rows ∙ passed))
+    let rows = one-judged (given .code) (given .n)
+    (λ g. secondRows g (given .tolerance) (given .angles) e (sumsLengths given entry)) named in
+    let left : exit ≡ sumsValues f given =
+    promise .leaves ∙ ap₂ (λ (m : Named) (v : Verdict). ofNamed m entry (λ g. stored v (sumsValues g given) entry)) named passed in
+    rw (left, misclosure-at f e 0, misclosure-at f e 1, values.natural-joined (divisor f e) (divisor-natural f e))
+    (values-close f given (sumsLengths given entry) (sym rows ∙ passed))
 
 -- ---- a sheet worked from its bytes
 
@@ -121,15 +128,15 @@ first-sheet sheet worked is f outcome =
     absurd (not-refused (sym (ap (λ (s : WorkedSheet). s .outcome) (shown .is)) ∙ outcome-is))))
     (shown-as sheet))
   where
-    not-second : {g h : Figure} {w s : ℤ} → Second g w s ≡ First h → ⊥
+    not-second : {g h : Figure} {u v s : ℤ} → Second g u v s ≡ First h → ⊥
     not-second e = let z : _≡_ {A = ℕ} 0 1 = cc in omega arith
 
     not-refused : {r : Refusal} {h : Figure} → Outcome.Refused r ≡ First h → ⊥
     not-refused e = let z : _≡_ {A = ℕ} 0 1 = cc in omega arith
 
 pub second-sheet : SecondSheet
-second-sheet sheet worked is f w s outcome =
-    let outcome-is : workedOf sheet .outcome ≡ Second f w s = sym (ap (λ (x : WorkedSheet). x .outcome) is) ∙ outcome in
+second-sheet sheet worked is f w sideW divided outcome =
+    let outcome-is : workedOf sheet .outcome ≡ Second f w sideW divided = sym (ap (λ (x : WorkedSheet). x .outcome) is) ∙ outcome in
     rw is
     (⊎-elim
     (λ (shown : FirstShown (workedOf sheet)).
@@ -140,25 +147,26 @@ second-sheet sheet worked is f w s outcome =
     absurd (not-refused (sym (ap (λ (x : WorkedSheet). x .outcome) (shown .is)) ∙ outcome-is))))
     (shown-as sheet))
   where
-    not-first : {g h : Figure} {u v : ℤ} → First g ≡ Second h u v → ⊥
+    not-first : {g h : Figure} {u v s : ℤ} → First g ≡ Second h u v s → ⊥
     not-first e = let z : _≡_ {A = ℕ} 0 1 = cc in omega arith
 
-    not-refused : {r : Refusal} {h : Figure} {u v : ℤ} → Outcome.Refused r ≡ Second h u v → ⊥
+    not-refused : {r : Refusal} {h : Figure} {u v s : ℤ} → Outcome.Refused r ≡ Second h u v s → ⊥
     not-refused e = let z : _≡_ {A = ℕ} 0 1 = cc in omega arith
 
     closes : (shown : SecondShown sheet (workedOf sheet))
-        → Second (shown .figure) (sineMisclosure (shown .figure) (shown .logSines)) (sumOfSquares (shown .figure) (shown .differences)) ≡ Second f w s
-        → SineCloses f (differencesIn sheet) (vector (workedOf sheet .numerators)) w s
-    closes shown e =
+        → Second (shown .figure) (sineMisclosure (shown .figure) (shown .entries)) (sideMisclosure (shown .figure) (shown .entries))
+        (divisor (shown .figure) (shown .entries)) ≡ Second f w sideW divided
+        → SineCloses f (entriesIn sheet .differences) (vector (workedOf sheet .numerators)) w sideW divided
+    closes shown told =
         let g = shown .figure in
-        let l = shown .logSines in
-        let d = shown .differences in
-        let ok = accepted g (shown .tolerance) (shown .angles) l d (secondSheetLengths g (shown .angles) l d) (shown .passed) in
+        let e = shown .entries in
+        let ok = accepted g (shown .tolerance) (shown .angles) e (secondSheetLengths g (shown .angles) e) (shown .passed) in
         let same-figure : g ≡ f = cc in
-        let w-is : sineMisclosure g l ≡ w = cc in
-        let s-is : sumOfSquares g d ≡ s = cc in
-        let own : SineCloses g d (vector (workedOf sheet .numerators)) (sineMisclosure g l) (sumOfSquares g d) =
-        subst (λ (x : WorkedSheet). SineCloses g d (vector (x .numerators)) (sineMisclosure g l) (sumOfSquares g d)) (sym (shown .is))
-        (sine-closes g d _ _ (sineMisclosure g l) (sumOfSquares g d) (second-reduced g (shown .angles) l d) (second-numerators g (shown .angles) l d)
-        (second-squares g (shown .angles) l d) (not-zero (sumOfSquares g d) (ok .squares-positive))) in
-        rw (shown .held, ← same-figure, ← w-is, ← s-is) own
+        let w-is : sineMisclosure g e ≡ w = cc in
+        let side-w-is : sideMisclosure g e ≡ sideW = cc in
+        let divisor-is : divisor g e ≡ divided = cc in
+        let own : (ℕ → ℤ) → Type 0 = λ x. SineCloses g (e .differences) x (sineMisclosure g e) (sideMisclosure g e) (divisor g e) in
+        let close : own (vector (workedOf sheet .numerators)) =
+        subst (λ (s : WorkedSheet). own (vector (s .numerators))) (sym (shown .is))
+        (sine-closes g e (exact g e) (second-numerators g e) (ok .divisor-positive)) in
+        rw (shown .held, ← same-figure, ← w-is, ← side-w-is, ← divisor-is) close

@@ -1,4 +1,6 @@
--- The demands proved, each statement of specs/ under its name. `ByTheTable`, `Closing` and `Pages` have the laws that they share.
+-- The demands proved, each statement of specs/ under its name. `ByTheTable`, `BothSines`, `Closing`, `Pages` and `WorkedValues` have the
+-- laws that they share.
+mod BothSines
 mod ByTheTable
 mod Closing
 pub mod Demand1

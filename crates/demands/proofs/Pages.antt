@@ -1,20 +1,25 @@
 -- What is read off the lines of a text is what the definitions put on them; so a page says what its values do. Assumes nothing.
 use Prim.Native.Nat.{ℕ, suc, _+_, _<_}
+use mathlib.Core.Bool.{Bool, true, false}
 use mathlib.Core.List.{List, [], _∷_}
 use mathlib.Core.Path.{_≡_, sym, ap, ap₂, _∙_}
 use lib.IntN.{ℤ, pos, negℤ, _+ℤ_, _*ℤ_}
 use lib.ListN.{getD, drop, List·getD-map}
 use lib.Seq.{getD-drop}
 use native.Mathlib.Nat.{zero-add}
+use Rattle.whole.specs.Sums.{squares}
+use Rattle.whole.proofs.Sums.{squares-ext}
 use Rattle.figures.specs.declared.Figure.{Figure}
-use Rattle.figures.specs.Figure.{description, denominator, angleCount, conditionCount}
+use Rattle.figures.specs.Figure.{description, denominator, angleCount, conditionCount, hasSide}
 use Rattle.figures.specs.Numerators.{conditionSum}
 use Rattle.figures.proofs.Theorem.{condition-agrees}
 use Rattle.text.specs.Text.{readNumber}
 use Rattle.text.proofs.Numbers.{read-decimal}
-use Rattle.lines.specs.Lines.{firstFigure, secondFigure, firstText, firstLines, secondText, secondLines}
-use Rattle.lines.proofs.ReadingBack.{lineAt, numbersFrom, first-read, first-angle-read, first-condition-read, second-read, second-angle-read, second-condition-read}
-use Rattle.demands.specs.Printed.{part, numberOn, ofAngle, ofCondition, Names, FirstPage, SecondPage}
+use Rattle.lines.specs.Lines.{wWord, firstFigure, firstText, firstLines, secondText}
+use Rattle.lines.proofs.ReadingBack.{lineAt, numbersFrom, first-read, first-angle-read, first-condition-read, second-figure-read, second-condition-read, one-figure-read, one-angle-read, two-figure-read, two-angle-read}
+use Rattle.demands.specs.Demand2.{determinantOf, exactOfTwo}
+use Rattle.demands.specs.Printed.{part, numberOn, ofAngle, ofCondition, Names, FirstPage, SecondPageFrom, OneSinePage, TwoSinesPage, SinePage}
+use Rattle.demands.proofs.BothSines.{determinant-agrees, exact-agrees}
 
 -- a number of a line whose numbers, from a part on, are known
 number-at : (text : List ℕ) (line from place : ℕ) (values : List ℤ) → numbersFrom from (lineAt text line) ≡ values
@@ -35,7 +40,8 @@ module _ (f : Figure) (given numerators rounded results misclosures rests : ℕ 
   -- the figure's line
   first-figure-part : (place : ℕ) → part firstPageText 0 place ≡ getD (firstFigure f) place []
   unfolding firstLines
-  first-figure-part place = ap (λ (l : List (List (List ℕ))). getD (getD l 0 []) place []) (first-read f given numerators rounded results misclosures rests)
+  first-figure-part place =
+      ap (λ (l : List (List (List ℕ))). getD (getD l 0 []) place []) (first-read f given numerators rounded results misclosures rests)
 
   first-names : Names f firstPageText
   first-names = record {
@@ -47,14 +53,17 @@ module _ (f : Figure) (given numerators rounded results misclosures rests : ℕ 
   denominator-read : numberOn firstPageText 0 4 ≡ pos (denominator f)
   denominator-read = ap readNumber (first-figure-part 4) ∙ read-decimal (pos (denominator f))
 
-  angle-read : (place i : ℕ) → i < angleCount f → ofAngle firstPageText place i ≡ getD (pos (i + 1) ∷ given i ∷ numerators i ∷ rounded i ∷ results i ∷ []) place (pos 0)
+  angle-read : (place i : ℕ) → i < angleCount f
+      → ofAngle firstPageText place i ≡ getD (pos (i + 1) ∷ given i ∷ numerators i ∷ rounded i ∷ results i ∷ []) place (pos 0)
   angle-read place i h =
       ap (numberOn firstPageText (suc i)) (sym (zero-add place))
       ∙ number-at firstPageText (suc i) 0 place _ (first-angle-read f given numerators rounded results misclosures rests i h)
 
-  condition-read : (place j : ℕ) → j < conditionCount f → ofCondition f firstPageText (1 + place) j ≡ getD (pos (j + 1) ∷ misclosures j ∷ rests j ∷ []) place (pos 0)
+  condition-read : (place j : ℕ) → j < conditionCount f
+      → ofCondition f firstPageText (1 + place) j ≡ getD (pos (j + 1) ∷ misclosures j ∷ rests j ∷ []) place (pos 0)
   condition-read place j h =
-      number-at firstPageText (suc (angleCount f + j)) 1 place _ (first-condition-read f given numerators rounded results misclosures rests j h)
+      number-at firstPageText (suc (angleCount f + j)) 1 place _
+      (first-condition-read f given numerators rounded results misclosures rests j h)
 
   pub first-page : ((j : ℕ) → j < conditionCount f → conditionSum f numerators j ≡ negℤ (pos (denominator f)) *ℤ misclosures j)
       → ((j : ℕ) → j < conditionCount f → misclosures j +ℤ conditionSum f rounded j ≡ rests j)
@@ -77,46 +86,89 @@ module _ (f : Figure) (given numerators rounded results misclosures rests : ℕ 
 
 -- ---- kind 2
 
-module _ (f : Figure) (w s : ℤ) (given reduced numerators rounded results rests : ℕ → ℤ) where
-  abbrev secondPageText : List ℕ
-  secondPageText = secondText f w s given reduced numerators rounded results rests
+module _ (f : Figure) (w sideW divisor : ℤ) (given reduced sideReduced numerators rounded results rests : ℕ → ℤ) where
+  abbrev page : List ℕ
+  page = secondText f w sideW divisor given reduced sideReduced numerators rounded results rests
 
-  second-figure-part : (place : ℕ) → part secondPageText 0 place ≡ getD (secondFigure f w s) place []
-  unfolding secondLines
-  second-figure-part place = ap (λ (l : List (List (List ℕ))). getD (getD l 0 []) place []) (second-read f w s given reduced numerators rounded results rests)
+  figure-part : (place : ℕ) {parts : List (List ℕ)} → lineAt page 0 ≡ parts → part page 0 place ≡ getD parts place []
+  figure-part place e = ap (λ (l : List (List ℕ)). getD l place []) e
 
-  second-names : Names f secondPageText
-  second-names = record {
-    word = second-figure-part 0;
-    code = ap readNumber (second-figure-part 1) ∙ read-decimal (pos (description f .code));
-    n = ap readNumber (second-figure-part 2) ∙ read-decimal (pos (description f .n));
-  }
+  second-names : Names f page
+  second-names =
+      let read = second-figure-read f w sideW divisor given reduced sideReduced numerators rounded results rests in
+      record {
+        word = figure-part 0 read;
+        code = ap readNumber (figure-part 1 read) ∙ read-decimal (pos (description f .code));
+        n = ap readNumber (figure-part 2 read) ∙ read-decimal (pos (description f .n));
+      }
 
-  w-is-read : numberOn secondPageText 0 4 ≡ w
-  w-is-read = ap readNumber (second-figure-part 4) ∙ read-decimal w
-
-  second-angle : (place i : ℕ) → i < angleCount f → ofAngle secondPageText place i ≡ getD (pos (i + 1) ∷ given i ∷ reduced i ∷ numerators i ∷ rounded i ∷ results i ∷ []) place (pos 0)
-  second-angle place i h =
-      ap (numberOn secondPageText (suc i)) (sym (zero-add place))
-      ∙ number-at secondPageText (suc i) 0 place _ (second-angle-read f w s given reduced numerators rounded results rests i h)
-
-  second-condition : (place j : ℕ) → j < conditionCount f → ofCondition f secondPageText (1 + place) j ≡ getD (pos (j + 1) ∷ rests j ∷ []) place (pos 0)
+  second-condition : (place j : ℕ) → j < conditionCount f
+      → ofCondition f page (1 + place) j ≡ getD (pos (j + 1) ∷ rests j ∷ []) place (pos 0)
   second-condition place j h =
-      number-at secondPageText (suc (angleCount f + j)) 1 place _ (second-condition-read f w s given reduced numerators rounded results rests j h)
+      number-at page (suc (angleCount f + j)) 1 place _
+      (second-condition-read f w sideW divisor given reduced sideReduced numerators rounded results rests j h)
 
-  pub second-page : ((i : ℕ) → i < angleCount f → numerators i ≡ negℤ (pos 100) *ℤ pos (denominator f) *ℤ reduced i *ℤ w)
-      → ((j : ℕ) → j < conditionCount f → conditionSum f numerators j ≡ pos 0)
-      → ((j : ℕ) → j < conditionCount f → conditionSum f rounded j ≡ rests j)
-      → ((i : ℕ) → i < angleCount f → given i +ℤ rounded i ≡ results i)
-      → SecondPage f secondPageText
-  second-page numerator-is close rest result = record {
-    names = second-names;
-    w-word = second-figure-part 3;
-    s-word = second-figure-part 5;
-    numerators = λ i h.
-        second-angle 3 i h ∙ numerator-is i h
-        ∙ sym (ap₂ (λ (a v : ℤ). negℤ (pos 100) *ℤ pos (denominator f) *ℤ a *ℤ v) (second-angle 2 i h) w-is-read);
-    corrections-close = λ j h. condition-agrees f (ofAngle secondPageText 3) numerators (second-angle 3) j h ∙ close j h;
-    rests = λ j h. condition-agrees f (ofAngle secondPageText 4) rounded (second-angle 4) j h ∙ rest j h ∙ sym (second-condition 1 j h);
-    results = λ i h. ap₂ _+ℤ_ (second-angle 1 i h) (second-angle 4 i h) ∙ result i h ∙ sym (second-angle 5 i h);
-  }
+  -- an angle's numbers, once its line is known
+  angle-at : {values : ℕ → List ℤ} → ((i : ℕ) → i < angleCount f → numbersFrom 0 (lineAt page (suc i)) ≡ values i)
+      → (place i : ℕ) → i < angleCount f → ofAngle page place i ≡ getD (values i) place (pos 0)
+  angle-at read place i h = ap (numberOn page (suc i)) (sym (zero-add place)) ∙ number-at page (suc i) 0 place _ (read i h)
+
+  -- what every page of kind 2 says, from where its numbers stand
+  module _ (close : (j : ℕ) → j < conditionCount f → conditionSum f numerators j ≡ pos 0)
+      (rest : (j : ℕ) → j < conditionCount f → conditionSum f rounded j ≡ rests j)
+      (result : (i : ℕ) → i < angleCount f → given i +ℤ rounded i ≡ results i) where
+    page-from : (place : ℕ) → part page 0 3 ≡ wWord → ((i : ℕ) → i < angleCount f → ofAngle page 1 i ≡ given i)
+        → ((i : ℕ) → i < angleCount f → ofAngle page place i ≡ numerators i)
+        → ((i : ℕ) → i < angleCount f → ofAngle page (1 + place) i ≡ rounded i)
+        → ((i : ℕ) → i < angleCount f → ofAngle page (2 + place) i ≡ results i) → SecondPageFrom f page place
+    page-from place word given-at numerator-at rounded-at result-at = record {
+      names = second-names;
+      w-word = word;
+      corrections-close = λ j h. condition-agrees f (ofAngle page place) numerators numerator-at j h ∙ close j h;
+      rests = λ j h. condition-agrees f (ofAngle page (1 + place)) rounded rounded-at j h ∙ rest j h ∙ sym (second-condition 1 j h);
+      results = λ i h. ap₂ _+ℤ_ (given-at i h) (rounded-at i h) ∙ result i h ∙ sym (result-at i h);
+    }
+
+    pub one-page : hasSide f ≡ false
+        → divisor ≡ squares (angleCount f) reduced
+        → ((i : ℕ) → i < angleCount f → numerators i ≡ negℤ (pos 100) *ℤ pos (denominator f) *ℤ reduced i *ℤ w)
+        → OneSinePage f page
+    one-page one divisor-is numerator-is =
+        let read = one-figure-read f w sideW divisor given reduced sideReduced numerators rounded results rests one in
+        let at = angle-at (one-angle-read f w sideW divisor given reduced sideReduced numerators rounded results rests one) in
+        record {
+          page = page-from 3 (figure-part 3 read) (at 1) (at 3) (at 4) (at 5);
+          s-word = figure-part 5 read;
+          s-is =
+              ap readNumber (figure-part 6 read) ∙ read-decimal divisor ∙ divisor-is
+              ∙ sym (squares-ext (angleCount f) (ofAngle page 2) reduced (at 2));
+          numerators = λ i h.
+              at 3 i h ∙ numerator-is i h
+              ∙ sym (ap₂ (λ (a v : ℤ). negℤ (pos 100) *ℤ pos (denominator f) *ℤ a *ℤ v) (at 2 i h)
+              (ap readNumber (figure-part 4 read) ∙ read-decimal w));
+        }
+
+    pub two-page : hasSide f ≡ true
+        → divisor ≡ determinantOf f reduced sideReduced
+        → ((i : ℕ) → i < angleCount f → numerators i ≡ exactOfTwo f reduced sideReduced w sideW i)
+        → TwoSinesPage f page
+    two-page two divisor-is numerator-is =
+        let read = two-figure-read f w sideW divisor given reduced sideReduced numerators rounded results rests two in
+        let at = angle-at (two-angle-read f w sideW divisor given reduced sideReduced numerators rounded results rests two) in
+        let wa : numberOn page 0 4 ≡ w = ap readNumber (figure-part 4 read) ∙ read-decimal w in
+        let wb : numberOn page 0 5 ≡ sideW = ap readNumber (figure-part 5 read) ∙ read-decimal sideW in
+        record {
+          page = page-from 4 (figure-part 3 read) (at 1) (at 4) (at 5) (at 6);
+          determinant-word = figure-part 6 read;
+          determinant-is =
+              ap readNumber (figure-part 7 read) ∙ read-decimal divisor ∙ divisor-is
+              ∙ sym (determinant-agrees f (ofAngle page 2) (ofAngle page 3) reduced sideReduced (at 2) (at 3));
+          numerators = λ i h.
+              at 4 i h ∙ numerator-is i h
+              ∙ sym (exact-agrees f (ofAngle page 2) (ofAngle page 3) reduced sideReduced (at 2) (at 3) wa wb i h);
+        }
+
+-- the figure's line names the figure, on either page
+pub names-of : (side : Bool) (f : Figure) (text : List ℕ) → SinePage side f text → Names f text
+names-of false f text shown = shown .page .names
+names-of true f text shown = shown .page .names

@@ -1,14 +1,15 @@
 -- What is printed for any bytes is a page that says so, or the refusal of the sheet's order. Assumes nothing.
-use Prim.Native.Nat.{ℕ}
+use Prim.Native.Nat.{ℕ, _<_}
 use mathlib.Core.Bool.{Bool, true, false}
 use mathlib.Core.List.{List, [], _∷_}
-use mathlib.Core.Logic.{_↔_, _⊎_, inl, inr, ⊎-elim}
+use mathlib.Core.Logic.{_↔_, inl, inr, ⊎-elim}
 use mathlib.Core.Path.{_≡_, refl, sym, ap, ap₂, subst, _∙_}
 use native.Mathlib.Omega.{arith}
-use lib.IntN.{ℤ, pos, natAbs}
+use lib.IntN.{ℤ, pos, natAbs, _+ℤ_}
 use lib.ListN.{length, getD, take, drop}
 use lib.Seq.{take-at}
 use Rattle.whole.specs.Lists.{every}
+use Rattle.whole.specs.Sums.{vector, naturals}
 use Rattle.refusals.specs.declared.Verdict.{Verdict}
 use Rattle.refusals.specs.declared.Verdict.the-variants.{Passed}
 use Rattle.refusals.specs.Numbers.{numberOf, placeOf, Told, told, refusalTold, verdictTold}
@@ -20,10 +21,13 @@ use Rattle.text.proofs.Lines.{read-lines}
 use Rattle.text.proofs.Numbers.{decimal-words, read-decimal}
 use Rattle.text.proofs.Tests.{and-both}
 use Rattle.lines.specs.Lines.{figureWord, refusedWord, refusedText, refusedLines}
-use Rattle.pass_rules.specs.SecondPass.{sineMisclosure, sumOfSquares}
+use Rattle.figures.specs.declared.Figure.{Figure}
+use Rattle.figures.specs.Figure.{angleCount, conditionCount, hasSide}
+use Rattle.figures.specs.Numerators.{conditionSum}
+use Rattle.pass_rules.specs.SecondPass.{SineEntries, secondRoundedOf, adjustedOf}
 use Rattle.pass_rules.proofs.FirstAccepted as First
-use Rattle.pass_rules.proofs.SecondAccepted.{accepted}
-use Rattle.pass_sheet.specs.Worked.{WorkedSheet, firstSheetLengths, workedOf, secondSheetLengths, outcomeTold, sheetRows}
+use Rattle.pass_rules.proofs.SecondAccepted.{Accepted, accepted}
+use Rattle.pass_sheet.specs.Worked.{WorkedSheet, firstSheetLengths, workedOf, secondShown, secondSheetLengths, outcomeTold, sheetRows}
 use Rattle.pass_sheet.proofs.Refusals.{sheet-rows-known, worked-told}
 use Rattle.pass_sheet.proofs.ShownAs.{FirstShown, SecondShown, RefusedShown, shown-as}
 use Rattle.report.specs.declared.reporting.Reported.the-variants.{Written}
@@ -32,11 +36,10 @@ use Rattle.report.specs.Report.{reportText, hasRoom, reportedOf, afterReport}
 use Rattle.controller.specs.Promises.{TextLent, textLent, textLaid, reportRows}
 use Rattle.controller.proofs.Answers.{answered-done}
 use Rattle.controller.proofs.PlaceBounds.{report-within}
-use Rattle.demands.specs.Printed.{part, numberOn, FirstPage, SecondPage, refusedLine, Printed, Report, Report-C}
+use Rattle.demands.specs.Printed.{part, numberOn, FirstPage, SinePage, SecondPage, refusedLine, Printed, Report, Report-C}
 use Rattle.demands.proofs.Closing.{are-least-squares, sine-closes}
-use Rattle.demands.proofs.Demand3.{not-zero}
-use Rattle.demands.proofs.Pages.{first-page, second-page}
-use Rattle.demands.proofs.WorkedValues.{first-numerators, first-rests, first-results, second-reduced, second-numerators, second-squares, second-rests, second-results}
+use Rattle.demands.proofs.Pages.{first-page, one-page, two-page, names-of}
+use Rattle.demands.proofs.WorkedValues.{first-numerators, first-rests, first-results, exact, second-numerators, one-squares, one-numerators, two-determinant, two-numerators, second-rests, second-results}
 
 -- ---- a refusal's line
 
@@ -83,21 +86,37 @@ module _ (sheet : List ℕ) where
       (first-page f _ _ _ _ _ _ (are-least-squares f _ _ (first-numerators f a x) .cancel) (first-rests f a x)
       (λ i h. first-results f a x i h (ok .result-within i h .0)))
 
-  second-printed : (shown : SecondShown sheet (workedOf sheet)) → SecondPage (shown .figure) (reportText sheet)
-  unfolding textOf
-  second-printed shown =
-      let f = shown .figure in
-      let a = shown .angles in
-      let l = shown .logSines in
-      let d = shown .differences in
-      let ok = accepted f (shown .tolerance) a l d (secondSheetLengths f a l d) (shown .passed) in
-      let close = sine-closes f d _ _ (sineMisclosure f l) (sumOfSquares f d) (second-reduced f a l d) (second-numerators f a l d) (second-squares f a l d)
-      (not-zero (sumOfSquares f d) (ok .squares-positive)) in
-      subst (λ (s : WorkedSheet). SecondPage f (textOf s)) (sym (shown .is))
-      (second-page f _ _ _ _ _ _ _ _ (second-numerators f a l d) (close .linear) (second-rests f a l d)
-      (λ i h. second-results f a l d i h (ok .result-within i h .0)))
+  module _ (shown : SecondShown sheet (workedOf sheet)) where
+    abbrev f : Figure
+    f = shown .figure
 
-  refused-printed : (shown : RefusedShown (workedOf sheet)) → reportText sheet ≡ refusedLine (numberOf (shown .refusal)) (placeOf (shown .refusal))
+    abbrev a : List ℕ
+    a = shown .angles
+
+    abbrev e : SineEntries
+    e = shown .entries
+
+    ok : Accepted f (shown .tolerance) a e (secondSheetLengths f a e)
+    ok = accepted f (shown .tolerance) a e (secondSheetLengths f a e) (shown .passed)
+
+    close : (j : ℕ) → j < conditionCount f → conditionSum f (exact f e) j ≡ pos 0
+    close = sine-closes f e (exact f e) (second-numerators f e) (ok .divisor-positive) .linear
+
+    result : (i : ℕ) → i < angleCount f → naturals a i +ℤ vector (secondRoundedOf f e) i ≡ naturals (adjustedOf f a e) i
+    result i h = second-results f e a i h (ok .result-within i h .0)
+
+    page-of : (side : Bool) → hasSide f ≡ side → SinePage side f (textOf (secondShown f a e))
+    unfolding textOf
+    page-of false one =
+        one-page f _ _ _ _ _ _ _ _ _ _ close (second-rests f e) result one (one-squares f e one) (one-numerators f e one)
+    page-of true both =
+        two-page f _ _ _ _ _ _ _ _ _ _ close (second-rests f e) result both (two-determinant f e both) (two-numerators f e both)
+
+    second-printed : SecondPage f (reportText sheet)
+    second-printed = subst (λ (s : WorkedSheet). SecondPage f (textOf s)) (sym (shown .is)) (page-of (hasSide f) refl)
+
+  refused-printed : (shown : RefusedShown (workedOf sheet))
+      → reportText sheet ≡ refusedLine (numberOf (shown .refusal)) (placeOf (shown .refusal))
   unfolding textOf refusedText refusedLines
   refused-printed shown = ap textOf (shown .is)
 
@@ -141,9 +160,10 @@ module _ (sheet : List ℕ) where
       (⊎-elim
       (λ (shown : SecondShown sheet (workedOf sheet)).
       let page = second-printed shown in
+      let names = names-of (hasSide (shown .figure)) (shown .figure) (reportText sheet) page in
       record {
         page = inr (inl (shown .figure, page));
-        refused = λ k p some. figure-page k p some (page .names .word) (outcome-told (shown .is));
+        refused = λ k p some. figure-page k p some (names .word) (outcome-told (shown .is));
       })
       (λ (shown : RefusedShown (workedOf sheet)).
       record {
@@ -163,15 +183,19 @@ written-text false t lent count e = absurd (let z : _≡_ {A = ℕ} 0 1 = cc in 
 pub report : Report
 report sheet entry exit count promise =
     subst (Printed sheet)
-    (sym (ap (take count) (promise .leaves) ∙ written-text (hasRoom (reportText sheet) entry) (reportText sheet) entry count (promise .answered)))
+    (sym (ap (take count) (promise .leaves)
+    ∙ written-text (hasRoom (reportText sheet) entry) (reportText sheet) entry count (promise .answered)))
     (printed sheet)
 
 pub report-C : Report-C
 report-C sheet entry exit promise count one =
-    let passed : judged (reportRows sheet entry) ≡ Passed = answered-done (reportRows sheet entry) tt (report-within sheet entry) (sym (promise .answered)) in
+    let passed : judged (reportRows sheet entry) ≡ Passed =
+    answered-done (reportRows sheet entry) tt (report-within sheet entry) (sym (promise .answered)) in
     let new : TextLent = textLent (textLaid sheet (entry .text)) (length (reportText sheet) ∷ []) in
     let left : exit ≡ new = promise .leaves ∙ ap (λ (v : Verdict). stored v new entry) passed in
-    let counted : length (reportText sheet) ≡ count = ap (λ (l : List ℕ). getD l 0 0) (sym (ap (λ (lent : TextLent). lent .written) left) ∙ one) in
+    let counted : length (reportText sheet) ≡ count =
+    ap (λ (l : List ℕ). getD l 0 0) (sym (ap (λ (lent : TextLent). lent .written) left) ∙ one) in
     subst (Printed sheet)
-    (sym (ap (λ (lent : TextLent). take count (lent .text)) left ∙ take-at (reportText sheet) (drop (length (reportText sheet)) (entry .text)) count counted))
+    (sym (ap (λ (lent : TextLent). take count (lent .text)) left
+    ∙ take-at (reportText sheet) (drop (length (reportText sheet)) (entry .text)) count counted))
     (printed sheet)

@@ -1,23 +1,28 @@
 -- The lists of a worked sheet, by the index: each is what the definitions give, and so are the numbers among each other. Assumes nothing.
 use Prim.Native.Nat.{ℕ, _<_}
+use mathlib.Core.Bool.{Bool, true, false, cond}
 use mathlib.Core.List.{List}
 use mathlib.Core.Path.{_≡_, refl, sym, ap, ap₂, _∙_}
 use lib.IntN.{ℤ, pos, negsuc, negℤ, natAbs, _+ℤ_, _*ℤ_}
+use lib.ListN.{getD}
 use lib.Signed.{_≤ℤ_}
 use Rattle.whole.specs.Lists.{listed}
 use Rattle.whole.specs.Sums.{squares, vector, naturals}
 use Rattle.whole.proofs.Lists.{getD-listed}
+use Rattle.wide_words.specs.Words.{joined}
 use Rattle.refusals.specs.Ranges.{leastAngle}
 use Rattle.figures.specs.declared.Figure.{Figure}
-use Rattle.figures.specs.Figure.{denominator, angleCount, conditionCount}
-use Rattle.figures.specs.Numerators.{conditionSum, numerator, reducedCoefficient}
+use Rattle.figures.specs.Figure.{denominator, angleCount, conditionCount, hasSide}
+use Rattle.figures.specs.Numerators.{conditionSum, numerator}
 use Rattle.figures.proofs.Theorem.{condition-agrees, numerator-agrees}
 use Rattle.whole.proofs.Sums.{squares-ext}
 use Rattle.pass_rules.specs.Pass.{given}
 use Rattle.pass_rules.specs.FirstPass.{misclosure, firstNumerator, firstRounded, corrected, firstRest, misclosuresOf, numeratorsOf, roundedOf, correctedOf, restsOf}
-use Rattle.pass_rules.specs.SecondPass.{signedDifference, secondReduced, sineMisclosure, sumOfSquares, secondNumerator, secondRounded, secondAdjusted, secondRest, reducedOf, secondNumeratorsOf, secondRoundedOf, adjustedOf, secondRestsOf}
-use Rattle.pass_rules.proofs.SecondLaws.{squares-sum}
-use Rattle.demands.specs.Demand2.{signed}
+use Rattle.pass_rules.specs.SecondPass.{SineEntries, secondReduced, sideReduced, sineMisclosure, sideMisclosure, sumOfSquares, sideSquares, sharedProducts, divisor, secondNumerator, secondRounded, secondAdjusted, secondRest, reducedOf, sideReducedOf, highNumeratorsOf, lowNumeratorsOf, secondRoundedOf, adjustedOf, secondRestsOf}
+use Rattle.pass_rules.proofs.SecondLaws.{numerator-of-one, divisor-of-one, numerator-of-two, divisor-of-both}
+use Rattle.lines.proofs.WideNumbers.{wide-listed}
+use Rattle.demands.specs.Demand2.{determinantOf, exactOfTwo}
+use Rattle.demands.proofs.BothSines.{determinant-agrees, exact-agrees}
 
 module _ (f : Figure) where
   by-angle : (g : ℕ → ℤ) (i : ℕ) → i < angleCount f → vector (listed (angleCount f) g) i ≡ g i
@@ -42,7 +47,8 @@ module _ (f : Figure) where
     unfolding firstNumerator
     first-numerators i h =
         by-angle (firstNumerator f angles fixed) i h
-        ∙ numerator-agrees f (misclosure f angles fixed) (vector (misclosuresOf f angles fixed)) (λ j b. sym (by-condition (misclosure f angles fixed) j b)) i
+        ∙ numerator-agrees f (misclosure f angles fixed) (vector (misclosuresOf f angles fixed))
+        (λ j b. sym (by-condition (misclosure f angles fixed) j b)) i
 
     pub first-rests : (j : ℕ) → j < conditionCount f
         → vector (misclosuresOf f angles fixed) j +ℤ conditionSum f (vector (roundedOf f angles fixed)) j
@@ -61,34 +67,63 @@ module _ (f : Figure) where
 
   -- ---- the second pass
 
-  module _ (angles logSines : List ℕ) (differences : List ℤ) where
-    pub second-reduced : (i : ℕ) → i < angleCount f
-        → vector (reducedOf f differences) i ≡ reducedCoefficient f (signed f differences) i
-    unfolding secondReduced signedDifference
-    second-reduced i h = by-angle (secondReduced f differences) i h
+  module _ (e : SineEntries) where
+    abbrev pub A : ℕ → ℤ
+    A = vector (reducedOf f e)
 
-    pub second-numerators : (i : ℕ) → i < angleCount f
-        → vector (secondNumeratorsOf f logSines differences) i
-        ≡ negℤ (pos 100) *ℤ pos (denominator f) *ℤ vector (reducedOf f differences) i *ℤ sineMisclosure f logSines
-    unfolding secondNumerator
-    second-numerators i h =
-        by-angle (secondNumerator f logSines differences) i h
-        ∙ ap (λ (z : ℤ). negℤ (pos 100) *ℤ pos (denominator f) *ℤ z *ℤ sineMisclosure f logSines) (sym (by-angle (secondReduced f differences) i h))
+    abbrev pub B : ℕ → ℤ
+    B = vector (sideReducedOf f e)
 
-    pub second-squares : sumOfSquares f differences ≡ squares (angleCount f) (vector (reducedOf f differences))
-    second-squares =
-        squares-sum f differences
-        ∙ squares-ext (angleCount f) (secondReduced f differences) (vector (reducedOf f differences)) (λ i h. sym (by-angle (secondReduced f differences) i h))
+    abbrev pub exact : ℕ → ℤ
+    exact = vector (listed (angleCount f) (secondNumerator f e))
+
+    pub second-numerators : (i : ℕ) → i < angleCount f → exact i ≡ secondNumerator f e i
+    second-numerators = by-angle (secondNumerator f e)
+
+    -- the words of the slices join to them
+    pub joined-numerators : (i : ℕ) → joined (vector (highNumeratorsOf f e) i) (getD (lowNumeratorsOf f e) i 0) ≡ exact i
+    joined-numerators i = ap (λ (g : ℕ → ℤ). g i) (wide-listed (angleCount f) (secondNumerator f e))
+
+    pub reduced-at : (i : ℕ) → i < angleCount f → A i ≡ secondReduced f e i
+    reduced-at = by-angle (secondReduced f e)
+
+    module _ (one : hasSide f ≡ false) where
+      pub one-squares : divisor f e ≡ squares (angleCount f) A
+      unfolding sumOfSquares
+      one-squares = divisor-of-one f e one ∙ sym (squares-ext (angleCount f) A (secondReduced f e) reduced-at)
+
+      pub one-numerators : (i : ℕ) → i < angleCount f → exact i ≡ negℤ (pos 100) *ℤ pos (denominator f) *ℤ A i *ℤ sineMisclosure f e
+      one-numerators i h =
+          second-numerators i h
+          ∙ numerator-of-one f e one i
+          ∙ ap (λ (z : ℤ). negℤ (pos 100) *ℤ pos (denominator f) *ℤ z *ℤ sineMisclosure f e) (sym (reduced-at i h))
+
+    module _ (both : hasSide f ≡ true) where
+      pub side-reduced-at : (i : ℕ) → i < angleCount f → B i ≡ sideReduced f e i
+      side-reduced-at i h =
+          ap (λ (b : Bool). vector (listed (cond b (angleCount f) 0) (sideReduced f e)) i) both ∙ by-angle (sideReduced f e) i h
+
+      pub two-determinant : divisor f e ≡ determinantOf f A B
+      unfolding sumOfSquares sideSquares sharedProducts
+      two-determinant =
+          divisor-of-both f e both ∙ sym (determinant-agrees f A B (secondReduced f e) (sideReduced f e) reduced-at side-reduced-at)
+
+      pub two-numerators : (i : ℕ) → i < angleCount f → exact i ≡ exactOfTwo f A B (sineMisclosure f e) (sideMisclosure f e) i
+      unfolding sumOfSquares sideSquares sharedProducts
+      two-numerators i h =
+          second-numerators i h
+          ∙ numerator-of-two f e both i
+          ∙ sym (exact-agrees f A B (secondReduced f e) (sideReduced f e) reduced-at side-reduced-at refl refl i h)
 
     pub second-rests : (j : ℕ) → j < conditionCount f
-        → conditionSum f (vector (secondRoundedOf f logSines differences)) j ≡ vector (secondRestsOf f logSines differences) j
+        → conditionSum f (vector (secondRoundedOf f e)) j ≡ vector (secondRestsOf f e) j
     unfolding secondRest
     second-rests j h =
-        condition-agrees f (vector (secondRoundedOf f logSines differences)) (secondRounded f logSines differences) (by-angle (secondRounded f logSines differences)) j h
-        ∙ sym (by-condition (secondRest f logSines differences) j h)
+        condition-agrees f (vector (secondRoundedOf f e)) (secondRounded f e) (by-angle (secondRounded f e)) j h
+        ∙ sym (by-condition (secondRest f e) j h)
 
-    pub second-results : (i : ℕ) → i < angleCount f → pos leastAngle ≤ℤ secondAdjusted f angles logSines differences i
-        → naturals angles i +ℤ vector (secondRoundedOf f logSines differences) i ≡ naturals (adjustedOf f angles logSines differences) i
+    pub second-results : (angles : List ℕ) (i : ℕ) → i < angleCount f → pos leastAngle ≤ℤ secondAdjusted f angles e i
+        → naturals angles i +ℤ vector (secondRoundedOf f e) i ≡ naturals (adjustedOf f angles e) i
     unfolding secondAdjusted
-    second-results i h least =
-        ap (λ (z : ℤ). given angles i +ℤ z) (by-angle (secondRounded f logSines differences) i h) ∙ sym (result (secondAdjusted f angles logSines differences) i h least)
+    second-results angles i h least =
+        ap (λ (z : ℤ). given angles i +ℤ z) (by-angle (secondRounded f e) i h) ∙ sym (result (secondAdjusted f angles e) i h least)

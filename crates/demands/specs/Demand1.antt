@@ -1,9 +1,10 @@
--- Demand 1. "Any sheet, any numbers, any lengths: the module ends with an answer or with a refusal number and place fixed by document 01. A refusal is given
--- only in its stated case, and changes no lent buffer. No caller is trusted to have looked first."
+-- Demand 1. "Any sheet, any numbers, any lengths: the module ends with an answer or with a refusal number and place fixed by document 01.
+-- A refusal is given only in its stated case, and changes no lent buffer. No caller is trusted to have looked first."
 --
--- Said of every public operation, for whatever is given and lent, of every answer and every exit that its promise allows, and of nothing else. The order of
--- an operation is one list of rows; `Answers`, `NoneHolds` and `Stands` say what a list of rows answers (refusals/specs/Order.antt), and each row stands once
--- in refusals/specs/Table.antt. That every call ends is what the checker proves of every function.
+-- Said of every public operation, for whatever is given and lent, of every answer and every exit that its promise allows, and of nothing
+-- else. The order of an operation is one list of rows; `Answers`, `NoneHolds` and `Stands` say what a list of rows answers
+-- (refusals/specs/Order.antt), and each row stands once in refusals/specs/Table.antt. That every call ends is what the checker proves of
+-- every function.
 use Prim.Native.Nat.{ℕ}
 use mathlib.Core.List.{List}
 use mathlib.Core.Logic.{_↔_, _⊎_}

@@ -1,25 +1,29 @@
--- Demand 3. "Take any accepted first-pass sheet, and any corrections whatever, as whole numbers over one common denominator, that cancel every listed linear
--- misclosure: the sum of their squares is never below that of our unrounded first corrections, and equals it only if they are the same corrections. Where a
--- second pass is accepted, its unrounded corrections change no linear condition and cancel the linearised sine misclosure exactly."
+-- Demand 3. "Take any accepted first-pass sheet, and any corrections whatever, as whole numbers over one common denominator, that cancel
+-- every listed linear misclosure: the sum of their squares is never below that of our unrounded first corrections, and equals it only if
+-- they are the same corrections. Where a second pass is accepted, its unrounded corrections change no linear condition and cancel the
+-- linearised sine misclosure exactly." Document 02, M-100, has for its figure "both sine misclosures".
 --
--- Said of the misclosures and numerators that stand in the lent slices. Unrounded corrections are numerator / D in the first pass, numerator / S in the
--- second; in whole numbers, both sides are multiplied by the denominators.
+-- Said of the misclosures and numerators that stand in the lent slices. Unrounded corrections are numerator / D in the first pass,
+-- numerator / S or numerator / determinant in the second; in whole numbers, both sides are multiplied by the denominators.
 use Prim.Native.Nat.{ℕ, _<_}
+use mathlib.Core.Bool.{true}
 use mathlib.Core.List.{List}
 use mathlib.Core.Path.{_≡_}
 use lib.IntN.{ℤ, pos, negℤ, _*ℤ_}
-use lib.Signed.{_≤ℤ_}
+use lib.ListN.{getD}
+use lib.Signed.{_≤ℤ_, _<ℤ_}
 use Rattle.whole.specs.Sums.{dot, squares, vector}
+use Rattle.wide_words.specs.Words.{joined}
 use Rattle.refusals.specs.declared.Verdict.the-variants.{Passed}
 use Rattle.figures.specs.declared.Figure.{Figure}
 use Rattle.figures.specs.declared.Named.the-variants.{As}
-use Rattle.figures.specs.Figure.{denominator, angleCount, conditionCount, figureOf}
+use Rattle.figures.specs.Figure.{denominator, angleCount, conditionCount, pole, side, hasSide, figureOf}
 use Rattle.figures.specs.Numerators.{conditionSum}
 use Rattle.pass_rules.specs.declared.second.SecondAnswer.the-variants.{Done}
 use Rattle.pass_rules.specs.Promises.{FirstGiven, FirstLent, FirstPromise, SecondGiven, SecondLent, SecondPromise}
-use Rattle.pass_sheet.specs.Worked.{First, Second, WorkedSheet, workedOf, differencesIn}
+use Rattle.pass_sheet.specs.Worked.{First, Second, WorkedSheet, workedOf, entriesIn}
 use Rattle.controller.specs.Promises.{FirstPassPromise, SumsLent, SecondPassPromise}
-use Rattle.demands.specs.Demand2.{signed}
+use Rattle.demands.specs.Demand2.{signed, numeratorsIn}
 
 -- corrections x / q cancel every listed misclosure
 abbrev pub Cancel : Figure → (q : ℕ) → (x misclosures : ℕ → ℤ) → Type 0
@@ -36,14 +40,18 @@ pub record LeastSquares (f : Figure) (misclosures numerators : ℕ → ℤ) : Ty
   -- no corrections x / q that do have a smaller sum of squares
   pub never-below : (q : ℕ) → 0 < q → (x : ℕ → ℤ) → Cancel f q x misclosures → squaresOver f q numerators ≤ℤ squaresOver f (denominator f) x
   -- and only the same corrections have the same: x / q = numerator / D
-  pub only-the-same : (q : ℕ) → 0 < q → (x : ℕ → ℤ) → Cancel f q x misclosures → squaresOver f q numerators ≡ squaresOver f (denominator f) x
+  pub only-the-same : (q : ℕ) → 0 < q → (x : ℕ → ℤ) → Cancel f q x misclosures
+      → squaresOver f q numerators ≡ squaresOver f (denominator f) x
       → (i : ℕ) → i < angleCount f → pos (denominator f) *ℤ x i ≡ pos q *ℤ numerators i
 
--- numerators over S change no linear condition, and cancel the sine misclosure W: "the sum of d times the exact second correction (tenths) is −100·W"
-pub record SineCloses (f : Figure) (differences : List ℤ) (numerators : ℕ → ℤ) (w s : ℤ) : Type 0 where
-  pub not-zero : s ≡ pos 0 → ⊥
+-- numerators over S or the determinant change no linear condition, and cancel each sine misclosure
+pub record SineCloses (f : Figure) (differences : List ℤ) (numerators : ℕ → ℤ) (w sideW divisor : ℤ) : Type 0 where
+  pub divisor-positive : pos 0 <ℤ divisor
   pub linear : (j : ℕ) → j < conditionCount f → conditionSum f numerators j ≡ pos 0
-  pub sine : dot (angleCount f) (signed f differences) numerators ≡ negℤ (pos 100) *ℤ w *ℤ s
+  -- "the sum of d times the exact second correction (tenths) is −100·W"
+  pub sine : dot (angleCount f) (signed (pole f) differences) numerators ≡ negℤ (pos 100) *ℤ w *ℤ divisor
+  -- "both sine misclosures", where there are two
+  pub side-sine : hasSide f ≡ true → dot (angleCount f) (signed (side f) differences) numerators ≡ negℤ (pos 100) *ℤ sideW *ℤ divisor
 
 -- ---- the passes
 
@@ -55,11 +63,11 @@ FirstPass =
 
 abbrev pub SecondPass : Type 0
 SecondPass =
-    (given : SecondGiven) (w s : ℤ) (entry exit : SecondLent) → SecondPromise given entry (Done w s) exit
+    (given : SecondGiven) (w sideW : ℤ) (high low : ℕ) (entry exit : SecondLent) → SecondPromise given entry (Done w sideW high low) exit
     → (f : Figure) → figureOf (given .code) (given .n) ≡ As f
-    → SineCloses f (given .differences) (vector (exit .numerators)) w s
+    → SineCloses f (given .entries .differences) (numeratorsIn exit) w sideW (joined (pos high) low)
 
--- ---- the same for C: the answer is 0, and W and S stand in `sums`
+-- ---- the same for C: the answer is 0, W or both stand in `misclosures`, and the two words of S or the determinant in `divisor`
 
 abbrev pub FirstPass-C : Type 0
 FirstPass-C =
@@ -71,7 +79,8 @@ abbrev pub SecondPass-C : Type 0
 SecondPass-C =
     (given : SecondGiven) (entry exit : SumsLent) → SecondPassPromise given entry 0 exit
     → (f : Figure) → figureOf (given .code) (given .n) ≡ As f
-    → SineCloses f (given .differences) (vector (exit .values .numerators)) (vector (exit .sums) 0) (vector (exit .sums) 1)
+    → SineCloses f (given .entries .differences) (numeratorsIn (exit .values)) (vector (exit .misclosures) 0) (vector (exit .misclosures) 1)
+    (joined (pos (getD (exit .divisor) 0 0)) (getD (exit .divisor) 1 0))
 
 -- ---- a sheet worked from its bytes
 
@@ -82,5 +91,6 @@ FirstSheet =
 
 abbrev pub SecondSheet : Type 0
 SecondSheet =
-    (sheet : List ℕ) (worked : WorkedSheet) → worked ≡ workedOf sheet → (f : Figure) (w s : ℤ) → worked .outcome ≡ Second f w s
-    → SineCloses f (differencesIn sheet) (vector (worked .numerators)) w s
+    (sheet : List ℕ) (worked : WorkedSheet) → worked ≡ workedOf sheet
+    → (f : Figure) (w sideW divisor : ℤ) → worked .outcome ≡ Second f w sideW divisor
+    → SineCloses f (entriesIn sheet .differences) (vector (worked .numerators)) w sideW divisor

@@ -1,25 +1,29 @@
--- What is printed. The complaint that began this work: a controller printed corrections that did not cancel the misclosures above them. Here the numbers are
--- read off the lines of the text of any bytes, as a person reads them, and nothing else is known of them.
+-- What is printed. The complaint that began this work: a controller printed corrections that did not cancel the misclosures above them.
+-- Here the numbers are read off the lines of the text of any bytes, as a person reads them, and nothing else is known of them.
 --
 -- A line's parts are counted from 0: of kind 1, `figure 1 0 denominator 8`; `1 1620004 -12 -2 1620002`; `condition 1 4 -2`. Of kind 2,
--- `figure 1 0 W 100 S 24315176`; `1 1620000 2049 -163920000 -7 1619993`; `condition 1 0`. The line of angle i, counted from 0, is line 1 + i, that of condition
--- j follows the angles' lines.
+-- `figure 1 0 W 100 S 24315176`; `1 1620000 2049 -163920000 -7 1619993`; `condition 1 0`; with two sine conditions, M-100,
+-- `figure 2 4 W 5 -3 determinant 7`, and on an angle's line B stands after A. The line of angle i, counted from 0, is line 1 + i, that of
+-- condition j follows the angles' lines.
 use Prim.Native.Nat.{ℕ, suc, _+_, _<_}
+use mathlib.Core.Bool.{Bool, true, false}
 use mathlib.Core.List.{List, [], _∷_}
 use mathlib.Core.Logic.{_↔_, _⊎_}
 use mathlib.Core.Path.{_≡_}
 use lib.IntN.{ℤ, pos, negℤ, _+ℤ_, _*ℤ_}
 use lib.ListN.{getD, take}
+use Rattle.whole.specs.Sums.{squares}
 use Rattle.refusals.specs.Order.{Answers}
 use Rattle.figures.specs.declared.Figure.{Figure}
-use Rattle.figures.specs.Figure.{description, denominator, angleCount, conditionCount}
+use Rattle.figures.specs.Figure.{description, denominator, angleCount, conditionCount, hasSide}
 use Rattle.figures.specs.Numerators.{conditionSum}
 use Rattle.text.specs.Text.{decimal, lines, readNumber, readLines}
-use Rattle.lines.specs.Lines.{figureWord, denominatorWord, wWord, sWord, refusedWord}
+use Rattle.lines.specs.Lines.{figureWord, denominatorWord, wWord, sWord, determinantWord, refusedWord}
 use Rattle.pass_sheet.specs.Worked.{sheetRows}
 use Rattle.report.specs.declared.reporting.Reported.the-variants.{Written}
 use Rattle.report.specs.Report.{ReportedPromise}
 use Rattle.controller.specs.Promises.{TextLent, ReportPromise}
+use Rattle.demands.specs.Demand2.{determinantOf, exactOfTwo}
 
 -- a part of a line of a text, and the number that it is
 abbrev pub part : (text : List ℕ) → (line place : ℕ) → List ℕ
@@ -54,20 +58,44 @@ pub record FirstPage (f : Figure) (text : List ℕ) : Type 0 where
   -- the result is the given angle plus the rounded correction
   pub results : (i : ℕ) → i < angleCount f → ofAngle text 1 i +ℤ ofAngle text 3 i ≡ ofAngle text 4 i
 
--- a text of kind 2
-pub record SecondPage (f : Figure) (text : List ℕ) : Type 0 where
+-- a text of kind 2: what every one says, whose numerators stand in a place of the angles' lines, the rounded corrections after them and
+-- then the results
+pub record SecondPageFrom (f : Figure) (text : List ℕ) (place : ℕ) : Type 0 where
   pub names : Names f text
   pub w-word : part text 0 3 ≡ wWord
+  -- the numerators of each condition sum to 0
+  pub corrections-close : (j : ℕ) → j < conditionCount f → conditionSum f (ofAngle text place) j ≡ pos 0
+  -- and the rounded ones to its rest
+  pub rests : (j : ℕ) → j < conditionCount f → conditionSum f (ofAngle text (1 + place)) j ≡ ofCondition f text 2 j
+  -- the result is the given angle plus the rounded correction
+  pub results : (i : ℕ) → i < angleCount f → ofAngle text 1 i +ℤ ofAngle text (1 + place) i ≡ ofAngle text (2 + place) i
+
+-- of a figure with one sine condition
+pub record OneSinePage (f : Figure) (text : List ℕ) : Type 0 where
+  pub page : SecondPageFrom f text 3
   pub s-word : part text 0 5 ≡ sWord
+  -- S is the sum of A², with A as printed
+  pub s-is : numberOn text 0 6 ≡ squares (angleCount f) (ofAngle text 2)
   -- each numerator is −100·D·A·W, with A and W as printed
   pub numerators : (i : ℕ) → i < angleCount f
       → ofAngle text 3 i ≡ negℤ (pos 100) *ℤ pos (denominator f) *ℤ ofAngle text 2 i *ℤ numberOn text 0 4
-  -- the numerators of each condition sum to 0
-  pub corrections-close : (j : ℕ) → j < conditionCount f → conditionSum f (ofAngle text 3) j ≡ pos 0
-  -- and the rounded ones to its rest
-  pub rests : (j : ℕ) → j < conditionCount f → conditionSum f (ofAngle text 4) j ≡ ofCondition f text 2 j
-  -- the result is the given angle plus the rounded correction
-  pub results : (i : ℕ) → i < angleCount f → ofAngle text 1 i +ℤ ofAngle text 4 i ≡ ofAngle text 5 i
+
+-- of a figure with two: M-100
+pub record TwoSinesPage (f : Figure) (text : List ℕ) : Type 0 where
+  pub page : SecondPageFrom f text 4
+  pub determinant-word : part text 0 6 ≡ determinantWord
+  -- the determinant is [AA][BB] − [AB]², with A and B as printed
+  pub determinant-is : numberOn text 0 7 ≡ determinantOf f (ofAngle text 2) (ofAngle text 3)
+  -- each numerator is −100·D·(A·([BB]·Wa − [AB]·Wb) + B·([AA]·Wb − [AB]·Wa)), with A, B and both W as printed
+  pub numerators : (i : ℕ) → i < angleCount f
+      → ofAngle text 4 i ≡ exactOfTwo f (ofAngle text 2) (ofAngle text 3) (numberOn text 0 4) (numberOn text 0 5) i
+
+abbrev pub SinePage : (side : Bool) → Figure → (text : List ℕ) → Type 0
+SinePage false f text = OneSinePage f text
+SinePage true f text = TwoSinesPage f text
+
+abbrev pub SecondPage : Figure → (text : List ℕ) → Type 0
+SecondPage f text = SinePage (hasSide f) f text
 
 -- `refused 6 1`, number and place, alone
 abbrev pub refusedLine : (k p : ℕ) → List ℕ

@@ -20,8 +20,6 @@ impl PointInTriangle {
 
     pub const SIDES: usize = 0;
 
-    pub const TRIANGLES: usize = 3;
-
     pub(crate) fn counts() -> Counts
         ensures { λ counts. ⌜ counts ≡ countsOf Figure.PointInTriangle ⌝ }
     {

@@ -11,8 +11,8 @@ use Rattle.whole.specs.Sums.{composed, identity, transposed, table}
 use Rattle.whole.specs.Lists.{everyBelow}
 use Rattle.whole.proofs.Computed.{and-left, and-right, every-below}
 use Rattle.figures.specs.declared.Figure.{Figure}
-use Rattle.figures.specs.declared.Figure.the-variants.{Quadrilateral, PointInTriangle, CentralTriangle, CentralQuadrilateral, CentralPentagon, CentralHexagon, CentralHeptagon, CentralOctagon}
-use Rattle.figures.specs.Figure.{Description, Condition, quadrilateral, pointInTriangle, centralPolygon, description, inner, left}
+use Rattle.figures.specs.declared.Figure.the-variants.{Quadrilateral, PointInTriangle, PointInQuadrilateral, CentralTriangle, CentralQuadrilateral, CentralPentagon, CentralHexagon, CentralHeptagon, CentralOctagon}
+use Rattle.figures.specs.Figure.{Description, Condition, quadrilateral, pointInTriangle, pointInQuadrilateral, centralPolygon, description, inner, left}
 use Rattle.figures.specs.Rows.{eachOf}
 use Rattle.figures.proofs.LeastSquares.{Certified}
 
@@ -53,6 +53,7 @@ centralPolygonCorrelates n =
 unfoldable pub correlates : Figure → List (List ℤ)
 correlates Quadrilateral = quadrilateralCorrelates
 correlates PointInTriangle = pointCorrelates pointInTriangle
+correlates PointInQuadrilateral = pointCorrelates pointInQuadrilateral
 correlates CentralTriangle = centralPolygonCorrelates 3
 correlates CentralQuadrilateral = centralPolygonCorrelates 4
 correlates CentralPentagon = centralPolygonCorrelates 5

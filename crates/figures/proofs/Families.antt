@@ -1,23 +1,21 @@
 -- The conditions of each family of figures, by the indices of their angles: what the code adds for each. Each fact by one test over all figures. Assumes
 -- nothing.
 use mathlib.Core.Path.{_≡_, refl, sym, ap, ap₂, _∙_}
-use mathlib.Core.Bool.{Bool, true, false, not, _&&_, _||_}
+use mathlib.Core.Bool.{Bool, true, false, cond, not, _&&_, _||_}
 use mathlib.Core.List.{List, [], _∷_}
-use Prim.Native.Nat.{ℕ, zero, suc, _+_, _*_, _<_}
-use native.Mathlib.Nat.{le-of-suc-le-suc, not-suc-le-zero}
+use Prim.Native.Nat.{ℕ, zero, suc, _+_, _-_, _*_, _<_}
 use lib.Dec.{T, eqb, eqb→eq, lit<}
-use lib.ListN.{getD}
-use lib.IntN.{ℤ, pos, _+ℤ_}
+use lib.ListN.{length, getD}
+use lib.IntN.{ℤ, _+ℤ_, +ℤ-idr}
 use Rattle.whole.specs.Lists.{every, everyBelow, listed}
 use Rattle.whole.specs.Sums.{sum}
 use Rattle.whole.proofs.Computed.{and-left, and-right, every-at, every-below}
-use Rattle.whole.proofs.Ring.{ring, _≐_, _⊕_, constant}
 use Rattle.whole.proofs.Sums.{sum-front}
 use Rattle.figures.specs.declared.Figure.{Figure}
-use Rattle.figures.specs.declared.Figure.the-variants.{Quadrilateral, PointInTriangle}
+use Rattle.figures.specs.declared.Figure.the-variants.{Quadrilateral}
 use Rattle.figures.specs.declared.Target.{Target}
 use Rattle.figures.specs.declared.Target.the-variants.{HalfTurn, FullTurn, FixedAngle, NoCondition}
-use Rattle.figures.specs.Figure.{description, allFigures, angleCount, conditionCount, membersOf, targetOf}
+use Rattle.figures.specs.Figure.{description, allFigures, angleCount, conditionCount, fixedCount, membersOf, targetOf}
 use Rattle.figures.specs.Numerators.{sumOver, conditionSum}
 use Rattle.figures.proofs.Figures.{each-figure}
 
@@ -51,6 +49,16 @@ unfolding conditionSum
 joined-sum f j count index x t =
     ap (λ (members : List ℕ). sumOver members x) (same-numbers (membersOf f (suc j)) (listed count (λ k. suc (index k))) t) ∙ sum-listed count index x
 
+-- of two angles
+abbrev joinsTwo : Figure → (j first second : ℕ) → Bool
+joinsTwo f j first second = sameNumbers (membersOf f (suc j)) (suc first ∷ suc second ∷ [])
+
+two-sum : (f : Figure) (j first second : ℕ) (x : ℕ → ℤ) → T (joinsTwo f j first second) → conditionSum f x j ≡ x first +ℤ x second
+unfolding conditionSum sumOver
+two-sum f j first second x t =
+    ap (λ (members : List ℕ). sumOver members x) (same-numbers (membersOf f (suc j)) (suc first ∷ suc second ∷ []) t)
+    ∙ ap (λ (s : ℤ). x first +ℤ s) (+ℤ-idr (x second))
+
 -- ---- code 1
 
 quadrilateral-joins : T (everyBelow 3 (λ j. joins Quadrilateral j 4 (λ k. 2 * j + 1 * k)))
@@ -72,22 +80,109 @@ triangle-sum f x j h =
     joined-sum f j 3 (λ k. 3 * j + 1 * k) x
     (every-below (description f .n) (λ i. joins f i 3 (λ k. 3 * i + 1 * k)) (each-figure (λ g. everyBelow (description g .n) (λ i. joins g i 3 (λ k. 3 * i + 1 * k))) triangles-join f) j h)
 
--- ---- code 2: the last angle of the triangle before and the second of its own, at each corner
+-- ---- what the angles of a condition should sum to, told apart by a number
 
-pub first-corner-sum : (x : ℕ → ℤ) → conditionSum PointInTriangle x 3 ≡ sum 2 (λ k. x (1 + 7 * k))
-unfolding conditionSum sumOver sum
-first-corner-sum x = ring 2 (λ a b. a ⊕ (b ⊕ constant (pos 0)) ≐ constant (pos 0) ⊕ b ⊕ a) tt (x 8) (x 1)
+abbrev targetNumber : Target → ℕ
+targetNumber HalfTurn = 0
+targetNumber FullTurn = 1
+targetNumber NoCondition = 2
+targetNumber (FixedAngle j) = suc (suc (suc j))
 
-later-corners-join : T (everyBelow 2 (λ i. joins PointInTriangle (4 + i) 2 (λ k. (3 * i + 2) + 2 * k)))
-unfolding listed
-later-corners-join = tt
+abbrev targetFrom : ℕ → Target
+targetFrom zero = HalfTurn
+targetFrom (suc zero) = FullTurn
+targetFrom (suc (suc zero)) = NoCondition
+targetFrom (suc (suc (suc j))) = FixedAngle j
 
-pub later-corner-sum : (x : ℕ → ℤ) (i : ℕ) → i < 2 → conditionSum PointInTriangle x (4 + i) ≡ sum 2 (λ k. x ((3 * i + 2) + 2 * k))
-later-corner-sum x i h =
-    joined-sum PointInTriangle (4 + i) 2 (λ k. (3 * i + 2) + 2 * k) x
-    (every-below 2 (λ l. joins PointInTriangle (4 + l) 2 (λ k. (3 * l + 2) + 2 * k)) later-corners-join i h)
+from-number : (t : Target) → targetFrom (targetNumber t) ≡ t
+from-number HalfTurn = refl
+from-number FullTurn = refl
+from-number NoCondition = refl
+from-number (FixedAngle j) = refl
 
--- ---- code 3: and then the angles at the inner point
+abbrev sameTarget : Target → Target → Bool
+sameTarget s t = eqb (targetNumber s) (targetNumber t)
+
+same-target : (s t : Target) → T (sameTarget s t) → s ≡ t
+same-target s t same = sym (from-number s) ∙ ap targetFrom (eqb→eq (targetNumber s) (targetNumber t) same) ∙ from-number t
+
+quadrilateral-half-turns : T (everyBelow 3 (λ j. sameTarget (targetOf Quadrilateral (suc j)) HalfTurn))
+quadrilateral-half-turns = tt
+
+pub quadrilateral-target : (j : ℕ) → j < 3 → targetOf Quadrilateral (suc j) ≡ HalfTurn
+quadrilateral-target j h = same-target _ _ (every-below 3 (λ i. sameTarget (targetOf Quadrilateral (suc i)) HalfTurn) quadrilateral-half-turns j h)
+
+abbrev halfTurns : Figure → Bool
+halfTurns f = everyBelow (description f .n) (λ j. sameTarget (targetOf f (suc j)) HalfTurn)
+
+all-half-turns : T (every halfTurns allFigures)
+all-half-turns = tt
+
+pub triangle-target : (f : Figure) (j : ℕ) → j < description f .n → targetOf f (suc j) ≡ HalfTurn
+triangle-target f j h =
+    same-target _ _ (every-below (description f .n) (λ i. sameTarget (targetOf f (suc i)) HalfTurn) (each-figure halfTurns all-half-turns f) j h)
+
+-- ---- tests that the figures of one code pass
+
+abbrev ifOfCode : (code : ℕ) → (Figure → List Bool) → Figure → Bool
+ifOfCode code tests f = not (eqb (description f .code) code) || every (λ b. b) (tests f)
+
+passed : (code : ℕ) (tests : Figure → List Bool) → T (every (ifOfCode code tests) allFigures)
+    → (f : Figure) → T (eqb (description f .code) code) → (k : ℕ) → k < length (tests f) → T (getD (tests f) k false)
+passed code tests all f its k h =
+    every-at (λ b. b) (tests f) (if-so (eqb (description f .code) code) (every (λ b. b) (tests f)) (each-figure (ifOfCode code tests) all f) its) k false h
+  where
+    if-so : (a b : Bool) → T (not a || b) → T a → T b
+    if-so true b t u = t
+    if-so false b t u = absurd u
+
+-- ---- code 2: after the triangles the corners
+
+abbrev pub isPointInside : Figure → Bool
+isPointInside f = eqb (description f .code) 2
+
+-- the last angle of the triangle before, at the corner whose own triangle begins at index `first` of so many angles
+abbrev pub lastBefore : (angles first : ℕ) → ℕ
+lastBefore angles first = cond (eqb first 0) angles first - 1
+
+-- what a point inside n corners has; at each corner that angle and the second of its own triangle
+pub record PointInside (f : Figure) : Type 0 where
+  pub conditions : conditionCount f ≡ 2 * description f .n
+  pub angles : angleCount f ≡ 3 * description f .n
+  pub fixed : fixedCount f ≡ description f .n
+  pub corner-target : (i : ℕ) → i < description f .n → targetOf f (suc (description f .n + i)) ≡ FixedAngle (suc i)
+  pub corner-sum : (x : ℕ → ℤ) (i : ℕ) → i < description f .n
+      → conditionSum f x (description f .n + i) ≡ x (lastBefore (3 * description f .n) (3 * i)) +ℤ x (3 * i + 1)
+
+abbrev pointed : Figure → List Bool
+pointed f =
+    eqb (conditionCount f) (2 * description f .n)
+    ∷ eqb (angleCount f) (3 * description f .n)
+    ∷ eqb (fixedCount f) (description f .n)
+    ∷ everyBelow (description f .n) (λ i. sameTarget (targetOf f (suc (description f .n + i))) (FixedAngle (suc i)))
+    ∷ everyBelow (description f .n) (λ i. joinsTwo f (description f .n + i) (lastBefore (3 * description f .n) (3 * i)) (3 * i + 1))
+    ∷ []
+
+all-pointed : T (every (ifOfCode 2 pointed) allFigures)
+all-pointed = tt
+
+pub point-inside : (f : Figure) → T (isPointInside f) → PointInside f
+point-inside f p = record {
+  conditions = eqb→eq (conditionCount f) (2 * description f .n) (test 0 (lit< tt));
+  angles = eqb→eq (angleCount f) (3 * description f .n) (test 1 (lit< tt));
+  fixed = eqb→eq (fixedCount f) (description f .n) (test 2 (lit< tt));
+  corner-target = λ i h.
+      same-target _ _
+      (every-below (description f .n) (λ k. sameTarget (targetOf f (suc (description f .n + k))) (FixedAngle (suc k))) (test 3 (lit< tt)) i h);
+  corner-sum = λ x i h.
+      two-sum f (description f .n + i) (lastBefore (3 * description f .n) (3 * i)) (3 * i + 1) x
+      (every-below (description f .n) (λ k. joinsTwo f (description f .n + k) (lastBefore (3 * description f .n) (3 * k)) (3 * k + 1)) (test 4 (lit< tt)) i h);
+}
+  where
+    test : (k : ℕ) → k < 5 → T (getD (pointed f) k false)
+    test = passed 2 pointed all-pointed f p
+
+-- ---- code 3: after the triangles the angles at the inner point
 
 abbrev pub isPolygon : Figure → Bool
 isPolygon f = eqb (description f .code) 3
@@ -99,83 +194,25 @@ pub record Polygon (f : Figure) : Type 0 where
   pub horizon-target : targetOf f (suc (description f .n)) ≡ FullTurn
   pub horizon-sum : (x : ℕ → ℤ) → conditionSum f x (description f .n) ≡ sum (description f .n) (λ k. x (0 + 3 * k))
 
-abbrev horizonJoins : Figure → Bool
-horizonJoins f = joins f (description f .n) (description f .n) (λ k. 0 + 3 * k)
-
-abbrev isFullTurn : Target → Bool
-isFullTurn HalfTurn = false
-isFullTurn FullTurn = true
-isFullTurn (FixedAngle j) = false
-isFullTurn NoCondition = false
-
-full-turn : (t : Target) → T (isFullTurn t) → t ≡ FullTurn
-full-turn HalfTurn t = absurd t
-full-turn FullTurn t = refl
-full-turn (FixedAngle j) t = absurd t
-full-turn NoCondition t = absurd t
-
 abbrev polygonal : Figure → List Bool
 polygonal f =
     eqb (conditionCount f) (suc (description f .n))
     ∷ eqb (angleCount f) (3 * description f .n)
-    ∷ isFullTurn (targetOf f (suc (description f .n)))
-    ∷ horizonJoins f
+    ∷ sameTarget (targetOf f (suc (description f .n))) FullTurn
+    ∷ joins f (description f .n) (description f .n) (λ k. 0 + 3 * k)
     ∷ []
 
-abbrev polygonalIfSo : Figure → Bool
-polygonalIfSo f = not (isPolygon f) || every (λ b. b) (polygonal f)
-
-all-polygonal : T (every polygonalIfSo allFigures)
+all-polygonal : T (every (ifOfCode 3 polygonal) allFigures)
 unfolding listed
 all-polygonal = tt
 
 pub polygon : (f : Figure) → T (isPolygon f) → Polygon f
 polygon f p = record {
-  conditions = eqb→eq (conditionCount f) (suc (description f .n)) (passed 0 (lit< tt));
-  angles = eqb→eq (angleCount f) (3 * description f .n) (passed 1 (lit< tt));
-  horizon-target = full-turn _ (passed 2 (lit< tt));
-  horizon-sum = λ x. joined-sum f (description f .n) (description f .n) (λ k. 0 + 3 * k) x (passed 3 (lit< tt));
+  conditions = eqb→eq (conditionCount f) (suc (description f .n)) (test 0 (lit< tt));
+  angles = eqb→eq (angleCount f) (3 * description f .n) (test 1 (lit< tt));
+  horizon-target = same-target _ _ (test 2 (lit< tt));
+  horizon-sum = λ x. joined-sum f (description f .n) (description f .n) (λ k. 0 + 3 * k) x (test 3 (lit< tt));
 }
   where
-    if-so : (a b : Bool) → T (not a || b) → T a → T b
-    if-so true b t u = t
-    if-so false b t u = absurd u
-
-    passed : (k : ℕ) → k < 4 → T (getD (polygonal f) k false)
-    passed k h =
-        every-at (λ b. b) (polygonal f)
-        (if-so (isPolygon f) (every (λ b. b) (polygonal f)) (each-figure polygonalIfSo all-polygonal f) p) k false h
-
--- ---- what the angles of the other conditions should sum to
-
-abbrev isHalfTurn : Target → Bool
-isHalfTurn HalfTurn = true
-isHalfTurn FullTurn = false
-isHalfTurn (FixedAngle j) = false
-isHalfTurn NoCondition = false
-
-half-turn : (t : Target) → T (isHalfTurn t) → t ≡ HalfTurn
-half-turn HalfTurn t = refl
-half-turn FullTurn t = absurd t
-half-turn (FixedAngle j) t = absurd t
-half-turn NoCondition t = absurd t
-
-quadrilateral-half-turns : T (everyBelow 3 (λ j. isHalfTurn (targetOf Quadrilateral (suc j))))
-quadrilateral-half-turns = tt
-
-pub quadrilateral-target : (j : ℕ) → j < 3 → targetOf Quadrilateral (suc j) ≡ HalfTurn
-quadrilateral-target j h = half-turn _ (every-below 3 (λ i. isHalfTurn (targetOf Quadrilateral (suc i))) quadrilateral-half-turns j h)
-
-all-half-turns : T (every (λ f. everyBelow (description f .n) (λ j. isHalfTurn (targetOf f (suc j)))) allFigures)
-all-half-turns = tt
-
-pub triangle-target : (f : Figure) (j : ℕ) → j < description f .n → targetOf f (suc j) ≡ HalfTurn
-triangle-target f j h =
-    half-turn _ (every-below (description f .n) (λ i. isHalfTurn (targetOf f (suc i)))
-    (each-figure (λ g. everyBelow (description g .n) (λ i. isHalfTurn (targetOf g (suc i)))) all-half-turns f) j h)
-
-pub corner-target : (i : ℕ) → i < 3 → targetOf PointInTriangle (suc (3 + i)) ≡ FixedAngle (suc i)
-corner-target zero h = refl
-corner-target (suc zero) h = refl
-corner-target (suc (suc zero)) h = refl
-corner-target (suc (suc (suc i))) h = absurd (not-suc-le-zero (le-of-suc-le-suc (le-of-suc-le-suc (le-of-suc-le-suc h))))
+    test : (k : ℕ) → k < 4 → T (getD (polygonal f) k false)
+    test = passed 3 polygonal all-polygonal f p

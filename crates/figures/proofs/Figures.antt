@@ -1,20 +1,21 @@
 -- What holds of every figure, by one test that antt computes over the list of all figures: the data are what they should be, and each figure is
 -- certified. Assumes nothing.
-use mathlib.Core.Path.{_≡_, sym, subst}
+use mathlib.Core.Path.{_≡_, refl, sym, ap, subst}
 use mathlib.Core.Bool.{Bool, true, false, not, _&&_, _||_}
 use mathlib.Core.List.{List, [], _∷_}
 use Prim.Native.Nat.{ℕ, zero, suc, _≤_, _<_, zero-le}
+use native.Mathlib.Omega.{arith}
 use lib.Dec.{T, eqb, leb, eqb→eq, leb→le, lit<}
 use lib.ListN.{length, getD, List·getD-eq-default}
-use lib.IntN.{ℤ, pos, natAbs}
+use lib.IntN.{ℤ, pos, negsuc, natAbs}
 use Rattle.whole.specs.Sums.{sum, dot, composed, table}
 use Rattle.whole.specs.Lists.{every, everyBelow}
 use Rattle.whole.proofs.Computed.{and-left, and-right, every-at, every-below}
 use Rattle.figures.specs.declared.Figure.{Figure}
-use Rattle.figures.specs.declared.Figure.the-variants.{Quadrilateral, PointInTriangle, CentralTriangle, CentralQuadrilateral, CentralPentagon, CentralHexagon, CentralHeptagon, CentralOctagon}
+use Rattle.figures.specs.declared.Figure.the-variants.{Quadrilateral, PointInTriangle, PointInQuadrilateral, CentralTriangle, CentralQuadrilateral, CentralPentagon, CentralHexagon, CentralHeptagon, CentralOctagon}
 use Rattle.figures.specs.declared.Target.{Target}
 use Rattle.figures.specs.declared.Target.the-variants.{HalfTurn, FullTurn, FixedAngle, NoCondition}
-use Rattle.figures.specs.Figure.{Condition, SineCondition, description, allFigures, denominator, angleCount, conditionCount, fixedCount, membersOf, targetOf, pole, side, hasSide, noSine}
+use Rattle.figures.specs.Figure.{Condition, SineCondition, description, allFigures, denominator, angleCount, conditionCount, fixedCount, membersOf, targetOf, pole, side, hasSide, noSine, sideCount}
 use Rattle.figures.specs.Numerators.{mostAngles, mostConditions, mostMembers, mostSides}
 use Rattle.figures.proofs.LeastSquares.{Certified}
 use Rattle.figures.proofs.Certificate.{membership, joined, correlates, quadrilateralCorrelates, pointCorrelates, centralPolygonCorrelates, rowOf, difference, equal, sameTables, certifies, certifiesFigure, certificate}
@@ -23,12 +24,13 @@ use Rattle.figures.proofs.Certificate.{membership, joined, correlates, 
 pub each-figure : (test : Figure → Bool) → T (every test allFigures) → (f : Figure) → T (test f)
 each-figure test t Quadrilateral = every-at test allFigures t 0 Quadrilateral (lit< tt)
 each-figure test t PointInTriangle = every-at test allFigures t 1 Quadrilateral (lit< tt)
-each-figure test t CentralTriangle = every-at test allFigures t 2 Quadrilateral (lit< tt)
-each-figure test t CentralQuadrilateral = every-at test allFigures t 3 Quadrilateral (lit< tt)
-each-figure test t CentralPentagon = every-at test allFigures t 4 Quadrilateral (lit< tt)
-each-figure test t CentralHexagon = every-at test allFigures t 5 Quadrilateral (lit< tt)
-each-figure test t CentralHeptagon = every-at test allFigures t 6 Quadrilateral (lit< tt)
-each-figure test t CentralOctagon = every-at test allFigures t 7 Quadrilateral (lit< tt)
+each-figure test t PointInQuadrilateral = every-at test allFigures t 2 Quadrilateral (lit< tt)
+each-figure test t CentralTriangle = every-at test allFigures t 3 Quadrilateral (lit< tt)
+each-figure test t CentralQuadrilateral = every-at test allFigures t 4 Quadrilateral (lit< tt)
+each-figure test t CentralPentagon = every-at test allFigures t 5 Quadrilateral (lit< tt)
+each-figure test t CentralHexagon = every-at test allFigures t 6 Quadrilateral (lit< tt)
+each-figure test t CentralHeptagon = every-at test allFigures t 7 Quadrilateral (lit< tt)
+each-figure test t CentralOctagon = every-at test allFigures t 8 Quadrilateral (lit< tt)
 
 -- ---- the certificates
 
@@ -93,6 +95,8 @@ sound f =
     ∷ leb (angleCount f) mostAngles
     ∷ leb (conditionCount f) mostConditions
     ∷ (leb (length (description f .sines)) 1 || hasSide f)
+    ∷ (not (hasSide f) || leb 1 (sideCount f))
+    ∷ eqb (length (pole f .sides)) 0
     ∷ []
 
 abbrev isSound : Figure → Bool
@@ -102,7 +106,7 @@ all-sound : T (every isSound allFigures)
 unfolding membership joined
 all-sound = tt
 
-passed : (f : Figure) (k : ℕ) → k < 13 → T (getD (sound f) k false)
+passed : (f : Figure) (k : ℕ) → k < 15 → T (getD (sound f) k false)
 passed f k h = every-at (λ b. b) (sound f) (each-figure isSound all-sound f) k false h
 
 pub row-count : (f : Figure) → length (description f .rows) ≡ angleCount f
@@ -168,6 +172,10 @@ angle-bound f = leb→le (angleCount f) mostAngles (passed f 10 (lit< tt))
 pub condition-bound : (f : Figure) → conditionCount f ≤ mostConditions
 condition-bound f = leb→le (conditionCount f) mostConditions (passed f 11 (lit< tt))
 
+-- no known side stands in the pole
+pub pole-sides : (f : Figure) → length (pole f .sides) ≡ 0
+pole-sides f = eqb→eq (length (pole f .sides)) 0 (passed f 14 (lit< tt))
+
 -- a figure without a second sine condition has none that says anything
 pub side-absent : (f : Figure) → hasSide f ≡ false → side f ≡ noSine f
 side-absent f none = List·getD-eq-default (description f .sines) (noSine f) (leb→le (length (description f .sines)) 1 (left (passed f 12 (lit< tt))))
@@ -178,3 +186,37 @@ side-absent f none = List·getD-eq-default (description f .sines) (noSine f) (le
         alone : (a : Bool) → T (a || false) → T a
         alone true t = tt
         alone false t = t
+
+-- a figure has known sides exactly if it has that condition
+module _ (f : Figure) where
+  pub no-sides : hasSide f ≡ false → sideCount f ≡ 0
+  no-sides none = ap (λ (c : SineCondition). length (c .sides)) (side-absent f none)
+
+  pub side-none : sideCount f ≡ 0 → hasSide f ≡ false
+  side-none e = go (hasSide f) (passed f 13 (lit< tt))
+    where
+      go : (b : Bool) → T (not b || leb 1 (sideCount f)) → b ≡ false
+      go false t = refl
+      go true t = absurd (omega (arith, e, leb→le 1 (sideCount f) t))
+
+  -- the side condition has log side 1 with + and log side 4, the second of the two, with −
+  pub side-signs : hasSide f ≡ true → side f .sides ≡ pos 1 ∷ negsuc 0 ∷ []
+  side-signs both = by-figure f (subst T (sym both) tt)
+    where
+      by-figure : (g : Figure) → T (hasSide g) → side g .sides ≡ pos 1 ∷ negsuc 0 ∷ []
+      by-figure PointInQuadrilateral t = refl
+      by-figure Quadrilateral t = absurd t
+      by-figure PointInTriangle t = absurd t
+      by-figure CentralTriangle t = absurd t
+      by-figure CentralQuadrilateral t = absurd t
+      by-figure CentralPentagon t = absurd t
+      by-figure CentralHexagon t = absurd t
+      by-figure CentralHeptagon t = absurd t
+      by-figure CentralOctagon t = absurd t
+
+  pub side-some : (sideCount f ≡ 0 → ⊥) → hasSide f ≡ true
+  side-some some = go (hasSide f) refl
+    where
+      go : (b : Bool) → hasSide f ≡ b → b ≡ true
+      go true e = refl
+      go false e = absurd (some (no-sides e))

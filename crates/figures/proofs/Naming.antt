@@ -1,4 +1,4 @@
--- What a code and an n name: exactly the eight figures. Assumes nothing.
+-- What a code and an n name: exactly the nine figures. Assumes nothing.
 use mathlib.Core.Path.{_≡_, refl, sym, subst, ap, ap₂, _∙_}
 use mathlib.Core.Logic.{_↔_}
 use mathlib.Core.Bool.{Bool, true, false, cond, not, _&&_, _||_}
@@ -7,7 +7,7 @@ use Prim.Native.Nat.{ℕ, zero, suc, _+_}
 use lib.Dec.{T, eqb, eqb→eq}
 use Rattle.refusals.specs.Questions.{noneOf, among, asked}
 use Rattle.figures.specs.declared.Figure.{Figure}
-use Rattle.figures.specs.declared.Figure.the-variants.{Quadrilateral, PointInTriangle, CentralTriangle, CentralQuadrilateral, CentralPentagon, CentralHexagon, CentralHeptagon, CentralOctagon}
+use Rattle.figures.specs.declared.Figure.the-variants.{Quadrilateral, PointInTriangle, PointInQuadrilateral, CentralTriangle, CentralQuadrilateral, CentralPentagon, CentralHexagon, CentralHeptagon, CentralOctagon}
 use Rattle.figures.specs.declared.Named.{Named}
 use Rattle.figures.specs.declared.Named.the-variants.{As, Nothing}
 use Rattle.figures.specs.Figure.{description, allFigures, namedAmong, figureOf, figureNames}
@@ -17,6 +17,7 @@ pub own-name : (f : Figure) → figureOf (description f .code) (description f .n
 unfolding figureOf
 own-name Quadrilateral = refl
 own-name PointInTriangle = refl
+own-name PointInQuadrilateral = refl
 own-name CentralTriangle = refl
 own-name CentralQuadrilateral = refl
 own-name CentralPentagon = refl
@@ -81,7 +82,7 @@ countTo : ℕ → (ℕ → ℕ) → ℕ
 countTo zero f = 0
 countTo (suc k) f = countTo k f + f k
 
--- of the 256 pairs of 4-bit numbers exactly eight name a figure
-eight : countTo 16 (λ code. countTo 16 (λ n. one (figureOf code n))) ≡ 8
+-- of the 256 pairs of 4-bit numbers exactly nine name a figure
+nine : countTo 16 (λ code. countTo 16 (λ n. one (figureOf code n))) ≡ 9
 unfolding countTo figureOf
-eight = refl
+nine = refl

@@ -1,4 +1,5 @@
--- The eight figures of document 01, "The eight figures", in its numbering: corners, triangles, angles, conditions and fixed angles count from 1.
+-- The eight figures of document 01, "The eight figures", and the ninth of document 02, M-100, in their numbering: corners, triangles,
+-- angles, conditions, fixed angles and sides count from 1.
 use Prim.Native.Nat.{ℕ, zero, suc, _+_, _-_, _*_}
 use mathlib.Core.Bool.{Bool, cond, _&&_}
 use mathlib.Core.List.{List, [], _∷_, _++_, map}
@@ -6,14 +7,14 @@ use lib.Dec.{eqb}
 use lib.ListN.{length, getD, replicate}
 use lib.IntN.{ℤ, pos}
 use Rattle.figures.specs.declared.Figure.{Figure}
-use Rattle.figures.specs.declared.Figure.the-variants.{Quadrilateral, PointInTriangle, CentralTriangle, CentralQuadrilateral, CentralPentagon, CentralHexagon, CentralHeptagon, CentralOctagon}
+use Rattle.figures.specs.declared.Figure.the-variants.{Quadrilateral, PointInTriangle, PointInQuadrilateral, CentralTriangle, CentralQuadrilateral, CentralPentagon, CentralHexagon, CentralHeptagon, CentralOctagon}
 use Rattle.figures.specs.declared.Named.{Named}
 use Rattle.figures.specs.declared.Named.the-variants.{As, Nothing}
 use Rattle.figures.specs.declared.Target.{Target}
 use Rattle.figures.specs.declared.Target.the-variants.{HalfTurn, FullTurn, FixedAngle, NoCondition}
 use Rattle.figures.specs.declared.Name.{Name}
 use Rattle.figures.specs.declared.Counts.{Counts}
-use Rattle.figures.specs.Rows.{eachOf, quadrilateralRows, quadrilateralSigns, pointInTriangleRows, centralPolygonRows, triangleSigns}
+use Rattle.figures.specs.Rows.{eachOf, minus, quadrilateralRows, quadrilateralSigns, pointInTriangleRows, pointInQuadrilateralRows, centralPolygonRows, triangleSigns, signsFrom}
 
 -- the angles that a condition joins, and what they should sum to
 pub record Condition : Type 0 where
@@ -25,7 +26,7 @@ pub record SineCondition : Type 0 where
   pub signs : List ℤ
   pub sides : List ℤ
 
--- all that document 01 says of a figure; the exact correction of an angle is its row over the denominator
+-- all that the documents say of a figure; the exact correction of an angle is its row over the denominator
 pub record Description : Type 0 where
   pub code : ℕ
   pub n : ℕ
@@ -80,9 +81,9 @@ previous n j = cond (eqb j 1) n (j - 1)
 abbrev pub corner : ℕ → ℕ → Condition
 corner n j = record { angles = right (previous n j) ∷ left j ∷ []; target = FixedAngle j }
 
--- code 2, a point inside n known corners
-abbrev pub pointInside : (n denominator : ℕ) → (rows : List (List ℤ)) → Description
-pointInside n denominator rows = record {
+-- code 2, a point inside n known corners, with the sine conditions that it has besides the pole
+abbrev pub pointInside : (n denominator : ℕ) → (rows : List (List ℤ)) → (others : List SineCondition) → Description
+pointInside n denominator rows others = record {
   code = 2;
   n = n;
   denominator = denominator;
@@ -90,12 +91,24 @@ pointInside n denominator rows = record {
   fixedCount = n;
   conditions = eachOf n (λ i. triangle i ∷ []) ++ eachOf n (λ j. corner n j ∷ []);
   rows = rows;
-  sines = poleOf (triangleSigns n) ∷ [];
+  sines = poleOf (triangleSigns n) ∷ others;
 }
 
 -- code 2, n = 3, a point in a known triangle
 abbrev pub pointInTriangle : Description
-pointInTriangle = pointInside 3 10 pointInTriangleRows
+pointInTriangle = pointInside 3 10 pointInTriangleRows []
+
+-- document 02, M-100: the side condition, from known sides 1 (corners 1, 2) and 4 (corners 4, 1):
+-- "log side 1 + r of 1 − c of 1 − log side 4 − l of 4 + c of 4"
+abbrev pub sideCondition : SineCondition
+sideCondition = record {
+  signs = signsFrom 12 (right 1 ∷ inner 4 ∷ []) (inner 1 ∷ left 4 ∷ []);
+  sides = pos 1 ∷ minus 1 ∷ [];
+}
+
+-- document 02, M-100: code 2, n = 4, a point in a known quadrilateral
+abbrev pub pointInQuadrilateral : Description
+pointInQuadrilateral = pointInside 4 24 pointInQuadrilateralRows (sideCondition ∷ [])
 
 -- code 3: the angles at the inner point sum to 360°
 abbrev pub horizon : ℕ → Condition
@@ -119,6 +132,7 @@ centralPolygon n = record {
 abbrev pub description : Figure → Description
 description Quadrilateral = quadrilateral
 description PointInTriangle = pointInTriangle
+description PointInQuadrilateral = pointInQuadrilateral
 description CentralTriangle = centralPolygon 3
 description CentralQuadrilateral = centralPolygon 4
 description CentralPentagon = centralPolygon 5
@@ -128,7 +142,10 @@ description CentralOctagon = centralPolygon 8
 
 abbrev pub allFigures : List Figure
 allFigures =
-    Quadrilateral ∷ PointInTriangle ∷ CentralTriangle ∷ CentralQuadrilateral ∷ CentralPentagon ∷ CentralHexagon ∷ CentralHeptagon ∷ CentralOctagon ∷ []
+    Quadrilateral
+    ∷ PointInTriangle ∷ PointInQuadrilateral
+    ∷ CentralTriangle ∷ CentralQuadrilateral ∷ CentralPentagon ∷ CentralHexagon ∷ CentralHeptagon ∷ CentralOctagon
+    ∷ []
 
 -- the figure that a code and an n name
 abbrev pub namedAmong : List Figure → ℕ → ℕ → Named

@@ -1,7 +1,9 @@
--- The first-correction rows and the sine signs of document 01, "The eight figures". A row holds the coefficient of each condition's misclosure,
--- in the order of the conditions; rows and signs stand in the order of the angles.
+-- The first-correction rows and the sine signs of document 01, "The eight figures", and of document 02, M-100. A row holds the coefficient
+-- of each condition's misclosure, in the order of the conditions; rows and signs stand in the order of the angles.
 use Prim.Native.Nat.{ℕ, zero, suc, _+_, _-_, _*_, _%_}
+use mathlib.Core.Bool.{Bool, false, cond, _||_}
 use mathlib.Core.List.{List, [], _∷_, _++_}
+use lib.Dec.{eqb}
 use lib.ListN.{getD}
 use lib.IntN.{ℤ, pos, negℤ, _+ℤ_, _*ℤ_}
 use Rattle.whole.specs.Sums.{identity}
@@ -38,17 +40,31 @@ quadrilateralSigns = eachOf 4 (λ i. pos 1 ∷ minus 1 ∷ [])
 abbrev pub around : ℕ → ℕ → List ℤ → List ℤ
 around n i coefficients = eachOf n (λ k. getD coefficients ((k + n - i) % n) (pos 0) ∷ [])
 
--- a row of triangle i of n from its coefficients on t and on f, each as `around` takes them
-abbrev pub pointRow : ℕ → ℕ → List ℤ → List ℤ → List ℤ
-pointRow n i onT onF = around n i onT ++ around n i onF
+-- the coefficients of an angle of triangle i on t and on f, each as `around` takes them
+pub record OnMisclosures : Type 0 where
+  pub onT : List ℤ
+  pub onF : List ℤ
 
--- c, l and r of triangle 1, of triangle 2, of triangle 3
+-- a row of triangle i of n
+abbrev pub pointRow : ℕ → ℕ → OnMisclosures → List ℤ
+pointRow n i angle = around n i (angle .onT) ++ around n i (angle .onF)
+
+-- c, l and r of triangle 1, of triangle 2, and so on to n
+abbrev pub pointInsideRows : (n : ℕ) → (c l r : OnMisclosures) → List (List ℤ)
+pointInsideRows n c l r = eachOf n (λ i. pointRow n i c ∷ pointRow n i l ∷ pointRow n i r ∷ [])
+
 abbrev pub pointInTriangleRows : List (List ℤ)
-pointInTriangleRows = eachOf 3 (λ i.
-    pointRow 3 i (minus 6 ∷ minus 2 ∷ minus 2 ∷ []) (pos 4 ∷ pos 4 ∷ pos 2 ∷ [])
-    ∷ pointRow 3 i (minus 2 ∷ pos 0 ∷ pos 2 ∷ []) (minus 5 ∷ pos 1 ∷ minus 1 ∷ [])
-    ∷ pointRow 3 i (minus 2 ∷ pos 2 ∷ pos 0 ∷ []) (pos 1 ∷ minus 5 ∷ minus 1 ∷ [])
-    ∷ [])
+pointInTriangleRows = pointInsideRows 3
+    (record { onT = minus 6 ∷ minus 2 ∷ minus 2 ∷ []; onF = pos 4 ∷ pos 4 ∷ pos 2 ∷ [] })
+    (record { onT = minus 2 ∷ pos 0 ∷ pos 2 ∷ []; onF = minus 5 ∷ pos 1 ∷ minus 1 ∷ [] })
+    (record { onT = minus 2 ∷ pos 2 ∷ pos 0 ∷ []; onF = pos 1 ∷ minus 5 ∷ minus 1 ∷ [] })
+
+-- document 02, M-100; t and f of i+3 are those of i−1
+abbrev pub pointInQuadrilateralRows : List (List ℤ)
+pointInQuadrilateralRows = pointInsideRows 4
+    (record { onT = minus 14 ∷ minus 4 ∷ minus 2 ∷ minus 4 ∷ []; onF = pos 9 ∷ pos 9 ∷ pos 3 ∷ pos 3 ∷ [] })
+    (record { onT = minus 5 ∷ minus 1 ∷ pos 1 ∷ pos 5 ∷ []; onF = minus 12 ∷ pos 3 ∷ pos 0 ∷ minus 3 ∷ [] })
+    (record { onT = minus 5 ∷ pos 5 ∷ pos 1 ∷ minus 1 ∷ []; onF = pos 3 ∷ minus 12 ∷ minus 3 ∷ pos 0 ∷ [] })
 
 -- ---- code 3: a row is own·w(i) + total·T + round·h, with T the sum of triangle misclosures w and h the horizon misclosure
 
@@ -70,3 +86,13 @@ centralPolygonRows n = eachOf n (λ i. innerRow n i ∷ outerRow n i ∷ outerRo
 
 abbrev pub triangleSigns : ℕ → List ℤ
 triangleSigns n = eachOf n (λ i. pos 0 ∷ pos 1 ∷ minus 1 ∷ [])
+
+-- ---- signs by the angles that have them
+
+abbrev pub has : List ℕ → ℕ → Bool
+has [] i = false
+has (m ∷ others) i = eqb m i || has others i
+
+-- + of the angles added, − of those taken away, 0 of every other of so many
+abbrev pub signsFrom : (count : ℕ) → (added taken : List ℕ) → List ℤ
+signsFrom count added taken = eachOf count (λ i. cond (has added i) (pos 1) (cond (has taken i) (minus 1) (pos 0)) ∷ [])

@@ -1,5 +1,5 @@
-// The eight figures of document 01, "The eight figures": which are named by a code and an n, and what is counted of each. The least-squares
-// theorem over their definitions stands in proofs/.
+// The eight figures of document 01, "The eight figures", and the ninth of document 02, M-100: which are named by a code and an n, and what
+// is counted of each. The least-squares theorem over their definitions stands in proofs/.
 ghost use mathlib.Core.Path.{_≡_};
 ghost use Rattle.figures.specs.Figure.{figureOf, nameOf};
 
@@ -7,6 +7,7 @@ ghost use Rattle.figures.specs.Figure.{figureOf, nameOf};
 pub enum Figure {
     Quadrilateral,
     PointInTriangle,
+    PointInQuadrilateral,
     CentralTriangle,
     CentralQuadrilateral,
     CentralPentagon,
@@ -48,6 +49,8 @@ pub const MOST_ANGLES: usize = 24;
 
 pub const MOST_CONDITIONS: usize = 9;
 
+pub const MOST_SIDES: usize = 2;
+
 // A figure's coefficient rows, one type for all figures: an array of arrays, with 0 where a figure has no angle or no condition.
 pub type Rows = [[i8; MOST_CONDITIONS]; MOST_ANGLES];
 
@@ -61,6 +64,7 @@ pub fn figure_of(code: u32, n: u32) -> Named
         },
         2 => match n {
             3 => Named::As(Figure::PointInTriangle),
+            4 => Named::As(Figure::PointInQuadrilateral),
             _ => Named::Nothing,
         },
         3 => polygon_of(n),
@@ -88,6 +92,7 @@ pub fn name_of(figure: Figure) -> Name
     match figure {
         Figure::Quadrilateral => Name { code: 1, n: 0 },
         Figure::PointInTriangle => Name { code: 2, n: 3 },
+        Figure::PointInQuadrilateral => Name { code: 2, n: 4 },
         Figure::CentralTriangle => Name { code: 3, n: 3 },
         Figure::CentralQuadrilateral => Name { code: 3, n: 4 },
         Figure::CentralPentagon => Name { code: 3, n: 5 },

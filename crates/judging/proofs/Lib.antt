@@ -1,2 +1,3 @@
--- The steps of a search in a loop, for the proofs of `search`.
+-- The steps of a search in a loop, and the value at an index of two lists, for the proofs of `search`.
 mod Asking
+mod Following

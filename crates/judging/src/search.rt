@@ -1,5 +1,6 @@
 // The lowest place at which a value lies outside its range: document 01, "The lowest place is named".
 ghost use mathlib.Core.Path.{_≡_};
+ghost use mathlib.Core.List.{_++_};
 ghost use lib.IntN.{pos, _+ℤ_};
 ghost use lib.ListN.{getD};
 ghost use Rattle.refusals.specs.Questions.{asked, outside, outsideSigned};
@@ -99,13 +100,36 @@ fn is_entry_outside(log_sine: u32, difference: i32) -> bool
         || is_difference_outside(difference, LEAST_DIFFERENCE, MOST_DIFFERENCE)
 }
 
-pub(crate) fn lowest_entry_outside(log_sines: &[u32], differences: &[i32]) -> Lowest
-    ensures { λ lowest. ⌜ lowest ≡ lowestEntryOutside (now («log_sines» .entry)) (now (differences .entry)) ⌝ }
+// The value at an index of one list and then another, and 0 past both.
+fn value_at(first: &[u32], second: &[u32], i: usize) -> u32
+    ensures { λ value. ⌜ value ≡ getD (now (first .entry) ++ now (second .entry)) i 0 ⌝ }
 {
+    if i < first.len() {
+        return first[i];
+    }
+    let later = i - first.len();
+    if later < second.len() {
+        second[later]
+    } else {
+        0
+    }
+}
+
+// The known log sides have the places after the angles, and no differences (M-100).
+pub(crate) fn lowest_entry_outside(
+    log_sines: &[u32],
+    log_sides: &[u32],
+    differences: &[i32],
+) -> Lowest
+    ensures { λ lowest.
+        ⌜ lowest ≡ lowestEntryOutside (now («log_sines» .entry) ++ now («log_sides» .entry)) (now (differences .entry)) ⌝ }
+{
+    let count = log_sines.len() + log_sides.len();
     let mut passed = 0;
-    while passed < log_sines.len() {
+    while passed < count {
+        let entry = value_at(log_sines, log_sides, passed);
         let difference = signed_at(differences, passed);
-        if is_entry_outside(log_sines[passed], difference) {
+        if is_entry_outside(entry, difference) {
             return Lowest::At(passed + 1);
         }
         passed += 1;

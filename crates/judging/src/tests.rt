@@ -1,6 +1,9 @@
 // The tests of the table, each once: what a row says of the values that are given. refusals/specs/Table.antt has the
 // rows.
 ghost use mathlib.Core.Path.{_≡_};
+ghost use mathlib.Core.List.{_++_};
+ghost use Prim.Native.Nat.{_+_, _*_, _^_};
+ghost use lib.IntN.{pos};
 ghost use Rattle.refusals.specs.Order.{verdictOf};
 ghost use Rattle.refusals.specs.Questions.{sameNumbers};
 ghost use Rattle.refusals.specs.Table.{lengthsRow, limitOrToleranceRow, anglesRow, fixedRow, misclosuresRow};
@@ -94,23 +97,25 @@ pub fn results_verdict(angles: &[u32], corrections: &[i32]) -> Verdict
     }
 }
 
-// Number 8.
-pub fn sine_entries_verdict(log_sines: &[u32], differences: &[i32]) -> Verdict
-    ensures { λ verdict. ⌜ verdict ≡ verdictOf (sineEntriesRow (now («log_sines» .entry)) (now (differences .entry))) ⌝ }
+// Number 8, of the angles' entries and then of the known log sides.
+pub fn sine_entries_verdict(log_sines: &[u32], log_sides: &[u32], differences: &[i32]) -> Verdict
+    ensures { λ verdict.
+        ⌜ verdict ≡ verdictOf (sineEntriesRow (now («log_sines» .entry) ++ now («log_sides» .entry)) (now (differences .entry))) ⌝ }
 {
-    match lowest_entry_outside(log_sines, differences) {
+    match lowest_entry_outside(log_sines, log_sides, differences) {
         Lowest::Nowhere => Verdict::Passed,
         Lowest::At(place) => Verdict::Failed(Refusal::SineEntryOutOfRange(place)),
     }
 }
 
-// Number 10.
-pub fn squares_verdict(squares: i64) -> Verdict
-    ensures { λ verdict. ⌜ verdict ≡ verdictOf (sumOfSquaresRow squares) ⌝ }
+// Number 10, of S or a determinant as two words.
+pub fn squares_verdict(high: u64, low: u64) -> Verdict
+    ensures { λ verdict. ⌜ verdict ≡ verdictOf (sumOfSquaresRow (pos (high * 2 ^ 64 + low))) ⌝ }
 {
-    if squares == 0 {
-        Verdict::Failed(Refusal::SumOfSquaresIsZero)
-    } else {
-        Verdict::Passed
+    if high == 0 {
+        if low == 0 {
+            return Verdict::Failed(Refusal::SumOfSquaresIsZero);
+        }
     }
+    Verdict::Passed
 }

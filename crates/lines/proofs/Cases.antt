@@ -78,9 +78,10 @@ secondPrinted =
     -- condition 3 -1
     ∷ 99 ∷ 111 ∷ 110 ∷ 100 ∷ 105 ∷ 116 ∷ 105 ∷ 111 ∷ 110 ∷ 32 ∷ 51 ∷ 32 ∷ 45 ∷ 49 ∷ 10 ∷ []
 
-pub second-sheet : secondText Quadrilateral (pos 100) (pos 24315176)
+pub second-sheet : secondText Quadrilateral (pos 100) (pos 0) (pos 24315176)
     (vector (pos 1620000 ∷ pos 1620000 ∷ pos 1620000 ∷ pos 1620000 ∷ pos 1620000 ∷ pos 1620000 ∷ pos 1620000 ∷ pos 1620000 ∷ []))
     (vector (pos 2049 ∷ negsuc 1702 ∷ pos 1483 ∷ negsuc 1828 ∷ pos 1977 ∷ negsuc 1630 ∷ pos 1415 ∷ negsuc 1760 ∷ []))
+    (vector [])
     (vector (negsuc 163919999 ∷ pos 136240000 ∷ negsuc 118639999 ∷ pos 146320000 ∷ negsuc 158159999 ∷ pos 130480000 ∷ negsuc 113199999 ∷ pos 140880000 ∷ []))
     (vector (negsuc 6 ∷ pos 6 ∷ negsuc 4 ∷ pos 6 ∷ negsuc 6 ∷ pos 5 ∷ negsuc 4 ∷ pos 6 ∷ []))
     (vector (pos 1619993 ∷ pos 1620006 ∷ pos 1619995 ∷ pos 1620006 ∷ pos 1619993 ∷ pos 1620005 ∷ pos 1619995 ∷ pos 1620006 ∷ []))

@@ -1,6 +1,6 @@
 -- Texts laid one after the other, and how lines and tables are made of them. Assumes nothing.
 use mathlib.Core.Path.{_≡_, refl, sym, ap, _∙_, subst}
-use mathlib.Core.List.{List, [], _∷_, _++_, map, append-assoc, append-nil}
+use mathlib.Core.List.{List, [], _∷_, _++_, append-assoc, append-nil}
 use Prim.Native.Nat.{ℕ, zero, suc, _+_, _^_, _≤_, _<_}
 use native.Mathlib.Numerals.{add-one}
 use native.Mathlib.Omega.{arith}
@@ -11,12 +11,12 @@ use mir.Syntax.{w64}
 use mir.Val.{toZ, ofZ}
 use mir.Facts.{toZ-ofZ}
 use Rattle.whole.specs.Lists.{listed}
-use Rattle.whole.specs.Sums.{vector}
 use Rattle.text.specs.Text.{space, lineFeed, decimal, spaced, line, lines, laid, after}
 use Rattle.text.specs.Holds.{Holds}
 use Rattle.text.proofs.Laying.{holds-none, holds-more}
 use Rattle.text.proofs.Lines.{lines-listed}
-use Rattle.lines.specs.Lays.{Lays, numbersLine}
+use Rattle.lines.specs.Lays.{Lays, lineStart}
+use Rattle.lines.specs.Lines.{numbers}
 
 -- ---- One after the other
 
@@ -60,45 +60,87 @@ module _ {f : ℕ → List (List ℕ)} {count : ℕ} {start : List ℕ} {from : 
   pub printing-all : count ≤ done → Lays (lines (listed count f)) start from buffer at
   printing-all h = let all : done ≡ count = omega arith in lays-as (ap (λ (k : ℕ). lines (listed k f)) all) (so-far .text)
 
--- ---- Joined texts
+-- ---- The parts of a line
 
--- f 0, f 1, .., f (n − 1), one after the other
-unfoldable pub joined : ℕ → (ℕ → List ℕ) → List ℕ
-joined zero f = []
-joined (suc n) f = joined n f ++ f n
-
--- one more, as a loop lays it
-pub joined-more : (n : ℕ) (f : ℕ → List ℕ) → joined n f ++ f n ≡ joined (n + 1) f
-unfolding joined
-joined-more n f = sym (ap (λ (k : ℕ). joined k f) (add-one n))
-
-joined-front : (n : ℕ) (f : ℕ → List ℕ) → joined (suc n) f ≡ f 0 ++ joined n (λ i. f (suc i))
-unfolding joined
-joined-front zero f = sym (append-nil (f 0))
-joined-front (suc n) f =
-    ap (λ (l : List ℕ). l ++ f (suc n)) (joined-front n f) ∙ append-assoc (f 0) (joined n (λ i. f (suc i))) (f (suc n))
+start-more : (ps qs : List (List ℕ)) → lineStart ps ++ lineStart qs ≡ lineStart (ps ++ qs)
+unfolding lineStart
+start-more [] qs = refl
+start-more (p ∷ ps) qs =
+    append-assoc p (space ∷ lineStart ps) (lineStart qs) ∙ ap (λ (l : List ℕ). p ++ (space ∷ l)) (start-more ps qs)
 
 -- a part, and the rest of its line
-pub line-more : (p q : List ℕ) (ps : List (List ℕ)) → line (p ∷ q ∷ ps) ≡ p ++ (space ∷ line (q ∷ ps))
+line-more : (p q : List ℕ) (ps : List (List ℕ)) → line (p ∷ q ∷ ps) ≡ p ++ (space ∷ line (q ∷ ps))
 unfolding line spaced
 line-more p q ps = append-assoc p (space ∷ spaced (q ∷ ps)) (lineFeed ∷ [])
 
--- a line of numbers: each but the last with a space after it, and the last with the line feed
+start-line : (ps : List (List ℕ)) (q : List ℕ) (qs : List (List ℕ)) → lineStart ps ++ line (q ∷ qs) ≡ line (ps ++ (q ∷ qs))
+unfolding lineStart
+start-line [] q qs = refl
+start-line (p ∷ []) q qs = append-assoc p (space ∷ []) (line (q ∷ qs)) ∙ sym (line-more p q qs)
+start-line (p ∷ r ∷ ps) q qs =
+    append-assoc p (space ∷ lineStart (r ∷ ps)) (line (q ∷ qs)) ∙ ap (λ (l : List ℕ). p ++ (space ∷ l)) (start-line (r ∷ ps) q qs)
+    ∙ sym (line-more p r (ps ++ (q ∷ qs)))
 
-numbers-line : (n : ℕ) (v : ℕ → ℤ) → joined n (λ i. decimal (v i) ++ (space ∷ [])) ++ (decimal (v n) ++ (lineFeed ∷ [])) ≡ line (map decimal (listed (suc n) v))
-unfolding joined line spaced listed
-numbers-line zero v = refl
-numbers-line (suc n) v =
-    ap (λ (l : List ℕ). l ++ (decimal (v (suc n)) ++ (lineFeed ∷ []))) (joined-front n (λ i. decimal (v i) ++ (space ∷ [])))
-    ∙ append-assoc (decimal (v 0) ++ (space ∷ [])) (joined n (λ i. decimal (v (suc i)) ++ (space ∷ []))) (decimal (v (suc n)) ++ (lineFeed ∷ []))
-    ∙ append-assoc (decimal (v 0)) (space ∷ []) (joined n (λ i. decimal (v (suc i)) ++ (space ∷ [])) ++ (decimal (v (suc n)) ++ (lineFeed ∷ [])))
-    ∙ ap (λ (l : List ℕ). decimal (v 0) ++ (space ∷ l)) (numbers-line n (λ i. v (suc i)))
-    ∙ sym (line-more (decimal (v 0)) (decimal (v 1)) (map decimal (listed n (λ i. v (suc (suc i))))))
+-- one part with the space after it, and the rest of its line
+pub part-line : (p q : List ℕ) (ps : List (List ℕ)) → (p ++ (space ∷ [])) ++ line (q ∷ ps) ≡ line (p ∷ q ∷ ps)
+unfolding lineStart
+part-line p q ps = start-line (p ∷ []) q ps
 
-pub numbers-laid : (n : ℕ) (values : List ℤ)
-    → joined n (λ i. decimal (vector values i) ++ (space ∷ [])) ++ (decimal (vector values n) ++ (lineFeed ∷ [])) ≡ numbersLine (n + 1) values
-unfolding numbersLine
-numbers-laid n values = numbers-line n (vector values) ∙ ap (λ (k : ℕ). line (map decimal (listed k (vector values)))) (sym (add-one n))
+-- how a line begins, and what stands after that on the line
+module _ {buffer buffer′ buffer″ : List ℕ} {at at′ at″ : ℕ} where
+  pub lays-parts : (ps qs : List (List ℕ)) → Lays (lineStart ps) buffer at buffer′ at′ → Lays (lineStart qs) buffer′ at′ buffer″ at″
+      → Lays (lineStart (ps ++ qs)) buffer at buffer″ at″
+  lays-parts ps qs first second = lays-as (start-more ps qs) (lays-then first second)
+
+  pub lays-line : (ps : List (List ℕ)) (q : List ℕ) (qs : List (List ℕ)) → Lays (lineStart ps) buffer at buffer′ at′
+      → Lays (line (q ∷ qs)) buffer′ at′ buffer″ at″ → Lays (line (ps ++ (q ∷ qs))) buffer at buffer″ at″
+  lays-line ps q qs first second = lays-as (start-line ps q qs) (lays-then first second)
+
+-- a part with the byte after it
+module _ (p : List ℕ) {buffer buffer′ : List ℕ} {at at′ : ℕ} where
+  pub part-start : Lays (p ++ (space ∷ [])) buffer at buffer′ at′ → Lays (lineStart (p ∷ [])) buffer at buffer′ at′
+  unfolding lineStart
+  part-start lays = lays
+
+  pub part-last : Lays (p ++ (lineFeed ∷ [])) buffer at buffer′ at′ → Lays (line (p ∷ [])) buffer at buffer′ at′
+  unfolding line spaced
+  part-last lays = lays
+
+-- one number more, as a loop lays it
+numbers-more : (n : ℕ) (v : ℕ → ℤ) → numbers (listed n v) ++ (decimal (v n) ∷ []) ≡ numbers (listed (n + 1) v)
+unfolding listed
+numbers-more n v = go n v ∙ ap (λ (k : ℕ). numbers (listed k v)) (sym (add-one n))
+  where
+    go : (n : ℕ) (v : ℕ → ℤ) → numbers (listed n v) ++ (decimal (v n) ∷ []) ≡ numbers (listed (suc n) v)
+    go zero v = refl
+    go (suc n) v = ap (λ (l : List (List ℕ)). decimal (v 0) ∷ l) (go n (λ i. v (suc i)))
+
+-- and the last, with the byte that ends them
+start-ended : (ps : List (List ℕ)) (q : List ℕ) (end : ℕ) → lineStart ps ++ (q ++ (end ∷ [])) ≡ spaced (ps ++ (q ∷ [])) ++ (end ∷ [])
+unfolding lineStart spaced
+start-ended [] q end = refl
+start-ended (p ∷ []) q end = append-assoc p (space ∷ []) (q ++ (end ∷ [])) ∙ sym (append-assoc p (space ∷ q) (end ∷ []))
+start-ended (p ∷ r ∷ ps) q end =
+    append-assoc p (space ∷ lineStart (r ∷ ps)) (q ++ (end ∷ []))
+    ∙ ap (λ (l : List ℕ). p ++ (space ∷ l)) (start-ended (r ∷ ps) q end)
+    ∙ sym (append-assoc p (space ∷ spaced (r ∷ (ps ++ (q ∷ [])))) (end ∷ []))
+
+module _ (n : ℕ) (v : ℕ → ℤ) where
+  pub number-started : lineStart (numbers (listed n v)) ++ (decimal (v n) ++ (space ∷ [])) ≡ lineStart (numbers (listed (n + 1) v))
+  unfolding lineStart
+  number-started = start-more (numbers (listed n v)) (decimal (v n) ∷ []) ∙ ap lineStart (numbers-more n v)
+
+  pub number-ended : (end : ℕ)
+      → lineStart (numbers (listed n v)) ++ (decimal (v n) ++ (end ∷ [])) ≡ spaced (numbers (listed (n + 1) v)) ++ (end ∷ [])
+  number-ended end =
+      start-ended (numbers (listed n v)) (decimal (v n)) end ∙ ap (λ (l : List (List ℕ)). spaced l ++ (end ∷ [])) (numbers-more n v)
+
+-- numbers that end in a space begin a line
+pub spaced-start : (p : List ℕ) (ps : List (List ℕ)) → spaced (p ∷ ps) ++ (space ∷ []) ≡ lineStart (p ∷ ps)
+unfolding lineStart spaced
+spaced-start p [] = refl
+spaced-start p (q ∷ ps) =
+    append-assoc p (space ∷ spaced (q ∷ ps)) (space ∷ []) ∙ ap (λ (l : List ℕ). p ++ (space ∷ l)) (spaced-start q ps)
 
 -- ---- The numbers of a line, as its array holds them
 
@@ -106,6 +148,6 @@ numbers-laid n values = numbers-line n (vector values) ∙ ap (λ (k : ℕ). lin
 pub answered : {r z : ℤ} → mag r < 2 ^ 63 → r ≡ z → toZ w64 (ofZ w64 r) ≡ z
 answered fits e = toZ-ofZ (record { sfits = fits }) ∙ e
 
-pub six-same : {a b c d e f a′ b′ c′ d′ e′ f′ : ℤ} → a ≡ a′ → b ≡ b′ → c ≡ c′ → d ≡ d′ → e ≡ e′ → f ≡ f′
-    → a ∷ b ∷ c ∷ d ∷ e ∷ f ∷ [] ≡ a′ ∷ b′ ∷ c′ ∷ d′ ∷ e′ ∷ f′ ∷ []
-six-same ea eb ec ed ee ef = cc
+pub five-same : {a b c d e a′ b′ c′ d′ e′ : ℤ} → a ≡ a′ → b ≡ b′ → c ≡ c′ → d ≡ d′ → e ≡ e′
+    → a ∷ b ∷ c ∷ d ∷ e ∷ [] ≡ a′ ∷ b′ ∷ c′ ∷ d′ ∷ e′ ∷ []
+five-same ea eb ec ed ee = cc

@@ -1,9 +1,10 @@
 -- How long the texts are at most: each line by the digits of its numbers, and so many lines as the largest figure has. Assumes nothing.
-use mathlib.Core.Bool.{Bool, _&&_}
+use mathlib.Core.Bool.{Bool, true, false, cond, _&&_}
 use mathlib.Core.List.{List, [], _∷_, _++_}
 use Prim.Native.Nat.{ℕ, _+_, _*_, _^_, _≤_, _<_}
+use native.Mathlib.Nat.{le-trans, lt-of-lt-of-le}
 use native.Mathlib.Omega.{arith}
-use lib.Dec.{T, ltb, ltb→lt, lit<}
+use lib.Dec.{T, ltb, leb, ltb→lt, leb→le, lit<}
 use lib.IntN.{ℤ, pos, natAbs}
 use lib.ListN.{length, length-append}
 use Rattle.whole.specs.Lists.{listed}
@@ -11,12 +12,12 @@ use Rattle.whole.proofs.Computed.{and-left, and-right}
 use Rattle.refusals.specs.declared.Refusal.{Refusal}
 use Rattle.refusals.specs.Numbers.{numberOf, placeOf}
 use Rattle.figures.specs.declared.Figure.{Figure}
-use Rattle.figures.specs.Figure.{description, denominator, angleCount, conditionCount}
+use Rattle.figures.specs.Figure.{description, denominator, angleCount, conditionCount, hasSide}
 use Rattle.figures.proofs.Figures.{each-figure, angle-bound, condition-bound}
 use Rattle.text.specs.Text.{decimal, line, lines}
 use Rattle.text.proofs.Numbers.{length-decimal, length-positive}
 use Rattle.text.proofs.Lines.{lines-append, length-line, length-lines}
-use Rattle.lines.specs.Lines.{figureWord, denominatorWord, wWord, sWord, conditionWord, refusedWord, numbers, firstFigure, firstAngle, firstCondition, firstLines, firstText, secondFigure, secondAngle, secondCondition, secondLines, secondText, refusedLines, refusedText, longestText}
+use Rattle.lines.specs.Lines.{figureWord, denominatorWord, wWord, sWord, determinantWord, conditionWord, refusedWord, numbers, figureNamed, divisorWords, coefficients, firstFigure, firstAngle, firstCondition, firstLines, firstText, secondFigure, secondAngle, secondCondition, secondLines, secondText, refusedLines, refusedText, longestText}
 
 -- each of the first `count` numbers has at most so many digits
 abbrev pub Digits : (most count : ℕ) → (ℕ → ℤ) → Type 0
@@ -54,12 +55,6 @@ module _ (f : Figure) where
   first-figure-length =
       let all = length-line figureWord (decimal (pos (description f .code)) ∷ decimal (pos (description f .n)) ∷ denominatorWord ∷ decimal (pos (denominator f)) ∷ []) in
       omega (arith, all, code-digits, n-digits, denominator-digits)
-
-  second-figure-length : (w s : ℤ) → natAbs w < 10 ^ 6 → natAbs s < 10 ^ 18 → length (line (secondFigure f w s)) ≤ 43
-  unfolding figureWord wWord sWord
-  second-figure-length w s hw hs =
-      let all = length-line figureWord (decimal (pos (description f .code)) ∷ decimal (pos (description f .n)) ∷ wWord ∷ decimal w ∷ sWord ∷ decimal s ∷ []) in
-      omega (arith, all, code-digits, n-digits, length-decimal 6 w (lit< tt) hw, length-decimal 18 s (lit< tt) hs)
 
 -- ---- All lines
 
@@ -111,23 +106,73 @@ module _ (f : Figure) (given numerators rounded results misclosures rests : ℕ 
 
 -- ---- Kind 2
 
-module _ (f : Figure) (w s : ℤ) (given reduced numerators rounded results rests : ℕ → ℤ)
-    (w-fits : natAbs w < 10 ^ 6) (s-fits : natAbs s < 10 ^ 18)
-    (given-fit : Digits 7 (angleCount f) given) (reduced-fit : Digits 8 (angleCount f) reduced) (numerators-fit : Digits 17 (angleCount f) numerators)
+-- how many digits S has at most, and the determinant; and a numerator over the one and over the other
+abbrev pub divisorDigits : Figure → ℕ
+divisorDigits f = cond (hasSide f) 37 18
+
+abbrev pub numeratorDigits : Figure → ℕ
+numeratorDigits f = cond (hasSide f) 36 17
+
+decimal-by-side : (side : Bool) (two one : ℕ) (z : ℤ) → 0 < two → 0 < one
+    → natAbs z < 10 ^ cond side two one → length (decimal z) ≤ cond side two one + 1
+decimal-by-side true two one z some some′ h = length-decimal two z some h
+decimal-by-side false two one z some some′ h = length-decimal one z some′ h
+
+module _ (f : Figure) (w sideW divisor : ℤ) (w-short : length (decimal w) ≤ 7) (sideW-short : length (decimal sideW) ≤ 7) where
+  figure-by-side : (side : Bool) → length (decimal divisor) ≤ cond side 37 18 + 1
+      → length (line (figureNamed f (wWord ∷ decimal w ∷ (divisorWords side sideW ++ (decimal divisor ∷ []))))) ≤ cond side 80 43
+  unfolding figureWord wWord sWord determinantWord
+  figure-by-side true h =
+      let named = numbers (pos (description f .code) ∷ pos (description f .n) ∷ []) in
+      let all = length-line figureWord (named ++ (wWord ∷ decimal w ∷ decimal sideW ∷ determinantWord ∷ decimal divisor ∷ [])) in
+      omega (arith, all, code-digits f, n-digits f)
+  figure-by-side false h =
+      let named = numbers (pos (description f .code) ∷ pos (description f .n) ∷ []) in
+      let all = length-line figureWord (named ++ (wWord ∷ decimal w ∷ sWord ∷ decimal divisor ∷ [])) in
+      omega (arith, all, code-digits f, n-digits f)
+
+module _ (number given reduced sideReduced numerator rounded result : ℤ)
+    (number-short : length (decimal number) ≤ 2) (given-short : length (decimal given) ≤ 8)
+    (reduced-short : length (decimal reduced) ≤ 9) (sideReduced-short : length (decimal sideReduced) ≤ 9)
+    (rounded-short : length (decimal rounded) ≤ 9) (result-short : length (decimal result) ≤ 8) where
+  angle-by-side : (side : Bool) → length (decimal numerator) ≤ cond side 36 17 + 1
+      → length (line (numbers (number ∷ given ∷ (coefficients side reduced sideReduced ++ (numerator ∷ rounded ∷ result ∷ [])))))
+      ≤ cond side 89 60
+  angle-by-side true h =
+      omega (arith, length-line (decimal number) (numbers (given ∷ reduced ∷ sideReduced ∷ numerator ∷ rounded ∷ result ∷ [])))
+  angle-by-side false h =
+      omega (arith, length-line (decimal number) (numbers (given ∷ reduced ∷ numerator ∷ rounded ∷ result ∷ [])))
+
+-- a figure with a side condition has few angles for its long lines
+angles-few : (f : Figure) → angleCount f ≤ cond (hasSide f) 12 24
+angles-few f = leb→le (angleCount f) (cond (hasSide f) 12 24) (each-figure (λ g. leb (angleCount g) (cond (hasSide g) 12 24)) tt f)
+
+all-by-side : (side : Bool) (angles conditions : ℕ) → angles ≤ cond side 12 24 → conditions ≤ 9
+    → cond side 80 43 + (angles * cond side 89 60 + conditions * 16) ≤ longestText
+all-by-side true angles conditions few some = omega arith
+all-by-side false angles conditions few some = omega arith
+
+module _ (f : Figure) (w sideW divisor : ℤ) (given reduced sideReduced numerators rounded results rests : ℕ → ℤ)
+    (w-fits : natAbs w < 10 ^ 6) (sideW-fits : natAbs sideW < 10 ^ 6) (divisor-fits : natAbs divisor < 10 ^ divisorDigits f)
+    (given-fit : Digits 7 (angleCount f) given) (reduced-fit : Digits 8 (angleCount f) reduced)
+    (sideReduced-fit : Digits 8 (angleCount f) sideReduced) (numerators-fit : Digits (numeratorDigits f) (angleCount f) numerators)
     (rounded-fit : Digits 8 (angleCount f) rounded) (results-fit : Digits 7 (angleCount f) results) (rests-fit : Digits 1 (conditionCount f) rests) where
-  second-angle-length : (i : ℕ) → i < angleCount f → length (line (secondAngle given reduced numerators rounded results i)) ≤ 60
+  second-figure-length : length (line (secondFigure f w sideW divisor)) ≤ cond (hasSide f) 80 43
+  second-figure-length =
+      figure-by-side f w sideW divisor (length-decimal 6 w (lit< tt) w-fits) (length-decimal 6 sideW (lit< tt) sideW-fits) (hasSide f)
+      (decimal-by-side (hasSide f) 37 18 divisor (lit< tt) (lit< tt) divisor-fits)
+
+  second-angle-length : (i : ℕ) → i < angleCount f
+      → length (line (secondAngle f given reduced sideReduced numerators rounded results i)) ≤ cond (hasSide f) 89 60
   second-angle-length i h =
-      let all = length-line (decimal (pos (i + 1))) (numbers (given i ∷ reduced i ∷ numerators i ∷ rounded i ∷ results i ∷ [])) in
-      omega (
-        arith,
-        all,
-        number-digits i (omega (arith, angle-bound f)),
-        length-decimal 7 (given i) (lit< tt) (given-fit i h),
-        length-decimal 8 (reduced i) (lit< tt) (reduced-fit i h),
-        length-decimal 17 (numerators i) (lit< tt) (numerators-fit i h),
-        length-decimal 8 (rounded i) (lit< tt) (rounded-fit i h),
-        length-decimal 7 (results i) (lit< tt) (results-fit i h),
-      )
+      angle-by-side (pos (i + 1)) (given i) (reduced i) (sideReduced i) (numerators i) (rounded i) (results i)
+      (number-digits i (lt-of-lt-of-le h (angle-bound f)))
+      (length-decimal 7 (given i) (lit< tt) (given-fit i h))
+      (length-decimal 8 (reduced i) (lit< tt) (reduced-fit i h))
+      (length-decimal 8 (sideReduced i) (lit< tt) (sideReduced-fit i h))
+      (length-decimal 8 (rounded i) (lit< tt) (rounded-fit i h))
+      (length-decimal 7 (results i) (lit< tt) (results-fit i h))
+      (hasSide f) (decimal-by-side (hasSide f) 36 17 (numerators i) (lit< tt) (lit< tt) (numerators-fit i h))
 
   second-condition-length : (j : ℕ) → j < conditionCount f → length (line (secondCondition rests j)) ≤ 16
   unfolding conditionWord
@@ -135,11 +180,14 @@ module _ (f : Figure) (w s : ℤ) (given reduced numerators rounded results rest
       let all = length-line conditionWord (numbers (pos (j + 1) ∷ rests j ∷ [])) in
       omega (arith, all, number-digits j (omega (arith, condition-bound f)), length-decimal 1 (rests j) (lit< tt) (rests-fit j h))
 
-  pub second-length : length (secondText f w s given reduced numerators rounded results rests) ≤ longestText
+  pub second-length : length (secondText f w sideW divisor given reduced sideReduced numerators rounded results rests) ≤ longestText
   unfolding secondText secondLines
   second-length =
-      let all = text-length f (secondFigure f w s) (secondAngle given reduced numerators rounded results) (secondCondition rests) 43 60 16 (second-figure-length f w s w-fits s-fits) second-angle-length second-condition-length in
-      omega (arith, all, angle-bound f, condition-bound f)
+      le-trans
+      (text-length f (secondFigure f w sideW divisor) (secondAngle f given reduced sideReduced numerators rounded results)
+      (secondCondition rests) (cond (hasSide f) 80 43) (cond (hasSide f) 89 60) 16
+      second-figure-length second-angle-length second-condition-length)
+      (all-by-side (hasSide f) (angleCount f) (conditionCount f) (angles-few f) (condition-bound f))
 
 -- ---- Turned back
 

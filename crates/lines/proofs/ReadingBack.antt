@@ -1,7 +1,7 @@
 -- A printed text read back, line by line and part by part, gives the lines of the definitions, and each number on them the value it stands for: so no
 -- line can print another value. Assumes nothing.
-use mathlib.Core.Path.{_≡_, sym, ap, _∙_}
-use mathlib.Core.Bool.{Bool}
+use mathlib.Core.Path.{_≡_, refl, sym, ap, _∙_}
+use mathlib.Core.Bool.{Bool, true, false, cond}
 use mathlib.Core.List.{List, [], _∷_, _++_, map}
 use Prim.Native.Nat.{ℕ, zero, suc, _+_, _<_}
 use lib.Dec.{T}
@@ -13,12 +13,12 @@ use Rattle.whole.proofs.Lists.{length-listed, getD-listed}
 use Rattle.refusals.specs.declared.Refusal.{Refusal}
 use Rattle.refusals.specs.Numbers.{numberOf, placeOf}
 use Rattle.figures.specs.declared.Figure.{Figure}
-use Rattle.figures.specs.Figure.{description, denominator, angleCount, conditionCount}
+use Rattle.figures.specs.Figure.{description, denominator, angleCount, conditionCount, hasSide}
 use Rattle.text.specs.Text.{decimal, isWord, readNumber, readLines}
 use Rattle.text.proofs.Numbers.{decimal-word, decimal-words, read-decimal, read-decimals}
 use Rattle.text.proofs.Lines.{read-lines}
 use Rattle.text.proofs.Tests.{and-both, every-append}
-use Rattle.lines.specs.Lines.{figureWord, denominatorWord, wWord, sWord, conditionWord, refusedWord, numbers, figureNamed, firstFigure, firstAngle, firstCondition, firstLines, firstText, secondFigure, secondAngle, secondCondition, secondLines, secondText, refusedLines, refusedText}
+use Rattle.lines.specs.Lines.{figureWord, denominatorWord, wWord, sWord, determinantWord, conditionWord, refusedWord, numbers, figureNamed, firstFigure, firstAngle, firstCondition, firstLines, firstText, divisorWords, coefficients, secondFigure, secondAngle, secondCondition, secondLines, secondText, refusedLines, refusedText}
 
 -- ---- Every part is a word
 
@@ -108,43 +108,107 @@ module _ (f : Figure) (given numerators rounded results misclosures rests : ℕ 
 
 -- ---- Kind 2
 
-module _ (f : Figure) (w s : ℤ) (given reduced numerators rounded results rests : ℕ → ℤ) where
-  second-words : T (every (every isWord) (secondLines f w s given reduced numerators rounded results rests))
-  unfolding secondLines wWord sWord
+divisor-words : (side : Bool) (sideW divisor : ℤ) → T (every isWord (divisorWords side sideW ++ (decimal divisor ∷ [])))
+unfolding sWord determinantWord
+divisor-words false sideW divisor = word-then sWord (decimal divisor ∷ []) tt (number-then divisor [] tt)
+divisor-words true sideW divisor =
+    number-then sideW (determinantWord ∷ decimal divisor ∷ [])
+    (word-then determinantWord (decimal divisor ∷ []) tt (number-then divisor [] tt))
+
+-- which part of the figure's line the divisor is
+divisor-part : (side : Bool) (f : Figure) (w sideW divisor : ℤ)
+    → getD (figureNamed f (wWord ∷ decimal w ∷ (divisorWords side sideW ++ (decimal divisor ∷ [])))) (cond side 7 6) [] ≡ decimal divisor
+divisor-part false f w sideW divisor = refl
+divisor-part true f w sideW divisor = refl
+
+module _ (f : Figure) (w sideW divisor : ℤ) (given reduced sideReduced numerators rounded results rests : ℕ → ℤ) where
+  -- the text, and the numbers of an angle's line
+  abbrev text : List ℕ
+  text = secondText f w sideW divisor given reduced sideReduced numerators rounded results rests
+
+  abbrev angleNumbers : ℕ → List ℤ
+  angleNumbers i =
+      pos (i + 1) ∷ given i ∷ (coefficients (hasSide f) (reduced i) (sideReduced i) ++ (numerators i ∷ rounded i ∷ results i ∷ []))
+
+  abbrev angleParts : ℕ → List (List ℕ)
+  angleParts = secondAngle f given reduced sideReduced numerators rounded results
+
+  second-words : T (every (every isWord) (secondLines f w sideW divisor given reduced sideReduced numerators rounded results rests))
+  unfolding secondLines wWord
   second-words =
-      all-words (angleCount f) (conditionCount f) (secondFigure f w s) (secondAngle given reduced numerators rounded results) (secondCondition rests)
-      (figure-words f (wWord ∷ decimal w ∷ sWord ∷ decimal s ∷ [])
-      (word-then wWord (decimal w ∷ sWord ∷ decimal s ∷ []) tt (number-then w (sWord ∷ decimal s ∷ []) (word-then sWord (decimal s ∷ []) tt (number-then s [] tt)))))
-      (λ i. decimal-words (pos (i + 1) ∷ given i ∷ reduced i ∷ numerators i ∷ rounded i ∷ results i ∷ []))
+      let divided = divisorWords (hasSide f) sideW ++ (decimal divisor ∷ []) in
+      all-words (angleCount f) (conditionCount f) (secondFigure f w sideW divisor) angleParts (secondCondition rests)
+      (figure-words f (wWord ∷ decimal w ∷ divided)
+      (word-then wWord (decimal w ∷ divided) tt (number-then w divided (divisor-words (hasSide f) sideW divisor))))
+      (λ i. decimal-words (angleNumbers i))
       (λ j. condition-words (pos (j + 1) ∷ rests j ∷ []))
 
-  pub second-read : readLines (secondText f w s given reduced numerators rounded results rests) ≡ secondLines f w s given reduced numerators rounded results rests
+  pub second-read : readLines text ≡ secondLines f w sideW divisor given reduced sideReduced numerators rounded results rests
   unfolding secondText
-  second-read = read-lines (secondLines f w s given reduced numerators rounded results rests) second-words
+  second-read = read-lines (secondLines f w sideW divisor given reduced sideReduced numerators rounded results rests) second-words
+
+  pub second-figure-read : lineAt text 0 ≡ secondFigure f w sideW divisor
+  unfolding secondLines
+  second-figure-read = ap (λ (l : List (List (List ℕ))). getD l 0 []) second-read
 
   pub second-angle-read : (i : ℕ) → i < angleCount f
-      → numbersFrom 0 (lineAt (secondText f w s given reduced numerators rounded results rests) (suc i)) ≡ pos (i + 1) ∷ given i ∷ reduced i ∷ numerators i ∷ rounded i ∷ results i ∷ []
+      → numbersFrom 0 (lineAt text (suc i))
+      ≡ pos (i + 1) ∷ given i ∷ (coefficients (hasSide f) (reduced i) (sideReduced i) ++ (numerators i ∷ rounded i ∷ results i ∷ []))
   unfolding secondLines
   second-angle-read i h =
       ap (λ (l : List (List (List ℕ))). numbersFrom 0 (getD l (suc i) [])) second-read
-      ∙ ap (numbersFrom 0) (angle-line (angleCount f) (conditionCount f) (secondFigure f w s) (secondAngle given reduced numerators rounded results) (secondCondition rests) i h)
-      ∙ read-decimals (pos (i + 1) ∷ given i ∷ reduced i ∷ numerators i ∷ rounded i ∷ results i ∷ [])
+      ∙ ap (numbersFrom 0)
+      (angle-line (angleCount f) (conditionCount f) (secondFigure f w sideW divisor) angleParts (secondCondition rests) i h)
+      ∙ read-decimals (angleNumbers i)
 
   pub second-condition-read : (j : ℕ) → j < conditionCount f
-      → numbersFrom 1 (lineAt (secondText f w s given reduced numerators rounded results rests) (suc (angleCount f + j))) ≡ pos (j + 1) ∷ rests j ∷ []
+      → numbersFrom 1 (lineAt text (suc (angleCount f + j))) ≡ pos (j + 1) ∷ rests j ∷ []
   unfolding secondLines
   second-condition-read j h =
       ap (λ (l : List (List (List ℕ))). numbersFrom 1 (getD l (suc (angleCount f + j)) [])) second-read
-      ∙ ap (numbersFrom 1) (condition-line (angleCount f) (conditionCount f) (secondFigure f w s) (secondAngle given reduced numerators rounded results) (secondCondition rests) j h)
+      ∙ ap (numbersFrom 1)
+      (condition-line (angleCount f) (conditionCount f) (secondFigure f w sideW divisor) angleParts (secondCondition rests) j h)
       ∙ read-decimals (pos (j + 1) ∷ rests j ∷ [])
 
-  pub w-read : readNumber (getD (lineAt (secondText f w s given reduced numerators rounded results rests) 0) 4 []) ≡ w
-  unfolding secondLines
-  w-read = ap (λ (l : List (List (List ℕ))). readNumber (getD (getD l 0 []) 4 [])) second-read ∙ read-decimal w
+  pub w-read : readNumber (getD (lineAt text 0) 4 []) ≡ w
+  w-read = ap (λ (l : List (List ℕ)). readNumber (getD l 4 [])) second-figure-read ∙ read-decimal w
 
-  pub s-read : readNumber (getD (lineAt (secondText f w s given reduced numerators rounded results rests) 0) 6 []) ≡ s
-  unfolding secondLines
-  s-read = ap (λ (l : List (List (List ℕ))). readNumber (getD (getD l 0 []) 6 [])) second-read ∙ read-decimal s
+  pub divisor-read : readNumber (getD (lineAt text 0) (cond (hasSide f) 7 6) []) ≡ divisor
+  divisor-read =
+      ap (λ (l : List (List ℕ)). readNumber (getD l (cond (hasSide f) 7 6) [])) second-figure-read
+      ∙ ap readNumber (divisor-part (hasSide f) f w sideW divisor) ∙ read-decimal divisor
+
+  -- with a side condition or without
+  read-as : (side : Bool) → hasSide f ≡ side
+      → lineAt text 0 ≡ figureNamed f (wWord ∷ decimal w ∷ (divisorWords side sideW ++ (decimal divisor ∷ [])))
+  read-as side e =
+      second-figure-read ∙ ap (λ (b : Bool). figureNamed f (wWord ∷ decimal w ∷ (divisorWords b sideW ++ (decimal divisor ∷ [])))) e
+
+  angle-read-as : (side : Bool) → hasSide f ≡ side → (i : ℕ) → i < angleCount f
+      → numbersFrom 0 (lineAt text (suc i))
+      ≡ pos (i + 1) ∷ given i ∷ (coefficients side (reduced i) (sideReduced i) ++ (numerators i ∷ rounded i ∷ results i ∷ []))
+  angle-read-as side e i h =
+      let last = numerators i ∷ rounded i ∷ results i ∷ [] in
+      second-angle-read i h ∙ ap (λ (b : Bool). pos (i + 1) ∷ given i ∷ (coefficients b (reduced i) (sideReduced i) ++ last)) e
+
+  -- the lines of document 01
+  module _ (one : hasSide f ≡ false) where
+    pub one-figure-read : lineAt text 0 ≡ figureNamed f (wWord ∷ decimal w ∷ sWord ∷ decimal divisor ∷ [])
+    one-figure-read = read-as false one
+
+    pub one-angle-read : (i : ℕ) → i < angleCount f
+        → numbersFrom 0 (lineAt text (suc i)) ≡ pos (i + 1) ∷ given i ∷ reduced i ∷ numerators i ∷ rounded i ∷ results i ∷ []
+    one-angle-read = angle-read-as false one
+
+  -- the lines of M-100
+  module _ (two : hasSide f ≡ true) where
+    pub two-figure-read : lineAt text 0 ≡ figureNamed f (wWord ∷ decimal w ∷ decimal sideW ∷ determinantWord ∷ decimal divisor ∷ [])
+    two-figure-read = read-as true two
+
+    pub two-angle-read : (i : ℕ) → i < angleCount f
+        → numbersFrom 0 (lineAt text (suc i))
+        ≡ pos (i + 1) ∷ given i ∷ reduced i ∷ sideReduced i ∷ numerators i ∷ rounded i ∷ results i ∷ []
+    two-angle-read = angle-read-as true two
 
 -- ---- Turned back
 

@@ -1,57 +1,42 @@
 -- What the functions lay, piece by piece, are the lines of the definitions. Assumes nothing.
-use mathlib.Core.Path.{_≡_, sym, ap, _∙_}
-use mathlib.Core.List.{List, [], _∷_, _++_, append-assoc, append-nil}
+use mathlib.Core.Path.{_≡_, refl, sym, ap, _∙_}
+use mathlib.Core.Bool.{Bool, true, false, Bool·beq}
+use mathlib.Core.List.{List, [], _∷_, _++_, append-nil}
 use Prim.Native.Nat.{ℕ, _≤_}
 use native.Mathlib.Omega.{arith}
+use lib.Dec.{T, ltb}
 use lib.IntN.{ℤ, pos}
 use Rattle.whole.specs.Lists.{listed}
 use Rattle.refusals.specs.declared.Refusal.{Refusal}
 use Rattle.refusals.specs.Numbers.{numberOf, placeOf}
 use Rattle.figures.specs.declared.Figure.{Figure}
 use Rattle.figures.specs.declared.Counts.{Counts}
-use Rattle.figures.specs.Figure.{description, denominator, angleCount, conditionCount, countsOf}
-use Rattle.figures.proofs.Figures.{angle-bound, condition-bound}
+use Rattle.figures.specs.Figure.{angleCount, conditionCount, sideCount, hasSide, countsOf}
+use Rattle.figures.proofs.Figures.{each-figure, angle-bound, condition-bound}
 use Rattle.text.specs.Text.{space, lineFeed, decimal, spaced, line, lines}
 use Rattle.text.specs.Holds.{Holds}
 use Rattle.text.proofs.Lines.{lines-append}
-use Rattle.lines.specs.Lays.{Lays, numbersLine, figureStart}
-use Rattle.lines.specs.Lines.{figureWord, denominatorWord, wWord, sWord, refusedWord, figureNamed, firstFigure, secondFigure, refusedLines, refusedText}
-use Rattle.lines.proofs.Laid.{lays-then, lays-as, lays-start, line-more}
-
--- a part with the space after it, and the rest of its line
-pub part-line : (p q : List ℕ) (ps : List (List ℕ)) → (p ++ (space ∷ [])) ++ line (q ∷ ps) ≡ line (p ∷ q ∷ ps)
-part-line p q ps = append-assoc p (space ∷ []) (line (q ∷ ps)) ∙ sym (line-more p q ps)
+use Rattle.lines.specs.Lays.{Lays}
+use Rattle.lines.specs.Lines.{refusedWord, refusedLines, refusedText}
+use Rattle.lines.proofs.Laid.{lays-then, lays-as, lays-start, part-line}
 
 -- ---- The figure's line
 
 -- what fills the row of a line that has one number
 abbrev pub zeros : List ℤ
-zeros = pos 0 ∷ pos 0 ∷ pos 0 ∷ pos 0 ∷ pos 0 ∷ []
+zeros = pos 0 ∷ pos 0 ∷ pos 0 ∷ pos 0 ∷ []
 
-figure-line : (f : Figure) (q : List ℕ) (ps : List (List ℕ)) → figureStart f ++ line (q ∷ ps) ≡ line (figureNamed f (q ∷ ps))
-unfolding figureStart
-figure-line f q ps =
-    let code = decimal (pos (description f .code)) in
-    let n = decimal (pos (description f .n)) in
-    append-assoc (figureWord ++ (space ∷ [])) ((code ++ (space ∷ [])) ++ (n ++ (space ∷ []))) (line (q ∷ ps))
-    ∙ ap (λ (l : List ℕ). (figureWord ++ (space ∷ [])) ++ l)
-    (append-assoc (code ++ (space ∷ [])) (n ++ (space ∷ [])) (line (q ∷ ps)) ∙ ap (λ (l : List ℕ). (code ++ (space ∷ [])) ++ l) (part-line n q ps) ∙ part-line code n (q ∷ ps))
-    ∙ part-line figureWord code (n ∷ q ∷ ps)
+-- ---- A side condition
 
-pub first-figure : (f : Figure) (rest : List ℤ) → figureStart f ++ ((denominatorWord ++ (space ∷ [])) ++ numbersLine 1 (pos (denominator f) ∷ rest)) ≡ line (firstFigure f)
-unfolding numbersLine listed
-first-figure f rest =
-    ap (λ (l : List ℕ). figureStart f ++ l) (part-line denominatorWord (decimal (pos (denominator f))) [])
-    ∙ figure-line f denominatorWord (decimal (pos (denominator f)) ∷ [])
+same : (a b : Bool) → T (Bool·beq a b) → a ≡ b
+same true true t = refl
+same true false t = absurd t
+same false true t = absurd t
+same false false t = refl
 
-pub second-figure : (f : Figure) (w s : ℤ) (rest : List ℤ)
-    → figureStart f ++ ((wWord ++ (space ∷ [])) ++ ((decimal w ++ (space ∷ [])) ++ ((sWord ++ (space ∷ [])) ++ numbersLine 1 (s ∷ rest)))) ≡ line (secondFigure f w s)
-unfolding numbersLine listed
-second-figure f w s rest =
-    ap (λ (l : List ℕ). figureStart f ++ ((wWord ++ (space ∷ [])) ++ ((decimal w ++ (space ∷ [])) ++ l))) (part-line sWord (decimal s) [])
-    ∙ ap (λ (l : List ℕ). figureStart f ++ ((wWord ++ (space ∷ [])) ++ l)) (part-line (decimal w) sWord (decimal s ∷ []))
-    ∙ ap (λ (l : List ℕ). figureStart f ++ l) (part-line wWord (decimal w) (sWord ∷ decimal s ∷ []))
-    ∙ figure-line f wWord (decimal w ∷ sWord ∷ decimal s ∷ [])
+-- a figure has known sides where it has a side condition
+pub side-known : (f : Figure) → ltb 0 (sideCount f) ≡ hasSide f
+side-known f = same (ltb 0 (sideCount f)) (hasSide f) (each-figure (λ g. Bool·beq (ltb 0 (sideCount g)) (hasSide g)) tt f)
 
 -- ---- All lines
 

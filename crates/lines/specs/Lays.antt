@@ -1,24 +1,22 @@
 -- What a function does that lays one text more in a lent buffer; and pieces of text that are laid so.
-use mathlib.Core.List.{List, [], _∷_, _++_, map}
+use mathlib.Core.List.{List, [], _∷_, _++_}
 use Prim.Native.Nat.{ℕ}
-use lib.IntN.{ℤ, pos}
+use lib.IntN.{ℤ}
 use Rattle.whole.specs.Lists.{listed}
 use Rattle.whole.specs.Sums.{vector}
-use Rattle.text.specs.Text.{space, decimal, line}
+use Rattle.text.specs.Text.{space, spaced}
 use Rattle.text.specs.Holds.{Holds}
-use Rattle.figures.specs.declared.Figure.{Figure}
-use Rattle.figures.specs.Figure.{description}
-use Rattle.lines.specs.Lines.{figureWord}
+use Rattle.lines.specs.Lines.{numbers}
 
 -- Whatever was laid from the buffer's start up to a position, then it is laid there with s after it, up to the new position.
 pub record Lays (s buffer : List ℕ) (at : ℕ) (buffer′ : List ℕ) (at′ : ℕ) : Type 0 where
   pub more : (start t : List ℕ) → Holds start t buffer at → Holds start (t ++ s) buffer′ at′
 
--- a line of the first `count` of some numbers
-unfoldable pub numbersLine : (count : ℕ) → List ℤ → List ℕ
-numbersLine count values = line (map decimal (listed count (vector values)))
+-- how a line begins: these parts, each with the space after it
+unfoldable pub lineStart : List (List ℕ) → List ℕ
+lineStart [] = []
+lineStart (p ∷ ps) = p ++ (space ∷ lineStart ps)
 
--- how the figure's line begins
-unfoldable pub figureStart : Figure → List ℕ
-figureStart f =
-    (figureWord ++ (space ∷ [])) ++ ((decimal (pos (description f .code)) ++ (space ∷ [])) ++ (decimal (pos (description f .n)) ++ (space ∷ [])))
+-- the first `count` of some numbers, one space between, and the byte that ends them
+unfoldable pub numbersEnded : (count : ℕ) → List ℤ → (end : ℕ) → List ℕ
+numbersEnded count values end = spaced (numbers (listed count (vector values))) ++ (end ∷ [])

@@ -1,13 +1,18 @@
--- The lines that the program prints: document 01, "Sheets worked through". A line is given by its parts, words and numbers; `lines` puts one space
--- between the parts and one line feed after each line. What an angle or a condition has is used by its index, counted from 0; its number is one more.
+-- The lines that the program prints: document 01, "Sheets worked through", and M-100 for a figure with a side condition. A line is given
+-- by its parts, words and numbers; `lines` puts one space between the parts and one line feed after each line. What an angle or a condition
+-- has is used by its index, counted from 0; its number is one more.
+use mathlib.Core.Bool.{Bool, true, false}
 use mathlib.Core.List.{List, [], _∷_, _++_, map}
 use Prim.Native.Nat.{ℕ, _+_}
 use lib.IntN.{ℤ, pos}
+use lib.ListN.{getD}
 use Rattle.whole.specs.Lists.{listed}
+use Rattle.whole.specs.Sums.{vector}
+use Rattle.wide_words.specs.Words.{joined}
 use Rattle.refusals.specs.declared.Refusal.{Refusal}
 use Rattle.refusals.specs.Numbers.{numberOf, placeOf}
 use Rattle.figures.specs.declared.Figure.{Figure}
-use Rattle.figures.specs.Figure.{description, denominator, angleCount, conditionCount}
+use Rattle.figures.specs.Figure.{description, denominator, angleCount, conditionCount, hasSide}
 use Rattle.text.specs.Text.{decimal, lines}
 
 -- ---- The words, by the codes of their letters
@@ -27,6 +32,10 @@ wWord = 87 ∷ []
 -- S
 unfoldable pub sWord : List ℕ
 sWord = 83 ∷ []
+
+-- determinant
+unfoldable pub determinantWord : List ℕ
+determinantWord = 100 ∷ 101 ∷ 116 ∷ 101 ∷ 114 ∷ 109 ∷ 105 ∷ 110 ∷ 97 ∷ 110 ∷ 116 ∷ []
 
 -- condition
 unfoldable pub conditionWord : List ℕ
@@ -69,25 +78,40 @@ firstText f given numerators rounded results misclosures rests = lines (firstLin
 
 -- ---- Kind 2
 
-abbrev pub secondFigure : Figure → (w s : ℤ) → List (List ℕ)
-secondFigure f w s = figureNamed f (wWord ∷ decimal w ∷ sWord ∷ decimal s ∷ [])
+-- between W and the number that numerators stand over: the word S; of a side condition its misclosure, and then the word determinant
+abbrev pub divisorWords : (side : Bool) → (sideW : ℤ) → List (List ℕ)
+divisorWords false sideW = sWord ∷ []
+divisorWords true sideW = decimal sideW ∷ determinantWord ∷ []
 
--- an angle's line holds its number, the given angle, A, the numerator of the exact correction, the rounded correction and the result
-abbrev pub secondAngle : (given reduced numerators rounded results : ℕ → ℤ) → ℕ → List (List ℕ)
-secondAngle given reduced numerators rounded results i = numbers (pos (i + 1) ∷ given i ∷ reduced i ∷ numerators i ∷ rounded i ∷ results i ∷ [])
+-- the figure's line holds W and S, or both misclosures and the determinant
+abbrev pub secondFigure : Figure → (w sideW divisor : ℤ) → List (List ℕ)
+secondFigure f w sideW divisor = figureNamed f (wWord ∷ decimal w ∷ (divisorWords (hasSide f) sideW ++ (decimal divisor ∷ [])))
+
+-- A, and B of a side condition
+abbrev pub coefficients : (side : Bool) → (a b : ℤ) → List ℤ
+coefficients false a b = a ∷ []
+coefficients true a b = a ∷ b ∷ []
+
+-- an angle's line holds its number, the given angle, A or A and B, the numerator of the exact correction, the rounded correction and the
+-- result
+abbrev pub secondAngle : Figure → (given reduced sideReduced numerators rounded results : ℕ → ℤ) → ℕ → List (List ℕ)
+secondAngle f given reduced sideReduced numerators rounded results i =
+    numbers (pos (i + 1) ∷ given i ∷ (coefficients (hasSide f) (reduced i) (sideReduced i) ++ (numerators i ∷ rounded i ∷ results i ∷ [])))
 
 -- a condition's line holds its number and the rest
 abbrev pub secondCondition : (rests : ℕ → ℤ) → ℕ → List (List ℕ)
 secondCondition rests j = conditionWord ∷ numbers (pos (j + 1) ∷ rests j ∷ [])
 
-unfoldable pub secondLines : Figure → (w s : ℤ) → (given reduced numerators rounded results rests : ℕ → ℤ) → List (List (List ℕ))
-secondLines f w s given reduced numerators rounded results rests =
-    secondFigure f w s
-    ∷ listed (angleCount f) (secondAngle given reduced numerators rounded results)
+unfoldable pub secondLines : Figure → (w sideW divisor : ℤ) → (given reduced sideReduced numerators rounded results rests : ℕ → ℤ)
+    → List (List (List ℕ))
+secondLines f w sideW divisor given reduced sideReduced numerators rounded results rests =
+    secondFigure f w sideW divisor
+    ∷ listed (angleCount f) (secondAngle f given reduced sideReduced numerators rounded results)
     ++ listed (conditionCount f) (secondCondition rests)
 
-unfoldable pub secondText : Figure → (w s : ℤ) → (given reduced numerators rounded results rests : ℕ → ℤ) → List ℕ
-secondText f w s given reduced numerators rounded results rests = lines (secondLines f w s given reduced numerators rounded results rests)
+unfoldable pub secondText : Figure → (w sideW divisor : ℤ) → (given reduced sideReduced numerators rounded results rests : ℕ → ℤ) → List ℕ
+secondText f w sideW divisor given reduced sideReduced numerators rounded results rests =
+    lines (secondLines f w sideW divisor given reduced sideReduced numerators rounded results rests)
 
 -- ---- Turned back: number and place, alone
 
@@ -96,6 +120,12 @@ refusedLines refusal = (refusedWord ∷ numbers (pos (numberOf refusal) ∷ pos 
 
 unfoldable pub refusedText : Refusal → List ℕ
 refusedText refusal = lines (refusedLines refusal)
+
+-- ---- Numbers that do not fit one word
+
+-- each held as two words, in a list of the high words and one of the low words
+abbrev pub wideNumbers : (high : List ℤ) → (low : List ℕ) → ℕ → ℤ
+wideNumbers high low i = joined (vector high i) (getD low i 0)
 
 -- ---- The room for any text
 

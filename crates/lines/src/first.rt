@@ -52,7 +52,7 @@ fn put_figure_line(buffer: &mut [u8], figure: Figure) -> usize
         buffer,
         after_start,
         b"denominator ",
-        [denominator, 0, 0, 0, 0, 0],
+        [denominator, 0, 0, 0, 0],
         1,
     )
 }
@@ -99,9 +99,8 @@ fn put_angle(
         signed_at(numerators, i),
         signed_at(rounded, i),
         natural_at(results, i),
-        0,
     ];
-    put_numbers(buffer, at, numbers, 5)
+    put_numbers(buffer, at, numbers, 5, b'\n')
 }
 
 fn put_conditions(
@@ -136,13 +135,6 @@ fn put_condition(
         (now (buffer .entry)) at (now (buffer .exit)) next ⌝ }
 {
     let number = (j + 1) as i64;
-    let numbers = [
-        number,
-        signed_at(misclosures, j),
-        signed_at(rests, j),
-        0,
-        0,
-        0,
-    ];
+    let numbers = [number, signed_at(misclosures, j), signed_at(rests, j), 0, 0];
     put_line(buffer, at, b"condition ", numbers, 3)
 }

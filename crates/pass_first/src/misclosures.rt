@@ -9,7 +9,6 @@ ghost use Rattle.figures.specs.Figure.{angleCount, conditionCount, fixedCount, 
 ghost use Rattle.pass_rules.specs.FirstPass.{shouldBe, misclosuresOf};
 ghost use Rattle.pass_rules.specs.Pass.{given};
 ghost use Rattle.pass_steps.specs.Premises.{Within, Angles, mostTotal};
-use figure_tables::PointInTriangle;
 use figures::Figure;
 use figures::MOST_ANGLES;
 use pass_steps::condition_sums;
@@ -61,7 +60,7 @@ fn less_targets(figure: Figure, fixed: &[u32], w: &mut [i32])
     }
 }
 
-// What the angles of condition j should sum to, of a figure of so many conditions.
+// What the angles of condition j should sum to, of a figure of so many conditions. Code 2 has as many triangles as fixed angles.
 fn should_be(figure: Figure, fixed: &[u32], j: usize, conditions: usize) -> i32
     requires { ⌜ length (now fixed) ≡ fixedCount figure ⌝ }
     requires { ⌜ conditions ≡ conditionCount figure ⌝ }
@@ -71,11 +70,11 @@ fn should_be(figure: Figure, fixed: &[u32], j: usize, conditions: usize) -> i32
 {
     match figure {
         Figure::Quadrilateral => HALF_TURN,
-        Figure::PointInTriangle => {
-            if j < PointInTriangle::TRIANGLES {
+        Figure::PointInTriangle | Figure::PointInQuadrilateral => {
+            if j < fixed.len() {
                 HALF_TURN
             } else {
-                fixed[j - PointInTriangle::TRIANGLES] as i32
+                fixed[j - fixed.len()] as i32
             }
         }
         _ => {

@@ -12,6 +12,7 @@ use figure_tables::CentralOctagon;
 use figure_tables::CentralPentagon;
 use figure_tables::CentralQuadrilateral;
 use figure_tables::CentralTriangle;
+use figure_tables::PointInQuadrilateral;
 use figure_tables::PointInTriangle;
 use figure_tables::Quadrilateral;
 use figures::Figure;
@@ -26,6 +27,7 @@ pub(crate) fn rounded_into(figure: Figure, numerators: &[i32], rounded: &mut [i3
     match figure {
         Figure::Quadrilateral => over(Quadrilateral::D as u64, numerators, rounded),
         Figure::PointInTriangle => over(PointInTriangle::D as u64, numerators, rounded),
+        Figure::PointInQuadrilateral => over(PointInQuadrilateral::D as u64, numerators, rounded),
         Figure::CentralTriangle => over(CentralTriangle::D as u64, numerators, rounded),
         Figure::CentralQuadrilateral => over(CentralQuadrilateral::D as u64, numerators, rounded),
         Figure::CentralPentagon => over(CentralPentagon::D as u64, numerators, rounded),

@@ -1,6 +1,7 @@
--- The laws of both passes. `FirstAccepted` and `SecondAccepted` say what an accepted pass knows of its numbers, `Rests` that a rest is small, `SecondLaws` that
--- the second corrections open no condition, `StarredCases` the starred cases of document 01. `Refusals` and `PassRows` are on the orders, `ResultLengths` and
--- `WithinRange` on lengths and ranges.
+-- The laws of both passes. `FirstAccepted` and `SecondAccepted` say what an accepted pass knows of its numbers, `Rests` that a rest is
+-- small, `SecondLaws` that the second corrections open no condition and cancel each sine misclosure, `SineSums` what the sums are without
+-- known sides, `StarredCases` the starred cases of document 01. `Refusals` and `PassRows` are on the orders, `ResultLengths`, `SideCounts`
+-- and `WithinRange` on lengths, counts and ranges.
 pub mod FirstAccepted
 mod FirstExamples
 pub mod PassRows
@@ -10,5 +11,7 @@ pub mod ResultLengths
 pub mod SecondAccepted
 mod SecondExamples
 pub mod SecondLaws
+pub mod SideCounts
+pub mod SineSums
 pub mod StarredCases
 pub mod WithinRange

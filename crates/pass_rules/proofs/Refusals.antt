@@ -4,7 +4,6 @@ use mathlib.Core.List.{List}
 use mathlib.Core.Path.{_≡_, refl, sym, ap}
 use Prim.Native.Nat.{ℕ}
 use lib.Dec.{T}
-use lib.IntN.{ℤ}
 use Rattle.refusals.specs.declared.Refusal.{Refusal}
 use Rattle.refusals.specs.declared.Verdict.{Verdict}
 use Rattle.refusals.specs.declared.Verdict.the-variants.{Passed, Failed}
@@ -15,7 +14,7 @@ use Rattle.figures.specs.declared.Named.the-variants.{As, Nothing}
 use Rattle.figures.specs.Figure.{figureOf, ofNamed}
 use Rattle.pass_rules.specs.declared.second.SecondAnswer.the-variants.{Refused}
 use Rattle.pass_rules.specs.FirstPass.{firstRows, firstPassRows}
-use Rattle.pass_rules.specs.SecondPass.{sineMisclosure, sumOfSquares, secondRows, secondPassRows, secondPassVerdict, secondAnswerOf, secondPassAnswer, secondTold}
+use Rattle.pass_rules.specs.SecondPass.{SineEntries, secondRows, secondPassRows, secondPassVerdict, secondAnswerFor, secondPassAnswer, secondTold}
 use Rattle.pass_rules.proofs.PassRows.{rows-in-table, none-judged}
 
 module _ (code n limit : ℕ) (angles fixed lent : List ℕ) where
@@ -23,24 +22,24 @@ module _ (code n limit : ℕ) (angles fixed lent : List ℕ) where
   unfolding firstPassRows firstRows
   first-in-table = rows-in-table code n (λ f. firstRows f limit angles fixed lent) (λ f. tt)
 
-module _ (code n tolerance : ℕ) (angles logSines : List ℕ) (differences : List ℤ) (lent : List ℕ) where
-  pub second-in-table : T (allInTable (secondPassRows code n tolerance angles logSines differences lent))
+module _ (code n tolerance : ℕ) (angles : List ℕ) (e : SineEntries) (lent : List ℕ) where
+  pub second-in-table : T (allInTable (secondPassRows code n tolerance angles e lent))
   unfolding secondPassRows secondRows
-  second-in-table = rows-in-table code n (λ f. secondRows f tolerance angles logSines differences lent) (λ f. tt)
+  second-in-table = rows-in-table code n (λ f. secondRows f tolerance angles e lent) (λ f. tt)
 
   -- the answer tells what the verdict does
-  pub second-tells : secondTold (secondPassAnswer code n tolerance angles logSines differences lent)
-      ≡ verdictTold (secondPassVerdict code n tolerance angles logSines differences lent)
+  pub second-tells : secondTold (secondPassAnswer code n tolerance angles e lent)
+      ≡ verdictTold (secondPassVerdict code n tolerance angles e lent)
   unfolding secondPassAnswer secondPassVerdict secondPassRows
   second-tells = go (figureOf code n) refl
     where
       go : (m : Named) → figureOf code n ≡ m
           → secondTold (ofNamed m (Refused Refusal.NoSuchFigure)
-          (λ f. secondAnswerOf (secondPassVerdict code n tolerance angles logSines differences lent) (sineMisclosure f logSines) (sumOfSquares f differences)))
-          ≡ verdictTold (secondPassVerdict code n tolerance angles logSines differences lent)
-      go Nothing e = sym (ap verdictTold (none-judged code n (λ f. secondRows f tolerance angles logSines differences lent) e))
-      go (As f) e = by-verdict (secondPassVerdict code n tolerance angles logSines differences lent)
+          (λ f. secondAnswerFor f e (secondPassVerdict code n tolerance angles e lent)))
+          ≡ verdictTold (secondPassVerdict code n tolerance angles e lent)
+      go Nothing none = sym (ap verdictTold (none-judged code n (λ f. secondRows f tolerance angles e lent) none))
+      go (As f) one = by-verdict (secondPassVerdict code n tolerance angles e lent)
         where
-          by-verdict : (v : Verdict) → secondTold (secondAnswerOf v (sineMisclosure f logSines) (sumOfSquares f differences)) ≡ verdictTold v
+          by-verdict : (v : Verdict) → secondTold (secondAnswerFor f e v) ≡ verdictTold v
           by-verdict Passed = refl
           by-verdict (Failed refusal) = refl

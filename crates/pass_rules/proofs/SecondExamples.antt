@@ -12,11 +12,11 @@ use Rattle.refusals.specs.declared.Refusal.{Refusal}
 use Rattle.refusals.specs.Order.{answerOf, lowestPlace}
 use Rattle.figures.specs.declared.Figure.{Figure}
 use Rattle.figures.specs.declared.Figure.the-variants.{Quadrilateral, PointInTriangle, CentralQuadrilateral}
-use Rattle.figures.specs.Figure.{figureOf}
+use Rattle.figures.specs.Figure.{angleCount, figureOf}
 use Rattle.figures.specs.Numerators.{conditionSum, sumOver, numerator, reducedCoefficient}
 use Rattle.pass_rules.specs.declared.second.SecondAnswer.{SecondAnswer}
 use Rattle.pass_rules.specs.declared.second.SecondAnswer.the-variants.{Done, Refused}
-use Rattle.pass_rules.specs.SecondPass.{signedDifference, secondReduced, sumOfSquares, sineMisclosure, secondNumerator, secondRounded, secondAdjusted, secondRest, differenceSquares, reducedOf, secondNumeratorsOf, secondRoundedOf, adjustedOf, secondRestsOf, secondRows, secondPassRows, secondPassVerdict, secondPassAnswer}
+use Rattle.pass_rules.specs.SecondPass.{SineEntries, sineEntries, signedIn, reducedIn, misclosureIn, differenceSquaresIn, sumOfSquares, sideSquares, sharedProducts, divisor, secondNumerator, secondRounded, secondAdjusted, secondRest, reducedOf, secondRoundedOf, adjustedOf, secondRestsOf, secondRows, secondPassRows, secondPassVerdict, secondPassAnswer}
 use Rattle.pass_rules.proofs.StarredCases.{differences-6}
 
 abbrev minus : ℕ → ℤ
@@ -31,8 +31,7 @@ record Sheet : Type 0 where
   counts : List ℕ
   tolerance : ℕ
   angles : List ℕ
-  logSines : List ℕ
-  differences : List ℤ
+  entries : SineEntries
 
 abbrev sheet : (code n : ℕ) → (counts : List ℕ) → (tolerance : ℕ) → (angles logSines : List ℕ) → (differences : List ℤ) → Sheet
 sheet code n counts tolerance angles logSines differences = record {
@@ -41,12 +40,11 @@ sheet code n counts tolerance angles logSines differences = record {
   counts = counts;
   tolerance = tolerance;
   angles = angles;
-  logSines = logSines;
-  differences = differences;
+  entries = sineEntries logSines differences [];
 }
 
 abbrev lengthsOf : (angles conditions : ℕ) → List ℕ
-lengthsOf a c = a ∷ a ∷ a ∷ a ∷ a ∷ a ∷ a ∷ c ∷ []
+lengthsOf a c = a ∷ a ∷ a ∷ 0 ∷ a ∷ 0 ∷ a ∷ a ∷ a ∷ a ∷ c ∷ []
 
 abbrev quadrilateral : (tolerance first : ℕ) → (differences : List ℤ) → Sheet
 quadrilateral tolerance first = sheet 1 0 (lengthsOf 8 3) tolerance (first ∷ replicate 7 1620000) (98494950 ∷ replicate 7 98494850)
@@ -83,16 +81,16 @@ gives given answer = record { given = given; answer = answer }
 
 abbrev sheets : List Answered
 sheets =
-    gives printed (Done (pos 100) (pos 24315176))
+    gives printed (Done (pos 100) (pos 0) 0 24315176)
     -- case 9: all differences 0, with W 100 and with W 0
     ∷ gives (quadrilateral 10 1620000 (replicate 8 (pos 0))) (Refused Refusal.SumOfSquaresIsZero)
     ∷ gives (sheet 1 0 (lengthsOf 8 3) 10 (replicate 8 1620000) (replicate 8 98494850) (replicate 8 (pos 0))) (Refused Refusal.SumOfSquaresIsZero)
     ∷ gives (quadrilateral 51 1620000 differences-6) (Refused Refusal.LimitOrToleranceOutOfRange)
     -- a correction of −7 to an angle of 8, and of 7
-    ∷ gives (quadrilateral 0 8 differences-6) (Done (pos 100) (pos 24315176))
+    ∷ gives (quadrilateral 0 8 differences-6) (Done (pos 100) (pos 0) 0 24315176)
     ∷ gives (quadrilateral 0 7 differences-6) (Refused (Refusal.ResultOutOfRange 1))
-    ∷ gives in-triangle (Done (minus 150) (pos 85019520))
-    ∷ gives round-point (Done (pos 80) (pos 260614560))
+    ∷ gives in-triangle (Done (minus 150) (pos 0) 0 85019520)
+    ∷ gives round-point (Done (pos 80) (pos 0) 0 260614560)
     -- the largest W on either side, with the largest differences and tolerance
     ∷ gives (octagon (triangles 8 1 100000000 1) (triangles 8 (pos 0) (pos 9999) (pos 9999))) (Refused Refusal.SineMisclosureBeyondTolerance)
     ∷ gives (octagon (triangles 8 1 1 100000000) (triangles 8 (pos 0) (pos 9999) (pos 9999))) (Refused Refusal.SineMisclosureBeyondTolerance)
@@ -103,10 +101,10 @@ sheets =
     ∷ []
 
 abbrev answerTo : Sheet → SecondAnswer
-answerTo s = secondPassAnswer (s .code) (s .n) (s .tolerance) (s .angles) (s .logSines) (s .differences) (s .counts)
+answerTo s = secondPassAnswer (s .code) (s .n) (s .tolerance) (s .angles) (s .entries) (s .counts)
 
 answered : map (λ (a : Answered). answerTo (a .given)) sheets ≡ map (λ (a : Answered). a .answer) sheets
-unfolding secondPassAnswer secondPassVerdict secondPassRows figureOf secondRows answerOf lowestPlace listed sineMisclosure sumOfSquares differenceSquares signedDifference secondReduced secondNumerator secondRounded secondAdjusted reducedCoefficient numerator conditionSum sumOver applied dot sum roundedQuotient nearest
+unfolding secondPassAnswer secondPassVerdict secondPassRows figureOf secondRows answerOf lowestPlace listed misclosureIn sumOfSquares sideSquares sharedProducts divisor differenceSquaresIn signedIn reducedIn secondNumerator secondRounded secondAdjusted reducedCoefficient numerator conditionSum sumOver applied dot sum roundedQuotient nearest
 answered = refl
 
 -- ---- what the accepted sheets give
@@ -120,11 +118,11 @@ record Values : Type 0 where
 
 abbrev valuesOf : Figure → Sheet → Values
 valuesOf f s = record {
-  reduced = reducedOf f (s .differences);
-  numerators = secondNumeratorsOf f (s .logSines) (s .differences);
-  rounded = secondRoundedOf f (s .logSines) (s .differences);
-  results = adjustedOf f (s .angles) (s .logSines) (s .differences);
-  rests = secondRestsOf f (s .logSines) (s .differences);
+  reduced = reducedOf f (s .entries);
+  numerators = listed (angleCount f) (secondNumerator f (s .entries));
+  rounded = secondRoundedOf f (s .entries);
+  results = adjustedOf f (s .angles) (s .entries);
+  rests = secondRestsOf f (s .entries);
 }
 
 printed-worked : valuesOf Quadrilateral printed ≡ record {
@@ -135,7 +133,7 @@ printed-worked : valuesOf Quadrilateral printed ≡ record {
   results = 1619993 ∷ 1620006 ∷ 1619995 ∷ 1620006 ∷ 1619993 ∷ 1620005 ∷ 1619995 ∷ 1620006 ∷ [];
   rests = pos 0 ∷ minus 1 ∷ minus 1 ∷ [];
 }
-unfolding listed sineMisclosure sumOfSquares signedDifference secondReduced secondNumerator secondRounded secondAdjusted secondRest reducedCoefficient numerator conditionSum sumOver applied dot sum roundedQuotient nearest
+unfolding listed misclosureIn sumOfSquares sideSquares sharedProducts divisor signedIn reducedIn secondNumerator secondRounded secondAdjusted secondRest reducedCoefficient numerator conditionSum sumOver applied dot sum roundedQuotient nearest
 printed-worked = refl
 
 in-triangle-worked : valuesOf PointInTriangle in-triangle ≡ record {
@@ -146,7 +144,7 @@ in-triangle-worked : valuesOf PointInTriangle in-triangle ≡ record {
   results = 4319999 ∷ 1080007 ∷ 1079994 ∷ 4320000 ∷ 1080006 ∷ 1079993 ∷ 4320000 ∷ 1080007 ∷ 1079993 ∷ [];
   rests = pos 0 ∷ minus 1 ∷ pos 0 ∷ pos 0 ∷ pos 0 ∷ pos 0 ∷ [];
 }
-unfolding listed sineMisclosure sumOfSquares signedDifference secondReduced secondNumerator secondRounded secondAdjusted secondRest reducedCoefficient numerator conditionSum sumOver applied dot sum roundedQuotient nearest
+unfolding listed misclosureIn sumOfSquares sideSquares sharedProducts divisor signedIn reducedIn secondNumerator secondRounded secondAdjusted secondRest reducedCoefficient numerator conditionSum sumOver applied dot sum roundedQuotient nearest
 in-triangle-worked = refl
 
 round-point-worked : valuesOf CentralQuadrilateral round-point ≡ record {
@@ -160,5 +158,5 @@ round-point-worked : valuesOf CentralQuadrilateral round-point ≡ record {
       3240000 ∷ 1619997 ∷ 1620003 ∷ 3240000 ∷ 1619995 ∷ 1620004 ∷ 3240001 ∷ 1619997 ∷ 1620002 ∷ 3239999 ∷ 1619995 ∷ 1620006 ∷ [];
   rests = pos 0 ∷ minus 1 ∷ pos 0 ∷ pos 0 ∷ pos 0 ∷ [];
 }
-unfolding listed sineMisclosure sumOfSquares signedDifference secondReduced secondNumerator secondRounded secondAdjusted secondRest reducedCoefficient numerator conditionSum sumOver applied dot sum roundedQuotient nearest
+unfolding listed misclosureIn sumOfSquares sideSquares sharedProducts divisor signedIn reducedIn secondNumerator secondRounded secondAdjusted secondRest reducedCoefficient numerator conditionSum sumOver applied dot sum roundedQuotient nearest
 round-point-worked = refl

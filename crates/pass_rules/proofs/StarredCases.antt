@@ -12,10 +12,10 @@ use Rattle.refusals.specs.Numbers.{verdictTold}
 use Rattle.refusals.specs.Order.{verdictOf}
 use Rattle.refusals.specs.Table.{sineMisclosureRow}
 use Rattle.figures.specs.declared.Figure.the-variants.{Quadrilateral, PointInTriangle, CentralTriangle}
-use Rattle.figures.specs.Figure.{denominator}
+use Rattle.figures.specs.Figure.{denominator, pole}
 use Rattle.figures.specs.Numerators.{conditionSum, sumOver, numerator, reducedCoefficient}
 use Rattle.pass_rules.specs.FirstPass.{misclosure, firstNumerator, firstRounded, firstRest, misclosuresOf, numeratorsOf, roundedOf, restsOf}
-use Rattle.pass_rules.specs.SecondPass.{toleranceOf, signedDifference, secondReduced, sumOfSquares, differenceSquares, reducedOf}
+use Rattle.pass_rules.specs.SecondPass.{SineEntries, sineEntries, toleranceOf, signedIn, reducedIn, sumOfSquares, sideSquares, sharedProducts, divisor, differenceSquaresIn, reducedOf}
 
 abbrev minus : ℕ → ℤ
 minus n = negℤ (pos n)
@@ -43,9 +43,12 @@ angles-4 = 4320000 ∷ 1080006 ∷ 1080000 ∷ 4320000 ∷ 1080000 ∷ 1080000 �
 abbrev pub differences-6 : List ℤ
 differences-6 = pos 300 ∷ pos 169 ∷ pos 143 ∷ pos 271 ∷ pos 203 ∷ pos 248 ∷ pos 219 ∷ pos 178 ∷ []
 
+abbrev entries-6 : SineEntries
+entries-6 = sineEntries [] differences-6 []
+
 -- case 7: the number that row 9 gives for a W with these differences and e = 10, 0 where it passes
 abbrev numberNine : ℤ → ℤ
-numberNine w = pos (verdictTold (verdictOf (sineMisclosureRow (toleranceOf 10) w (differenceSquares Quadrilateral differences-6))) .number)
+numberNine w = pos (verdictTold (verdictOf (sineMisclosureRow (toleranceOf 10) w (differenceSquaresIn Quadrilateral (pole Quadrilateral) entries-6))) .number)
 
 -- ---- the table
 
@@ -76,14 +79,14 @@ starredCases =
     (minus 24 ∷ minus 42 ∷ minus 42 ∷ pos 12 ∷ minus 6 ∷ minus 6 ∷ pos 12 ∷ minus 6 ∷ minus 6 ∷ [])
     ∷ worked 4 (pos (denominator CentralTriangle) ∷ []) (pos 18 ∷ [])
     ∷ worked 5 (roundedQuotient (minus 12) 8 ∷ roundedQuotient (pos 4) 8 ∷ roundedQuotient (minus 42) 18 ∷ []) (minus 2 ∷ pos 1 ∷ minus 2 ∷ [])
-    ∷ worked 6 (listed 8 (signedDifference Quadrilateral differences-6))
+    ∷ worked 6 (listed 8 (signedIn (pole Quadrilateral) entries-6))
     (pos 300 ∷ minus 169 ∷ pos 143 ∷ minus 271 ∷ pos 203 ∷ minus 248 ∷ pos 219 ∷ minus 178 ∷ [])
-    ∷ worked 6 (reducedOf Quadrilateral differences-6)
+    ∷ worked 6 (reducedOf Quadrilateral entries-6)
     (pos 2049 ∷ minus 1703 ∷ pos 1483 ∷ minus 1829 ∷ pos 1977 ∷ minus 1631 ∷ pos 1415 ∷ minus 1761 ∷ [])
-    ∷ worked 6 (sumOfSquares Quadrilateral differences-6 ∷ []) (pos 24315176 ∷ [])
+    ∷ worked 6 (divisor Quadrilateral entries-6 ∷ []) (pos 24315176 ∷ [])
     ∷ worked 7 (map numberNine (pos 628 ∷ pos 629 ∷ [])) (pos 0 ∷ pos 9 ∷ [])
     ∷ []
 
 pub starred-cases : map (λ (c : Worked). c .computed) starredCases ≡ map (λ (c : Worked). c .stated) starredCases
-unfolding listed misclosure firstNumerator firstRounded firstRest signedDifference secondReduced sumOfSquares differenceSquares reducedCoefficient numerator conditionSum sumOver applied dot sum roundedQuotient nearest
+unfolding listed misclosure firstNumerator firstRounded firstRest signedIn reducedIn sumOfSquares sideSquares sharedProducts divisor differenceSquaresIn reducedCoefficient numerator conditionSum sumOver applied dot sum roundedQuotient nearest
 starred-cases = refl

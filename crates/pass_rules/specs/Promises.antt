@@ -11,7 +11,7 @@ use Rattle.figures.specs.declared.Figure.{Figure}
 use Rattle.figures.specs.Figure.{figureOf, ofNamed}
 use Rattle.pass_rules.specs.declared.second.SecondAnswer.{SecondAnswer}
 use Rattle.pass_rules.specs.FirstPass.{firstRows, firstPassRows, firstPassVerdict, misclosuresOf, numeratorsOf, roundedOf, correctedOf, restsOf}
-use Rattle.pass_rules.specs.SecondPass.{sineMisclosure, sumOfSquares, secondRows, secondPassRows, secondPassVerdict, secondAnswerOf, secondPassAnswer, reducedOf, secondNumeratorsOf, secondRoundedOf, adjustedOf, secondRestsOf}
+use Rattle.pass_rules.specs.SecondPass.{SineEntries, secondRows, secondPassRows, secondPassVerdict, secondAnswerFor, secondPassAnswer, reducedOf, sideReducedOf, highNumeratorsOf, lowNumeratorsOf, secondRoundedOf, adjustedOf, secondRestsOf}
 
 -- ---- the first pass
 
@@ -92,30 +92,28 @@ pub record SecondGiven : Type 0 where
   pub n : ℕ
   pub tolerance : ℕ
   pub angles : List ℕ
-  pub logSines : List ℕ
-  pub differences : List ℤ
+  pub entries : SineEntries
 
-abbrev pub secondGiven : (code n tolerance : ℕ) → (angles logSines : List ℕ) → (differences : List ℤ) → SecondGiven
-secondGiven code n tolerance angles logSines differences = record {
-  code = code;
-  n = n;
-  tolerance = tolerance;
-  angles = angles;
-  logSines = logSines;
-  differences = differences;
-}
+abbrev pub secondGiven : (code n tolerance : ℕ) → (angles : List ℕ) → SineEntries → SecondGiven
+secondGiven code n tolerance angles entries = record { code = code; n = n; tolerance = tolerance; angles = angles; entries = entries }
 
+-- A, B, the high and the low words of the numerators, rounded corrections, adjusted angles, rests
 pub record SecondLent : Type 0 where
   pub reduced : List ℤ
-  pub numerators : List ℤ
+  pub sideReduced : List ℤ
+  pub highNumerators : List ℤ
+  pub lowNumerators : List ℕ
   pub rounded : List ℤ
   pub adjusted : List ℕ
   pub rests : List ℤ
 
-abbrev pub secondLent : (reduced numerators rounded : List ℤ) → (adjusted : List ℕ) → (rests : List ℤ) → SecondLent
-secondLent reduced numerators rounded adjusted rests = record {
+abbrev pub secondLent : (reduced sideReduced highNumerators : List ℤ) → (lowNumerators : List ℕ) → (rounded : List ℤ) → (adjusted : List ℕ)
+    → (rests : List ℤ) → SecondLent
+secondLent reduced sideReduced highNumerators lowNumerators rounded adjusted rests = record {
   reduced = reduced;
-  numerators = numerators;
+  sideReduced = sideReduced;
+  highNumerators = highNumerators;
+  lowNumerators = lowNumerators;
   rounded = rounded;
   adjusted = adjusted;
   rests = rests;
@@ -124,38 +122,37 @@ secondLent reduced numerators rounded adjusted rests = record {
 -- the lengths of all slices, for number 2
 abbrev pub secondResultsLent : SecondLent → List ℕ
 secondResultsLent lent =
-    length (lent .reduced) ∷ length (lent .numerators) ∷ length (lent .rounded) ∷ length (lent .adjusted) ∷ length (lent .rests) ∷ []
+    length (lent .reduced) ∷ length (lent .sideReduced) ∷ length (lent .highNumerators) ∷ length (lent .lowNumerators)
+    ∷ length (lent .rounded) ∷ length (lent .adjusted) ∷ length (lent .rests) ∷ []
 
-abbrev pub secondSlices : (angles logSines : List ℕ) → (differences : List ℤ) → SecondLent → List ℕ
-secondSlices angles logSines differences lent = length angles ∷ length logSines ∷ length differences ∷ secondResultsLent lent
+abbrev pub secondSlices : (angles : List ℕ) → SineEntries → SecondLent → List ℕ
+secondSlices angles e lent =
+    length angles ∷ length (e .logSines) ∷ length (e .differences) ∷ length (e .logSides) ∷ secondResultsLent lent
 
 abbrev pub secondLengthsLent : SecondGiven → SecondLent → List ℕ
-secondLengthsLent given lent = secondSlices (given .angles) (given .logSines) (given .differences) lent
+secondLengthsLent given lent = secondSlices (given .angles) (given .entries) lent
 
 -- its order
 abbrev pub secondRowsOf : SecondGiven → SecondLent → List Row
 secondRowsOf given lent =
-    secondPassRows (given .code) (given .n) (given .tolerance) (given .angles) (given .logSines) (given .differences)
-    (secondLengthsLent given lent)
+    secondPassRows (given .code) (given .n) (given .tolerance) (given .angles) (given .entries) (secondLengthsLent given lent)
 
 abbrev pub secondVerdict : SecondGiven → SecondLent → Verdict
 secondVerdict given lent =
-    secondPassVerdict (given .code) (given .n) (given .tolerance) (given .angles) (given .logSines) (given .differences)
-    (secondLengthsLent given lent)
+    secondPassVerdict (given .code) (given .n) (given .tolerance) (given .angles) (given .entries) (secondLengthsLent given lent)
 
 abbrev pub secondAnswer : SecondGiven → SecondLent → SecondAnswer
 secondAnswer given lent =
-    secondPassAnswer (given .code) (given .n) (given .tolerance) (given .angles) (given .logSines) (given .differences)
-    (secondLengthsLent given lent)
+    secondPassAnswer (given .code) (given .n) (given .tolerance) (given .angles) (given .entries) (secondLengthsLent given lent)
 
 -- what a figure's sheet gives
-abbrev pub secondValuesOf : Figure → (angles logSines : List ℕ) → (differences : List ℤ) → SecondLent
-secondValuesOf f angles logSines differences =
-    secondLent (reducedOf f differences) (secondNumeratorsOf f logSines differences) (secondRoundedOf f logSines differences)
-    (adjustedOf f angles logSines differences) (secondRestsOf f logSines differences)
+abbrev pub secondValuesOf : Figure → (angles : List ℕ) → SineEntries → SecondLent
+secondValuesOf f angles e =
+    secondLent (reducedOf f e) (sideReducedOf f e) (highNumeratorsOf f e) (lowNumeratorsOf f e) (secondRoundedOf f e) (adjustedOf f angles e)
+    (secondRestsOf f e)
 
 abbrev pub secondValues : Figure → SecondGiven → SecondLent
-secondValues f given = secondValuesOf f (given .angles) (given .logSines) (given .differences)
+secondValues f given = secondValuesOf f (given .angles) (given .entries)
 
 -- everything lent in the end: the values of the figure that code and n name where no row holds, and else what it held
 abbrev pub secondLeft : SecondGiven → SecondLent → SecondLent
@@ -166,12 +163,11 @@ abbrev pub SecondPromise : SecondGiven → (entry : SecondLent) → (answer : Se
 SecondPromise given entry answer exit = Promised (secondAnswer given entry) (secondLeft given entry) answer exit
 
 -- of a figure that is named already: 2, 3, 4, 8, 10, 9, 7
-abbrev pub secondVerdictOf : Figure → (tolerance : ℕ) → (angles logSines : List ℕ) → (differences : List ℤ) → SecondLent → Verdict
-secondVerdictOf f tolerance angles logSines differences lent =
-    judged (secondRows f tolerance angles logSines differences (secondSlices angles logSines differences lent))
+abbrev pub secondVerdictOf : Figure → (tolerance : ℕ) → (angles : List ℕ) → SineEntries → SecondLent → Verdict
+secondVerdictOf f tolerance angles e lent = judged (secondRows f tolerance angles e (secondSlices angles e lent))
 
-abbrev pub SecondPromiseOf : Figure → (tolerance : ℕ) → (angles logSines : List ℕ) → (differences : List ℤ)
+abbrev pub SecondPromiseOf : Figure → (tolerance : ℕ) → (angles : List ℕ) → SineEntries
     → (entry : SecondLent) → (answer : SecondAnswer) → (exit : SecondLent) → Type 0
-SecondPromiseOf f tolerance angles logSines differences entry answer exit =
-    Promised (secondAnswerOf (secondVerdictOf f tolerance angles logSines differences entry) (sineMisclosure f logSines) (sumOfSquares f differences))
-    (stored (secondVerdictOf f tolerance angles logSines differences entry) (secondValuesOf f angles logSines differences) entry) answer exit
+SecondPromiseOf f tolerance angles e entry answer exit =
+    Promised (secondAnswerFor f e (secondVerdictOf f tolerance angles e entry))
+    (stored (secondVerdictOf f tolerance angles e entry) (secondValuesOf f angles e) entry) answer exit

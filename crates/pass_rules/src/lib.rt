@@ -10,11 +10,12 @@ pub use first::first_given_verdict;
 pub use first::first_result_lengths;
 pub use first::limit_in_force;
 pub use second::SecondAnswer;
+pub use second::SecondLengths;
 pub use second::second_given_verdict;
 pub use second::second_result_lengths;
 pub use second::tolerance_in_force;
 
-// The lengths of the five slices that a pass is lent for its results.
+// The lengths of the five slices that a first pass is lent for its results.
 pub type ResultLengths = [usize; 5];
 
 // L or e in force: 0 stands for the default.

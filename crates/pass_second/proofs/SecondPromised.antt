@@ -1,12 +1,19 @@
 -- From the steps of a second pass to what it promises, of a figure that is named. Assumes nothing.
-use mathlib.Core.Path.{_≡_, refl, sym, ap, ap₂, _∙_}
+use mathlib.Core.Bool.{Bool, true, false, cond}
+use mathlib.Core.Path.{_≡_, refl, sym, ap, ap₂, _∙_, subst}
 use mathlib.Core.List.{List, [], _∷_, _++_}
-use Prim.Native.Nat.{ℕ, _≤_}
+use Prim.Native.Nat.{ℕ, _^_, _≤_, _<_, zero-le}
 use native.Mathlib.Nat.{lt-of-le-of-lt}
+use native.Mathlib.Omega.{arith}
 use lib.Dec.{lit<}
-use lib.IntN.{ℤ, natAbs}
+use lib.IntN.{ℤ, pos, natAbs}
 use lib.ListN.{getD}
+use lib.Signed.{_≤ℤ_}
 use Rattle.whole.specs.Lists.{listed}
+use Rattle.whole.specs.Sums.{dot, vector}
+use Rattle.wide.specs.declared.Size.{Size}
+use Rattle.wide.specs.Wide.{radix, sizeOf}
+use Rattle.wide_words.proofs.Joining.{size-high, size-low}
 use Rattle.refusals.specs.declared.Refusal.{Refusal}
 use Rattle.refusals.specs.declared.Verdict.{Verdict}
 use Rattle.refusals.specs.declared.Verdict.the-variants.{Passed, Failed}
@@ -22,138 +29,241 @@ use Rattle.judging.specs.Searches.{resultsOf}
 use Rattle.figures.specs.declared.Figure.{Figure}
 use Rattle.figures.specs.declared.Named.{Named}
 use Rattle.figures.specs.declared.Named.the-variants.{As, Nothing}
-use Rattle.figures.specs.Figure.{angleCount, figureOf, ofNamed}
+use Rattle.figures.specs.Figure.{SineCondition, denominator, angleCount, pole, side, hasSide, sideCount, figureOf, ofNamed}
+use Rattle.figures.proofs.Figures.{Signed, pole-signed, side-signed}
+use Rattle.pass_pair.specs.declared.Pair.{Pair}
 use Rattle.pass_rules.specs.declared.second.SecondAnswer.{SecondAnswer}
-use Rattle.pass_rules.specs.declared.second.SecondAnswer.the-variants.{Refused}
-use Rattle.pass_rules.specs.SecondPass.{toleranceOf, secondReduced, sineMisclosure, sumOfSquares, differenceSquares, secondAdjusted, reducedOf, secondLengths, entryRows, sineRows, secondRows, secondPassRows, secondPassVerdict, secondAnswerOf, secondPassAnswer}
-use Rattle.pass_rules.proofs.PassRows.{one-judged}
-use Rattle.pass_rules.proofs.SecondAccepted.{Entries, entries-passed}
-use Rattle.pass_steps.specs.Premises.{Angles, LogSines, Within, mostRounded, mostMisclosure, mostReduced}
+use Rattle.pass_rules.specs.declared.second.SecondAnswer.the-variants.{Done, Refused}
+use Rattle.pass_rules.specs.Pass.{given}
 use Rattle.pass_rules.specs.Promises.{SecondGiven, SecondLent, secondSlices, secondLengthsLent, secondVerdict, secondValuesOf, secondValues, SecondPromise, secondVerdictOf, SecondPromiseOf}
+use Rattle.pass_rules.specs.SecondPass.{SineEntries, toleranceOf, reducedIn, misclosureIn, differenceSquaresIn, secondReduced, sideReduced, sineMisclosure, sideMisclosure, sumOfSquares, sideSquares, sharedProducts, divisor, secondAdjusted, reducedOf, sideReducedCount, sideReducedOf, secondLengths, entryRows, sineRows, sineRowsOf, secondRows, secondPassRows, secondPassVerdict, secondAnswerOf, secondAnswerFor, secondPassAnswer}
+use Rattle.pass_rules.proofs.PassRows.{one-judged}
+use Rattle.pass_rules.proofs.SecondAccepted.{Entries, entries-passed, Kept}
+use Rattle.pass_rules.proofs.SineSums.{pole-misclosure, no-misclosure}
+use Rattle.pass_steps.specs.Premises.{Angles, LogSines, Within, mostMisclosure, mostReduced}
 use Rattle.pass_steps.specs.Steps.{StoredIf}
-use Rattle.pass_second.specs.Steps.{secondTenthsFrom, secondTenthsOf, secondFrom}
-use Rattle.pass_second.proofs.Reach.{tenths-most}
-use Rattle.pass_second.proofs.SecondSteps.{results-same, values-same}
-use Rattle.pass_second.proofs.SineBounds.{reduced-magnitude, squares-natural, squares-magnitude}
 use Rattle.pass_steps.proofs.StepLaws.{listed-within}
+use Rattle.pass_second.specs.declared.sums.Sums.{Sums}
+use Rattle.pass_second.specs.Sines.{pairOf, sumsOf}
+use Rattle.pass_second.specs.Steps.{SmallPair, divisorFrom, tenthsFrom, secondFrom, answerBy}
+use Rattle.pass_second.proofs.SecondSteps.{divisor-is, results-same, values-same}
+use Rattle.pass_second.proofs.SineBounds.{angles-magnitude, squares-natural, squares-magnitude, reduced-magnitude, products-magnitude}
+use Rattle.pass_second.proofs.SumSteps.{both-misclosure, sides-magnitude}
 use Rattle.pass_second.proofs.Tolerance.{within-tolerance}
+
+-- ---- what is answered and what is stored
+
+-- the words of S or the determinant
+answer-is : (v : Verdict) (w sideW : ℤ) (d : Size) → d .low < 2 ^ 64
+    → answerBy v w sideW (d .high) (d .low) ≡ secondAnswerOf v w sideW (pos (sizeOf d))
+unfolding radix
+answer-is Passed w sideW d h = ap₂ (Done w sideW) (sym (size-high d h)) (sym (size-low d h))
+answer-is (Failed refusal) w sideW d h = refl
+
+stored-same : (v : Verdict) (new own entry : SecondLent) → (v ≡ Passed → new ≡ own) → stored v new entry ≡ stored v own entry
+stored-same Passed new own entry same = same refl
+stored-same (Failed refusal) new own entry same = refl
+
+-- a sum that is 0 where there is no side condition
+sum-small : (t : Bool) (z : ℤ) (most : ℕ) → natAbs z ≤ most → natAbs (cond t z (pos 0)) ≤ most
+sum-small true z most small = small
+sum-small false z most small = zero-le
 
 -- ---- the rows, step by step
 
-module _ (f : Figure) (tolerance : ℕ) (angles logSines : List ℕ) (differences : List ℤ) (entry : SecondLent) where
+module _ (f : Figure) (tolerance : ℕ) (angles : List ℕ) (e : SineEntries) (entry : SecondLent) where
   abbrev before : List Row
-  before = entryRows f tolerance angles logSines differences (secondSlices angles logSines differences entry)
+  before = entryRows f tolerance angles e (secondSlices angles e entry)
 
   abbrev sines : List Row
-  sines = sineRows tolerance (sineMisclosure f logSines) (sumOfSquares f differences) (differenceSquares f differences)
+  sines = sineRowsOf f tolerance e
 
   abbrev resultRow : Row
-  resultRow = resultsRow (listed (angleCount f) (secondAdjusted f angles logSines differences))
+  resultRow = resultsRow (listed (angleCount f) (secondAdjusted f angles e))
+
+  -- numbers 10 and 9, from the sums as they are worked
+  pub sines-judged : (sides : ℕ) (sums : Sums) (d : Size) → sides ≡ sideCount f → sums ≡ sumsOf f e
+      → pos (sizeOf d) ≡ divisorFrom sides (sums .pair)
+      → judged (sineRows tolerance (pos (sizeOf d)) (sums .pair .wa) (sums .«difference_squares») (sums .pair .wb)
+      (sums .«side_difference_squares»)) ≡ judged sines
+  sines-judged sides sums d sides-are sums-are d-is =
+      let over : pos (sizeOf d) ≡ divisor f e = d-is ∙ (λ i. divisorFrom (sides-are i) (sums-are i .pair)) ∙ divisor-is f e in
+      λ i. judged (sineRows tolerance (over i) (sums-are i .pair .wa) (sums-are i .«difference_squares») (sums-are i .pair .wb)
+      (sums-are i .«side_difference_squares»))
 
   -- what follows once the verdict is known
-  by-verdict : (v : Verdict) {exit : SecondLent} → secondVerdictOf f tolerance angles logSines differences entry ≡ v
-      → exit ≡ stored v (secondValuesOf f angles logSines differences) entry
-      → SecondPromiseOf f tolerance angles logSines differences entry (secondAnswerOf v (sineMisclosure f logSines) (sumOfSquares f differences)) exit
+  by-verdict : (v : Verdict) {exit : SecondLent} → secondVerdictOf f tolerance angles e entry ≡ v
+      → exit ≡ stored v (secondValuesOf f angles e) entry
+      → SecondPromiseOf f tolerance angles e entry (secondAnswerFor f e v) exit
   by-verdict v is left = record {
-    answered = ap (λ (u : Verdict). secondAnswerOf u (sineMisclosure f logSines) (sumOfSquares f differences)) (sym is);
-    leaves = left ∙ ap (λ (u : Verdict). stored u (secondValuesOf f angles logSines differences) entry) (sym is);
+    answered = ap (secondAnswerFor f e) (sym is);
+    leaves = left ∙ ap (λ (u : Verdict). stored u (secondValuesOf f angles e) entry) (sym is);
   }
 
   -- a row before the work holds
-  pub refused-before : (r : Refusal) → judged before ≡ Failed r → SecondPromiseOf f tolerance angles logSines differences entry (Refused r) entry
+  pub refused-before : (r : Refusal) → judged before ≡ Failed r → SecondPromiseOf f tolerance angles e entry (Refused r) entry
   unfolding secondRows
   refused-before r refused = by-verdict (Failed r) (judged-after-failure before (sines ++ (resultRow ∷ [])) r refused) refl
 
   module _ (passed : judged before ≡ Passed) where
-    entries : Entries f tolerance angles logSines differences (secondSlices angles logSines differences entry)
-    entries = entries-passed f tolerance angles logSines differences (secondSlices angles logSines differences entry) passed
+    entries : Entries f tolerance angles e (secondSlices angles e entry)
+    entries = entries-passed f tolerance angles e (secondSlices angles e entry) passed
 
     -- the length of a slice, by its place in the list
-    pub length-at : (k : ℕ) → getD (secondSlices angles logSines differences entry) k 0 ≡ getD (secondLengths f) k 0
+    pub length-at : (k : ℕ) → getD (secondSlices angles e entry) k 0 ≡ getD (secondLengths f) k 0
     length-at k = ap (λ (l : List ℕ). getD l k 0) (entries .lengths)
 
     pub small-angles : Angles angles
     small-angles i = lt-of-le-of-lt (entries .angle-most i) (lit< tt)
 
-    pub small-log-sines : LogSines logSines
+    pub small-log-sines : LogSines (e .logSines)
     small-log-sines = entries .log-sine-most
 
-    pub small-differences : Within mostDifference differences
+    pub small-log-sides : LogSines (e .logSides)
+    small-log-sides = entries .log-side-most
+
+    pub small-differences : Within mostDifference (e .differences)
     small-differences = entries .difference-most (length-at 2 ∙ sym (length-at 1))
 
     pub small-tolerance : tolerance ≤ mostTolerance
     small-tolerance = entries .tolerance-range
 
-    after : secondVerdictOf f tolerance angles logSines differences entry ≡ judged (sines ++ (resultRow ∷ []))
+    -- ---- how large W and the sum of d² of each sine condition are before number 9
+
+    pub small-pole-misclosure : natAbs (sineMisclosure f e) < 2 ^ 32
+    small-pole-misclosure =
+        let of-angles = angles-magnitude f (pole f .signs) (λ i h. pole-signed f .sign-small i) (e .logSines) small-log-sines in
+        subst (λ (z : ℤ). natAbs z < 2 ^ 32) (sym (pole-misclosure f e)) (omega (arith, of-angles))
+
+    pub small-side-misclosure : natAbs (sideMisclosure f e) < 2 ^ 32
+    small-side-misclosure = go (hasSide f) refl
+      where
+        go : (t : Bool) → hasSide f ≡ t → natAbs (sideMisclosure f e) < 2 ^ 32
+        go true both =
+            let of-angles = angles-magnitude f (side f .signs) (λ i h. side-signed f .sign-small i) (e .logSines) small-log-sines in
+            subst (λ (z : ℤ). natAbs z < 2 ^ 32) (sym (both-misclosure f e both))
+            (sides-magnitude (dot (angleCount f) (vector (side f .signs)) (given (e .logSines))) (e .logSides) of-angles small-log-sides)
+        go false one = subst (λ (z : ℤ). natAbs z < 2 ^ 32) (sym (no-misclosure f e one)) (lit< tt)
+
+    small-squares : (c : SineCondition) → Signed f c → (pos 0 ≤ℤ differenceSquaresIn f c e) × (natAbs (differenceSquaresIn f c e) < 2 ^ 32)
+    small-squares c signed = (squares-natural f c e, lt-of-le-of-lt (squares-magnitude f c signed e small-differences) (lit< tt))
+
+    pub small-pole-squares : (pos 0 ≤ℤ differenceSquaresIn f (pole f) e) × (natAbs (differenceSquaresIn f (pole f) e) < 2 ^ 32)
+    small-pole-squares = small-squares (pole f) (pole-signed f)
+
+    pub small-side-squares : (pos 0 ≤ℤ differenceSquaresIn f (side f) e) × (natAbs (differenceSquaresIn f (side f) e) < 2 ^ 32)
+    small-side-squares = small-squares (side f) (side-signed f)
+
+    -- ---- A and B
+
+    pub small-reduced : Within mostReduced (reducedOf f e)
+    small-reduced =
+        listed-within (angleCount f) (secondReduced f e) mostReduced
+        (λ i h. reduced-magnitude f (pole f) (pole-signed f) e small-differences i)
+
+    pub small-side-reduced : Within mostReduced (sideReducedOf f e)
+    small-side-reduced =
+        listed-within (sideReducedCount f) (sideReduced f e) mostReduced
+        (λ i h. reduced-magnitude f (side f) (side-signed f) e small-differences i)
+
+    after : secondVerdictOf f tolerance angles e entry ≡ judged (sines ++ (resultRow ∷ []))
     unfolding secondRows
     after = judged-after-pass before (sines ++ (resultRow ∷ [])) passed
 
     -- number 10 or number 9 holds
-    pub refused-sines : (r : Refusal) → judged sines ≡ Failed r → SecondPromiseOf f tolerance angles logSines differences entry (Refused r) entry
+    pub refused-sines : (r : Refusal) → judged sines ≡ Failed r → SecondPromiseOf f tolerance angles e entry (Refused r) entry
     refused-sines r refused = by-verdict (Failed r) (after ∙ judged-after-failure sines (resultRow ∷ []) r refused) refl
 
     module _ (within : judged sines ≡ Passed) where
-      pub small-misclosure : natAbs (sineMisclosure f logSines) ≤ mostMisclosure
-      small-misclosure =
-          within-tolerance (sineMisclosure f logSines) tolerance (differenceSquares f differences) small-tolerance (squares-natural f differences)
-          (squares-magnitude f differences small-differences)
-          (tolerance-kept (toleranceOf tolerance) (sineMisclosure f logSines) (differenceSquares f differences) (none-holds sines within .1 .0))
+      -- number 9 passed for a sine condition
+      misclosure-most : (c : SineCondition) → Signed f c → Kept f tolerance c e → natAbs (misclosureIn f c e) ≤ mostMisclosure
+      misclosure-most c signed kept =
+          within-tolerance (misclosureIn f c e) tolerance (differenceSquaresIn f c e) small-tolerance (squares-natural f c e)
+          (squares-magnitude f c signed e small-differences) kept
 
-      pub small-reduced : Within mostReduced (reducedOf f differences)
-      small-reduced = listed-within (angleCount f) (secondReduced f differences) mostReduced (λ i h. reduced-magnitude f differences small-differences i)
+      products-most : (c g : SineCondition) → Signed f c → Signed f g
+          → natAbs (dot (angleCount f) (reducedIn f c e) (reducedIn f g e)) ≤ 2 ^ 60
+      products-most c g own other =
+          products-magnitude f (reducedIn f c e) (reducedIn f g e) (reduced-magnitude f c own e small-differences)
+          (reduced-magnitude f g other e small-differences)
 
-      pub small-tenths : (i : ℕ) → natAbs (secondTenthsFrom f (sineMisclosure f logSines) (sumOfSquares f differences) (reducedOf f differences) i) ≤ mostRounded
-      unfolding sumOfSquares
-      small-tenths = tenths-most (angleCount f) (secondReduced f differences) f (sineMisclosure f logSines) small-misclosure
-
-      verdict-is : verdictOf (resultsRow (resultsOf angles (secondTenthsOf f (sineMisclosure f logSines) (sumOfSquares f differences) (reducedOf f differences))))
-          ≡ secondVerdictOf f tolerance angles logSines differences entry
-      verdict-is =
-          ap (λ (l : List ℤ). verdictOf (resultsRow l)) (results-same f angles logSines differences (length-at 0))
-          ∙ sym (after ∙ judged-after-pass sines (resultRow ∷ []) within ∙ answer-of-one (verdictOf resultRow))
+      pub small-pair : SmallPair (pairOf f e)
+      unfolding sumOfSquares sharedProducts sideSquares
+      small-pair =
+          let none = none-holds sines within in
+          record {
+            aa-small = products-most (pole f) (pole f) (pole-signed f) (pole-signed f);
+            ab-small = sum-small (hasSide f) (sharedProducts f e) (2 ^ 60)
+                (products-most (pole f) (side f) (pole-signed f) (side-signed f));
+            bb-small = sum-small (hasSide f) (sideSquares f e) (2 ^ 60)
+                (products-most (side f) (side f) (side-signed f) (side-signed f));
+            wa-small = misclosure-most (pole f) (pole-signed f)
+                (tolerance-kept (toleranceOf tolerance) (sineMisclosure f e) (differenceSquaresIn f (pole f) e) (none .1 .0));
+            wb-small = misclosure-most (side f) (side-signed f)
+                (tolerance-kept (toleranceOf tolerance) (sideMisclosure f e) (differenceSquaresIn f (side f) e) (none .1 .1 .0));
+          }
 
       -- number 7 decides
-      pub by-results : (w s : ℤ) (a : List ℤ) → w ≡ sineMisclosure f logSines → s ≡ sumOfSquares f differences → a ≡ reducedOf f differences
-          → {answer : Verdict} {exit : SecondLent}
-          → StoredIf (verdictOf (resultsRow (resultsOf angles (secondTenthsOf f w s a)))) (secondFrom f angles w s a) entry answer exit
-          → (v : Verdict) → answer ≡ v → SecondPromiseOf f tolerance angles logSines differences entry (secondAnswerOf v w s) exit
-      by-results w s a w-is s-is a-is {answer} {exit} promise v told =
-          let verdict : verdictOf (resultsRow (resultsOf angles (secondTenthsOf f w s a))) ≡ secondVerdictOf f tolerance angles logSines differences entry =
-          (λ i. verdictOf (resultsRow (resultsOf angles (secondTenthsOf f (w-is i) (s-is i) (a-is i))))) ∙ verdict-is in
-          let values : secondFrom f angles w s a ≡ secondValuesOf f angles logSines differences =
-          (λ i. secondFrom f angles (w-is i) (s-is i) (a-is i)) ∙ values-same f angles logSines differences (length-at 0) in
-          let is : v ≡ secondVerdictOf f tolerance angles logSines differences entry = sym told ∙ promise .answered ∙ verdict in
-          record {
-            answered = λ i. secondAnswerOf (is i) (w-is i) (s-is i);
-            leaves = promise .leaves ∙ ap₂ (λ (u : Verdict) (new : SecondLent). stored u new entry) verdict values;
-          }
+      module _ (sides : ℕ) (p : Pair) (a b : List ℤ) (sides-are : sides ≡ sideCount f) (p-is : p ≡ pairOf f e) (a-is : a ≡ reducedOf f e)
+          (b-is : b ≡ sideReducedOf f e) where
+        verdict-is : verdictOf (resultsRow (resultsOf angles (tenthsFrom (denominator f) sides p a b)))
+            ≡ secondVerdictOf f tolerance angles e entry
+        verdict-is =
+            (λ i. verdictOf (resultsRow (resultsOf angles (tenthsFrom (denominator f) (sides-are i) (p-is i) (a-is i) (b-is i)))))
+            ∙ results-same f e angles (length-at 0) small-angles
+            ∙ sym (after ∙ judged-after-pass sines (resultRow ∷ []) within ∙ answer-of-one (verdictOf resultRow))
+
+        values-are : secondVerdictOf f tolerance angles e entry ≡ Passed → secondFrom f angles sides p a b ≡ secondValuesOf f angles e
+        values-are done =
+            let ready =
+            sym (λ i. verdictOf (resultsRow (resultsOf angles (tenthsFrom (denominator f) (sides-are i) (p-is i) (a-is i) (b-is i)))))
+            ∙ verdict-is ∙ done in
+            (λ i. secondFrom f angles (sides-are i) (p-is i) (a-is i) (b-is i)) ∙ values-same f e angles (length-at 0) small-angles ready
+
+        pub by-results : (d : Size) → d .low < 2 ^ 64 → pos (sizeOf d) ≡ divisorFrom sides p → {answer : Verdict} {exit : SecondLent}
+            → StoredIf (verdictOf (resultsRow (resultsOf angles (tenthsFrom (denominator f) sides p a b))))
+            (secondFrom f angles sides p a b) entry answer exit
+            → (v : Verdict) → answer ≡ v → SecondPromiseOf f tolerance angles e entry (answerBy v (p .wa) (p .wb) (d .high) (d .low)) exit
+        by-results d word d-is promise v told =
+            let is : v ≡ secondVerdictOf f tolerance angles e entry = sym told ∙ promise .answered ∙ verdict-is in
+            let over : pos (sizeOf d) ≡ divisor f e = d-is ∙ (λ i. divisorFrom (sides-are i) (p-is i)) ∙ divisor-is f e in
+            record {
+              answered = answer-is v (p .wa) (p .wb) d word ∙ λ i. secondAnswerOf (is i) (p-is i .wa) (p-is i .wb) (over i);
+              leaves =
+                  promise .leaves
+                  ∙ ap (λ (u : Verdict). stored u (secondFrom f angles sides p a b) entry) verdict-is
+                  ∙ stored-same (secondVerdictOf f tolerance angles e entry) (secondFrom f angles sides p a b)
+                  (secondValuesOf f angles e) entry values-are;
+            }
 
 -- ---- and of code and n
 
-module _ (given : SecondGiven) (entry : SecondLent) where
+module _ (sheet : SecondGiven) (entry : SecondLent) where
   abbrev rows : Figure → List Row
-  rows f = secondRows f (given .tolerance) (given .angles) (given .logSines) (given .differences) (secondLengthsLent given entry)
+  rows f = secondRows f (sheet .tolerance) (sheet .angles) (sheet .entries) (secondLengthsLent sheet entry)
 
-  abbrev answerBy : Verdict → Figure → SecondAnswer
-  answerBy v f = secondAnswerOf v (sineMisclosure f (given .logSines)) (sumOfSquares f (given .differences))
+  abbrev answerFor : Verdict → Figure → SecondAnswer
+  answerFor v f = secondAnswerFor f (sheet .entries) v
 
-  pub none-named : figureOf (given .code) (given .n) ≡ Nothing → SecondPromise given entry (Refused Refusal.NoSuchFigure) entry
+  pub none-named : figureOf (sheet .code) (sheet .n) ≡ Nothing → SecondPromise sheet entry (Refused Refusal.NoSuchFigure) entry
   unfolding secondPassAnswer
   none-named e = record {
-    answered = sym (ap (λ (m : Named). ofNamed m (Refused Refusal.NoSuchFigure) (answerBy (secondVerdict given entry))) e);
-    leaves = sym (ap (λ (m : Named). ofNamed m entry (λ f. stored (secondVerdict given entry) (secondValues f given) entry)) e);
+    answered =
+        sym (ap (λ (m : Named). ofNamed m (Refused Refusal.NoSuchFigure) (answerFor (secondVerdict sheet entry))) e);
+    leaves = sym (ap (λ (m : Named). ofNamed m entry (λ f. stored (secondVerdict sheet entry) (secondValues f sheet) entry)) e);
   }
 
-  pub of-figure : (f : Figure) → figureOf (given .code) (given .n) ≡ As f → {answer : SecondAnswer} {exit : SecondLent}
-      → SecondPromiseOf f (given .tolerance) (given .angles) (given .logSines) (given .differences) entry answer exit → SecondPromise given entry answer exit
+  pub of-figure : (f : Figure) → figureOf (sheet .code) (sheet .n) ≡ As f → {answer : SecondAnswer} {exit : SecondLent}
+      → SecondPromiseOf f (sheet .tolerance) (sheet .angles) (sheet .entries) entry answer exit → SecondPromise sheet entry answer exit
   unfolding secondPassAnswer secondPassVerdict secondPassRows
   of-figure f named promise =
-      let verdict = sym (one-judged (given .code) (given .n) rows named) in
+      let verdict = sym (one-judged (sheet .code) (sheet .n) rows named) in
       record {
         answered =
             promise .answered
-            ∙ ap₂ (λ (m : Named) (v : Verdict). ofNamed m (Refused Refusal.NoSuchFigure) (answerBy v)) (sym named) verdict;
+            ∙ ap₂ (λ (m : Named) (v : Verdict). ofNamed m (Refused Refusal.NoSuchFigure) (answerFor v))
+            (sym named) verdict;
         leaves =
             promise .leaves
-            ∙ ap₂ (λ (m : Named) (v : Verdict). ofNamed m entry (λ g. stored v (secondValues g given) entry)) (sym named) verdict;
+            ∙ ap₂ (λ (m : Named) (v : Verdict). ofNamed m entry (λ g. stored v (secondValues g sheet) entry)) (sym named) verdict;
       }

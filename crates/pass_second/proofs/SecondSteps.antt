@@ -1,129 +1,227 @@
--- The steps of the second pass, from W, S and its reduced coefficients: what each gives, and that it is what the definitions say. Assumes nothing.
-use mathlib.Core.Path.{_≡_, refl, sym, ap, ap₂, _∙_, subst}
+-- The steps of the second pass, from the sums of both sine conditions and the reduced coefficients: what they give is what the definitions
+-- say. A correction that is clamped leaves number 7 as it is, and where number 7 passes none is clamped. Assumes nothing.
+use mathlib.Core.Bool.{Bool, true, false, cond, _||_}
+use mathlib.Core.Path.{_≡_, refl, sym, ap, ap₂, _∙_}
 use mathlib.Core.List.{List}
-use Prim.Native.Nat.{ℕ, _≤_, _<_, zero-le}
-use native.Mathlib.Decide.{decLt}
-use native.Mathlib.Nat.{le-trans}
+use Prim.Native.Nat.{ℕ, zero, suc, _≤_, _<_}
 use native.Mathlib.Omega.{arith}
-use lib.IntN.{ℤ, pos, negℤ, natAbs, _+ℤ_, _-ℤ_, _*ℤ_}
-use lib.ListN.{length, List·getD-eq-default}
+use lib.Dec.{eqb}
+use lib.IntN.{ℤ, pos, natAbs, _+ℤ_, _-ℤ_, _*ℤ_}
+use lib.ListN.{length}
+use lib.Signed.{_≤ℤ_}
 use Rattle.whole.specs.Lists.{listed}
 use Rattle.whole.specs.Quotient.{roundedQuotient}
 use Rattle.whole.specs.Sums.{vector}
 use Rattle.whole.proofs.Lists.{length-listed, listed-ext}
-use Rattle.whole.proofs.Quotient.{rounded-within}
 use Rattle.whole.proofs.Magnitudes.{natAbs-sub}
-use Rattle.whole.proofs.Ring.{ring, _≐_, _⊕_, _⊖_, _⊗_}
+use Rattle.whole.proofs.Ring.{ring, _≐_, _⊕_, _⊖_}
+use Rattle.wide_words.specs.Words.{highWord, lowWord}
 use Rattle.refusals.specs.declared.Verdict.the-variants.{Passed}
-use Rattle.refusals.specs.Order.{verdictOf}
+use Rattle.refusals.specs.Numbers.{numbered, refusalOf}
+use Rattle.refusals.specs.Order.{failsAt, orHere, lowestPlace, verdictOf}
+use Rattle.refusals.specs.Questions.{asked, outsideSigned}
+use Rattle.refusals.specs.Ranges.{leastAngle, mostAngle}
 use Rattle.refusals.specs.Table.{resultsRow}
+use Rattle.refusals.proofs.Decided.{not-less-signed}
 use Rattle.refusals.proofs.Rows.{row-passes}
 use Rattle.judging.specs.Searches.{resultsOf}
 use Rattle.figures.specs.declared.Figure.{Figure}
-use Rattle.figures.specs.Figure.{denominator, angleCount, conditionCount}
+use Rattle.figures.specs.Figure.{denominator, angleCount, conditionCount, hasSide, sideCount}
 use Rattle.figures.specs.Numerators.{conditionSum}
+use Rattle.pass_pair.specs.declared.Pair.{Pair}
+use Rattle.pass_pair.specs.Pair.{determinant, pairNumerator, clamped}
+use Rattle.pass_pair.proofs.Clamping.{outsideAngles, clamped-outside, clamped-inside}
 use Rattle.pass_rules.specs.Pass.{given}
-use Rattle.pass_rules.specs.SecondPass.{secondReduced, sineMisclosure, sumOfSquares, secondNumerator, secondRounded, secondAdjusted, secondRest, reducedOf, adjustedOf, secondNumeratorsOf, secondRoundedOf, secondRestsOf}
-use Rattle.pass_rules.proofs.WithinRange.{result-within, angle-most}
-use Rattle.pass_steps.specs.Premises.{Within, Angles, mostSummed, mostRounded}
 use Rattle.pass_rules.specs.Promises.{secondLent, secondValuesOf}
+use Rattle.pass_rules.specs.SecondPass.{SineEntries, secondReduced, sideReduced, sineMisclosure, sideMisclosure, sumOfSquares, sideSquares, sharedProducts, divisor, tenthsFactor, secondNumerator, secondRounded, secondAdjusted, secondRest, reducedOf, sideReducedOf, highNumeratorsOf, lowNumeratorsOf, secondRoundedOf, adjustedOf, secondRestsOf}
+use Rattle.pass_rules.proofs.SecondLaws.{numerator-of-one, numerator-of-two, divisor-of-one, divisor-of-both, divisor-natural}
+use Rattle.pass_rules.proofs.SideCounts.{sides-tell}
+use Rattle.pass_rules.proofs.WithinRange.{result-within, angle-most}
+use Rattle.pass_steps.specs.Premises.{Within, Angles, mostSummed}
 use Rattle.pass_steps.specs.Steps.{resultsFrom}
-use Rattle.pass_steps.proofs.StepLaws.{listed-at, listed-within, listed-after, length-of, condition-ext}
-use Rattle.pass_second.specs.Steps.{exactFrom, secondTenthsFrom, secondTenthsOf, secondFrom}
+use Rattle.pass_steps.proofs.StepLaws.{listed-at, listed-within, listed-after, condition-ext}
+use Rattle.pass_second.specs.Sines.{pairOf}
+use Rattle.pass_second.specs.Steps.{exactFrom, divisorFrom, highsFrom, lowsFrom, tenthsFrom, secondFrom}
+use Rattle.pass_second.proofs.SumSteps.{both-reduced}
 
--- ---- the steps of the code
+-- ---- number 7 asks of each result only whether it is outside
 
-module _ (f : Figure) (w : ℤ) (a : List ℤ) where
-  pub exact-are : {factor : ℤ} {exact : List ℤ} → length a ≡ angleCount f → factor ≡ negℤ (pos 100) *ℤ pos (denominator f) *ℤ w
-      → exact ≡ listed (length a) (λ i. factor *ℤ vector a i) → exact ≡ listed (angleCount f) (exactFrom f w a)
-  exact-are n is made =
-      made
-      ∙ ap₂ (λ (k : ℕ) (z : ℤ). listed k (λ i. z *ℤ vector a i)) n is
-      ∙ listed-ext (angleCount f) _ (exactFrom f w a)
-      (λ i h. ring 3 (λ k w a. k ⊗ w ⊗ a ≐ k ⊗ a ⊗ w) tt (negℤ (pos 100) *ℤ pos (denominator f)) w (vector a i))
+lowest-ext : (fails falls : ℕ → Bool) (n : ℕ) → ((i : ℕ) → i < n → fails (suc i) ≡ falls (suc i))
+    → lowestPlace fails n ≡ lowestPlace falls n
+unfolding lowestPlace
+lowest-ext fails falls zero same = refl
+lowest-ext fails falls (suc n) same =
+    ap₂ (λ found here. orHere found here (suc n)) (lowest-ext fails falls n (λ i h. same i (omega arith))) (same n (omega arith))
 
-  module _ (s : ℤ) where
-    pub second-tenths-are : {divisor : ℕ} {exact tenths : List ℤ} → exact ≡ listed (angleCount f) (exactFrom f w a) → divisor ≡ natAbs s
-        → tenths ≡ listed (length exact) (λ i. roundedQuotient (vector exact i) divisor) → tenths ≡ secondTenthsOf f w s a
-    second-tenths-are {divisor} {exact} e is made =
-        made
-        ∙ ap (λ (d : ℕ). listed (length exact) (λ i. roundedQuotient (vector exact i) d)) is
-        ∙ listed-after (angleCount f) (exactFrom f w a) exact (λ i z. roundedQuotient z (natAbs s)) e (length-of _ _ e)
+abbrev outsideAt : (results : List ℤ) → ℕ → Bool
+outsideAt results p = asked (outsideSigned (pos leastAngle) (pos mostAngle) (numbered results p (pos 0)))
 
-    module _ (small : (i : ℕ) → natAbs (secondTenthsFrom f w s a i) ≤ mostRounded) where
-      -- past the angles there is 0
-      pub rounded-small : {divisor : ℕ} {exact : List ℤ} → exact ≡ listed (angleCount f) (exactFrom f w a) → divisor ≡ natAbs s
-          → (i : ℕ) → natAbs (roundedQuotient (vector exact i) divisor) ≤ mostRounded
-      rounded-small e is i = rw (e, is) (go (decLt i (angleCount f)))
-        where
-          go : Dec (i < angleCount f) → natAbs (roundedQuotient (vector (listed (angleCount f) (exactFrom f w a)) i) (natAbs s)) ≤ mostRounded
-          go (yes b) = rw (listed-at (angleCount f) (exactFrom f w a) i b) (small i)
-          go (no b) =
-              subst (λ (z : ℤ). natAbs (roundedQuotient z (natAbs s)) ≤ mostRounded)
-              (sym (List·getD-eq-default (listed (angleCount f) (exactFrom f w a)) (pos 0) {n = i} (omega (arith, length-listed (angleCount f) (exactFrom f w a)))))
-              (le-trans (rounded-within (pos 0) (natAbs s)) zero-le)
+results-alike : (n : ℕ) (x y : ℕ → ℤ) → ((i : ℕ) → i < n → outsideAngles (x i) ≡ outsideAngles (y i))
+    → verdictOf (resultsRow (listed n x)) ≡ verdictOf (resultsRow (listed n y))
+results-alike n x y same =
+    ap (failsAt (refusalOf 7))
+    (ap (lowestPlace (outsideAt (listed n x))) (length-listed n x)
+    ∙ lowest-ext (outsideAt (listed n x)) (outsideAt (listed n y)) n
+    (λ i h. ap outsideAngles (listed-at n x i h) ∙ same i h ∙ sym (ap outsideAngles (listed-at n y i h)))
+    ∙ sym (ap (lowestPlace (outsideAt (listed n y))) (length-listed n y)))
 
--- ---- where number 7 passed, a rounded correction is the difference of two angles
+inside : (z : ℤ) → pos leastAngle ≤ℤ z → z ≤ℤ pos mostAngle → outsideAngles z ≡ false
+inside z low high = ap₂ _||_ (not-less-signed z (pos leastAngle) .1 low) (not-less-signed (pos mostAngle) z .1 high)
 
-module _ (f : Figure) (angles : List ℕ) (w s : ℤ) (a : List ℤ) (as-many : length angles ≡ angleCount f) where
-  abbrev result : ℕ → ℤ
-  result i = given angles i +ℤ secondTenthsFrom f w s a i
+-- ---- from any sums and reduced coefficients
 
-  results-listed : resultsOf angles (secondTenthsOf f w s a) ≡ listed (angleCount f) result
-  results-listed = listed-after (angleCount f) (secondTenthsFrom f w s a) (secondTenthsOf f w s a) (λ i z. given angles i +ℤ z) refl as-many
+module _ (D sides : ℕ) (p : Pair) (a b : List ℤ) where
+  -- a correction before it is clamped
+  abbrev pub roundedFrom : ℕ → ℤ
+  roundedFrom i = roundedQuotient (exactFrom D sides p a b i) (natAbs (divisorFrom sides p))
 
-  module _ (small : Angles angles) (passed : verdictOf (resultsRow (resultsOf angles (secondTenthsOf f w s a))) ≡ Passed) where
-    difference-most : (i : ℕ) → i < angleCount f → natAbs (secondTenthsFrom f w s a i) ≤ mostSummed
-    difference-most i h =
-        let in-range = sym (ap (λ (l : List ℤ). verdictOf (resultsRow l)) results-listed) ∙ passed in
-        let within = result-within (angleCount f) result i h (row-passes (resultsRow (listed (angleCount f) result)) in-range) in
-        let apart : secondTenthsFrom f w s a i ≡ result i -ℤ given angles i = ring 2 (λ a r. r ≐ a ⊕ r ⊖ a) tt (given angles i) (secondTenthsFrom f w s a i) in
-        rw apart (omega (arith, natAbs-sub (result i) (given angles i), angle-most (result i) (within .0) (within .1), small i))
+  abbrev tenths : ℕ → ℤ
+  tenths i = clamped (roundedFrom i)
 
-    pub tenths-summed : Within mostSummed (secondTenthsOf f w s a)
-    tenths-summed = listed-within (angleCount f) (secondTenthsFrom f w s a) mostSummed difference-most
+  module _ (angles : List ℕ) (as-many : length angles ≡ length a) (small : Angles angles) where
+    abbrev result : ℕ → ℤ
+    result i = given angles i +ℤ tenths i
 
--- ---- from the W, S and reduced coefficients of the definitions
+    abbrev unclamped : ℕ → ℤ
+    unclamped i = given angles i +ℤ roundedFrom i
 
-module _ (f : Figure) (angles logSines : List ℕ) (differences : List ℤ) where
-  abbrev w : ℤ
-  w = sineMisclosure f logSines
+    results-listed : resultsOf angles (tenthsFrom D sides p a b) ≡ listed (length a) result
+    results-listed = listed-after (length a) tenths (tenthsFrom D sides p a b) (λ i z. given angles i +ℤ z) refl as-many
 
-  abbrev s : ℤ
-  s = sumOfSquares f differences
+    -- the clamp does not change which angle is outside
+    pub results-unclamped : verdictOf (resultsRow (resultsOf angles (tenthsFrom D sides p a b)))
+        ≡ verdictOf (resultsRow (listed (length a) unclamped))
+    results-unclamped =
+        ap (λ (l : List ℤ). verdictOf (resultsRow l)) results-listed
+        ∙ results-alike (length a) result unclamped (λ i h. clamped-outside _ (small i) (roundedFrom i))
+
+    module _ (passed : verdictOf (resultsRow (resultsOf angles (tenthsFrom D sides p a b))) ≡ Passed) where
+      -- a correction is the difference of two angles
+      difference-most : (i : ℕ) → i < length a → natAbs (tenths i) ≤ mostSummed
+      difference-most i h =
+          let in-range = sym (ap (λ (l : List ℤ). verdictOf (resultsRow l)) results-listed) ∙ passed in
+          let within = result-within (length a) result i h (row-passes (resultsRow (listed (length a) result)) in-range) in
+          let apart : tenths i ≡ result i -ℤ given angles i = ring 2 (λ a r. r ≐ a ⊕ r ⊖ a) tt (given angles i) (tenths i) in
+          rw apart (omega (arith, natAbs-sub (result i) (given angles i), angle-most (result i) (within .0) (within .1), small i))
+
+      pub tenths-summed : Within mostSummed (tenthsFrom D sides p a b)
+      tenths-summed = listed-within (length a) tenths mostSummed difference-most
+
+      -- and none is clamped
+      pub tenths-unclamped : tenthsFrom D sides p a b ≡ listed (length a) roundedFrom
+      tenths-unclamped =
+          let none = row-passes (resultsRow (listed (length a) unclamped)) (sym results-unclamped ∙ passed) in
+          listed-ext (length a) tenths roundedFrom
+          (λ i h. let within = result-within (length a) unclamped i h none in
+          clamped-inside _ (small i) (roundedFrom i) (inside (unclamped i) (within .0) (within .1)))
+
+-- ---- from those of the definitions
+
+module _ (f : Figure) (e : SineEntries) where
+  abbrev sides : ℕ
+  sides = sideCount f
+
+  abbrev p : Pair
+  p = pairOf f e
 
   abbrev a : List ℤ
-  a = reducedOf f differences
+  a = reducedOf f e
 
-  exact-at : (i : ℕ) → i < angleCount f → exactFrom f w a i ≡ secondNumerator f logSines differences i
-  unfolding secondNumerator
-  exact-at i h = ap (λ (z : ℤ). negℤ (pos 100) *ℤ pos (denominator f) *ℤ z *ℤ w) (listed-at (angleCount f) (secondReduced f differences) i h)
+  abbrev b : List ℤ
+  b = sideReducedOf f e
 
-  tenths-at : (i : ℕ) → i < angleCount f → secondTenthsFrom f w s a i ≡ secondRounded f logSines differences i
+  count : length a ≡ angleCount f
+  count = length-listed (angleCount f) (secondReduced f e)
+
+  -- S, or the determinant
+  pub divisor-is : divisorFrom sides p ≡ divisor f e
+  divisor-is = go (hasSide f) refl
+    where
+      go : (t : Bool) → hasSide f ≡ t → divisorFrom sides p ≡ divisor f e
+      go true both =
+          let test : eqb sides 0 ≡ false = sides-tell f ∙ ap (λ (t : Bool). cond t false true) both in
+          (λ k. cond (test k) (sumOfSquares f e)
+          (determinant (sumOfSquares f e) (cond (both k) (sharedProducts f e) (pos 0)) (cond (both k) (sideSquares f e) (pos 0))))
+          ∙ sym (divisor-of-both f e both)
+      go false one =
+          let test : eqb sides 0 ≡ true = sides-tell f ∙ ap (λ (t : Bool). cond t false true) one in
+          ap (λ (t : Bool). cond t (p .aa) (determinant (p .aa) (p .ab) (p .bb))) test ∙ sym (divisor-of-one f e one)
+
+  pub divisor-from-natural : pos 0 ≤ℤ divisorFrom sides p
+  divisor-from-natural = rw divisor-is (divisor-natural f e)
+
+  pub exact-at : (i : ℕ) → i < angleCount f → exactFrom (denominator f) sides p a b i ≡ secondNumerator f e i
+  exact-at i h = go (hasSide f) refl
+    where
+      a-at : vector a i ≡ secondReduced f e i
+      a-at = listed-at (angleCount f) (secondReduced f e) i h
+
+      b-at : hasSide f ≡ true → vector b i ≡ sideReduced f e i
+      b-at both = ap (λ (l : List ℤ). vector l i) (both-reduced f e both) ∙ listed-at (angleCount f) (sideReduced f e) i h
+
+      go : (t : Bool) → hasSide f ≡ t → exactFrom (denominator f) sides p a b i ≡ secondNumerator f e i
+      go true both =
+          let test : eqb sides 0 ≡ false = sides-tell f ∙ ap (λ (t : Bool). cond t false true) both in
+          (λ k. cond (test k) (tenthsFactor f *ℤ vector a i *ℤ sineMisclosure f e)
+          (pairNumerator (tenthsFactor f) (sumOfSquares f e) (cond (both k) (sharedProducts f e) (pos 0))
+          (cond (both k) (sideSquares f e) (pos 0)) (sineMisclosure f e) (sideMisclosure f e) (a-at k) (b-at both k)))
+          ∙ sym (numerator-of-two f e both i)
+      go false one =
+          let test : eqb sides 0 ≡ true = sides-tell f ∙ ap (λ (t : Bool). cond t false true) one in
+          (λ k. cond (test k) (tenthsFactor f *ℤ a-at k *ℤ sineMisclosure f e)
+          (pairNumerator (tenthsFactor f) (p .aa) (p .ab) (p .bb) (p .wa) (p .wb) (vector a i) (vector b i)))
+          ∙ sym (numerator-of-one f e one i)
+
+  pub highs-same : highsFrom (denominator f) sides p a b ≡ highNumeratorsOf f e
+  highs-same =
+      ap (λ (n : ℕ). listed n (λ i. highWord (exactFrom (denominator f) sides p a b i))) count
+      ∙ listed-ext (angleCount f) _ _ (λ i h. ap highWord (exact-at i h))
+
+  pub lows-same : lowsFrom (denominator f) sides p a b ≡ lowNumeratorsOf f e
+  lows-same =
+      ap (λ (n : ℕ). listed n (λ i. lowWord (exactFrom (denominator f) sides p a b i))) count
+      ∙ listed-ext (angleCount f) _ _ (λ i h. ap lowWord (exact-at i h))
+
+  rounded-at : (i : ℕ) → i < angleCount f → roundedFrom (denominator f) sides p a b i ≡ secondRounded f e i
   unfolding secondRounded
-  tenths-at i h = ap (λ (z : ℤ). roundedQuotient z (natAbs s)) (exact-at i h)
+  rounded-at i h = ap₂ (λ (x y : ℤ). roundedQuotient x (natAbs y)) (exact-at i h) divisor-is
 
-  exact-same : listed (angleCount f) (exactFrom f w a) ≡ secondNumeratorsOf f logSines differences
-  exact-same = listed-ext (angleCount f) _ _ exact-at
+  module _ (angles : List ℕ) (as-many : length angles ≡ angleCount f) (small : Angles angles) where
+    as-reduced : length angles ≡ length a
+    as-reduced = as-many ∙ sym count
 
-  tenths-same : secondTenthsOf f w s a ≡ secondRoundedOf f logSines differences
-  tenths-same = listed-ext (angleCount f) _ _ tenths-at
-
-  rests-same : listed (conditionCount f) (conditionSum f (vector (secondTenthsOf f w s a))) ≡ secondRestsOf f logSines differences
-  unfolding secondRest
-  rests-same =
-      listed-ext (conditionCount f) _ _ (λ j b. condition-ext f _ (secondRounded f logSines differences)
-      (λ i h. listed-at (angleCount f) (secondTenthsFrom f w s a) i h ∙ tenths-at i h) j b)
-
-  module _ (as-many : length angles ≡ angleCount f) where
-    pub results-same : resultsOf angles (secondTenthsOf f w s a) ≡ listed (angleCount f) (secondAdjusted f angles logSines differences)
+    adjusted-at : (i : ℕ) → i < angleCount f → given angles i +ℤ roundedFrom (denominator f) sides p a b i ≡ secondAdjusted f angles e i
     unfolding secondAdjusted
+    adjusted-at i h = ap (λ (z : ℤ). given angles i +ℤ z) (rounded-at i h)
+
+    pub results-same : verdictOf (resultsRow (resultsOf angles (tenthsFrom (denominator f) sides p a b)))
+        ≡ verdictOf (resultsRow (listed (angleCount f) (secondAdjusted f angles e)))
     results-same =
-        results-listed f angles w s a as-many ∙ listed-ext (angleCount f) _ _ (λ i h. ap (λ (z : ℤ). given angles i +ℤ z) (tenths-at i h))
+        results-unclamped (denominator f) sides p a b angles as-reduced small
+        ∙ ap (λ (l : List ℤ). verdictOf (resultsRow l))
+        (ap (λ (n : ℕ). listed n (λ i. given angles i +ℤ roundedFrom (denominator f) sides p a b i)) count
+        ∙ listed-ext (angleCount f) _ (secondAdjusted f angles e) adjusted-at)
 
-    adjusted-same : resultsFrom angles (secondTenthsOf f w s a) ≡ adjustedOf f angles logSines differences
-    adjusted-same =
-        listed-after (angleCount f) (secondAdjusted f angles logSines differences) (resultsOf angles (secondTenthsOf f w s a)) (λ i z. natAbs z) results-same as-many
+    module _ (passed : verdictOf (resultsRow (resultsOf angles (tenthsFrom (denominator f) sides p a b))) ≡ Passed) where
+      tenths-same : tenthsFrom (denominator f) sides p a b ≡ secondRoundedOf f e
+      tenths-same =
+          tenths-unclamped (denominator f) sides p a b angles as-reduced small passed
+          ∙ ap (λ (n : ℕ). listed n (roundedFrom (denominator f) sides p a b)) count
+          ∙ listed-ext (angleCount f) _ (secondRounded f e) rounded-at
 
-    pub values-same : secondFrom f angles w s a ≡ secondValuesOf f angles logSines differences
-    values-same = λ k. secondLent a (exact-same k) (tenths-same k) (adjusted-same k) (rests-same k)
+      adjusted-same : resultsFrom angles (tenthsFrom (denominator f) sides p a b) ≡ adjustedOf f angles e
+      unfolding secondAdjusted
+      adjusted-same =
+          listed-after (angleCount f) (secondAdjusted f angles e) (resultsOf angles (tenthsFrom (denominator f) sides p a b))
+          (λ i z. natAbs z)
+          (listed-after (angleCount f) (secondRounded f e) (tenthsFrom (denominator f) sides p a b) (λ i z. given angles i +ℤ z)
+          tenths-same as-many) as-many
+
+      rests-same : listed (conditionCount f) (conditionSum f (vector (tenthsFrom (denominator f) sides p a b))) ≡ secondRestsOf f e
+      unfolding secondRest
+      rests-same =
+          ap (λ (l : List ℤ). listed (conditionCount f) (conditionSum f (vector l))) tenths-same
+          ∙ listed-ext (conditionCount f) _ _ (condition-ext f _ (secondRounded f e) (listed-at (angleCount f) (secondRounded f e)))
+
+      pub values-same : secondFrom f angles sides p a b ≡ secondValuesOf f angles e
+      values-same = λ k. secondLent a b (highs-same k) (lows-same k) (tenths-same k) (adjusted-same k) (rests-same k)

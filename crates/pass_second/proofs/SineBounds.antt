@@ -1,9 +1,9 @@
 -- How large the numbers of the sine condition can be, of every figure at once. Assumes nothing.
 use mathlib.Core.List.{List}
-use Prim.Native.Nat.{ℕ, _*_, _≤_}
+use Prim.Native.Nat.{ℕ, _*_, _^_, _≤_, _<_}
 use native.Mathlib.Nat.{le-trans, mul-le-mul-right}
 use native.Mathlib.Omega.{arith}
-use lib.Dec.{T, leb, leb→le}
+use lib.Dec.{T, leb, leb→le, lit≤}
 use lib.IntN.{ℤ, pos, natAbs, _+ℤ_, _*ℤ_}
 use lib.Signed.{_≤ℤ_}
 use Rattle.whole.specs.Lists.{every}
@@ -12,19 +12,16 @@ use Rattle.whole.proofs.Magnitudes.{natAbs-add}
 use Rattle.whole.proofs.Sums.{sum-magnitude, squares-nonnegative}
 use Rattle.refusals.specs.Ranges.{mostLogSine, mostDifference}
 use Rattle.figures.specs.declared.Figure.{Figure}
-use Rattle.figures.specs.Figure.{denominator, angleCount, allFigures}
+use Rattle.figures.specs.Figure.{SineCondition, denominator, angleCount, allFigures}
 use Rattle.figures.specs.Numerators.{conditionSum, numerator, reducedCoefficient, mostAngles, mostMembers}
-use Rattle.figures.proofs.Figures.{each-figure, angle-bound, pole-signed}
+use Rattle.figures.proofs.Figures.{Signed, each-figure, angle-bound}
 use Rattle.pass_rules.specs.Pass.{given}
-use Rattle.pass_rules.specs.SecondPass.{sineSign, signedDifference, secondReduced, sineMisclosure, differenceSquares}
+use Rattle.pass_rules.specs.SecondPass.{SineEntries, signedIn, reducedIn, differenceSquaresIn}
 use Rattle.pass_steps.specs.Premises.{Within, LogSines, mostDenominator, mostReduced, mostTaken}
 use Rattle.pass_steps.proofs.Bounds.{condition-magnitude, numerator-magnitude}
 use Rattle.pass_second.proofs.Exact.{product-magnitude}
 
--- ---- signs and denominators, by one test over all figures
-
-pub sign-magnitude : (f : Figure) (i : ℕ) → natAbs (sineSign f i) ≤ 1
-sign-magnitude f i = pole-signed f .sign-small i
+-- ---- denominators, by one test over all figures
 
 all-denominators : T (every (λ f. leb (denominator f) mostDenominator) allFigures)
 all-denominators = tt
@@ -32,35 +29,35 @@ all-denominators = tt
 pub denominator-bound : (f : Figure) → denominator f ≤ mostDenominator
 denominator-bound f = leb→le (denominator f) mostDenominator (each-figure (λ g. leb (denominator g) mostDenominator) all-denominators f)
 
--- ---- W
+-- ---- W of a sine condition, as far as its angles go
 
-pub misclosure-magnitude : (f : Figure) (logSines : List ℕ) → LogSines logSines → natAbs (sineMisclosure f logSines) ≤ mostAngles * mostLogSine
-unfolding sineMisclosure dot
-misclosure-magnitude f logSines most =
+pub angles-magnitude : (f : Figure) (signs : List ℤ) → ((i : ℕ) → i < angleCount f → natAbs (vector signs i) ≤ 1) → (logSines : List ℕ) → LogSines logSines
+    → natAbs (dot (angleCount f) (vector signs) (given logSines)) ≤ mostAngles * mostLogSine
+unfolding dot
+angles-magnitude f signs small logSines most =
     le-trans
-    (sum-magnitude (angleCount f) (λ i. sineSign f i *ℤ given logSines i) mostLogSine
-    (λ i b. product-magnitude (sineSign f i) (given logSines i) 1 mostLogSine (sign-magnitude f i) (most i)))
+    (sum-magnitude (angleCount f) (λ i. vector signs i *ℤ given logSines i) mostLogSine
+    (λ i b. product-magnitude (vector signs i) (given logSines i) 1 mostLogSine (small i b) (most i)))
     (mul-le-mul-right mostLogSine (angle-bound f))
 
 -- ---- d, and the sum of d²
 
-module _ (f : Figure) (differences : List ℤ) (most : Within mostDifference differences) where
-  pub difference-magnitude : (i : ℕ) → natAbs (signedDifference f differences i) ≤ mostDifference
-  unfolding signedDifference
-  difference-magnitude i = product-magnitude (sineSign f i) (vector differences i) 1 mostDifference (sign-magnitude f i) (most i)
+module _ (f : Figure) (c : SineCondition) (signed : Signed f c) (e : SineEntries) (most : Within mostDifference (e .differences)) where
+  pub difference-magnitude : (i : ℕ) → natAbs (signedIn c e i) ≤ mostDifference
+  unfolding signedIn
+  difference-magnitude i = product-magnitude (vector (c .signs) i) (vector (e .differences) i) 1 mostDifference (signed .sign-small i) (most i)
 
-  pub squares-magnitude : natAbs (differenceSquares f differences) ≤ mostAngles * (mostDifference * mostDifference)
-  unfolding differenceSquares dot
+  pub squares-magnitude : natAbs (differenceSquaresIn f c e) ≤ mostAngles * (mostDifference * mostDifference)
+  unfolding differenceSquaresIn dot
   squares-magnitude =
       le-trans
-      (sum-magnitude (angleCount f) (λ i. signedDifference f differences i *ℤ signedDifference f differences i) (mostDifference * mostDifference)
-      (λ i b. product-magnitude (signedDifference f differences i) (signedDifference f differences i) mostDifference mostDifference
-      (difference-magnitude i) (difference-magnitude i)))
+      (sum-magnitude (angleCount f) (λ i. signedIn c e i *ℤ signedIn c e i) (mostDifference * mostDifference)
+      (λ i b. product-magnitude (signedIn c e i) (signedIn c e i) mostDifference mostDifference (difference-magnitude i) (difference-magnitude i)))
       (mul-le-mul-right (mostDifference * mostDifference) (angle-bound f))
 
-pub squares-natural : (f : Figure) (differences : List ℤ) → pos 0 ≤ℤ differenceSquares f differences
-unfolding differenceSquares
-squares-natural f differences = squares-nonnegative (angleCount f) (signedDifference f differences)
+pub squares-natural : (f : Figure) (c : SineCondition) (e : SineEntries) → pos 0 ≤ℤ differenceSquaresIn f c e
+unfolding differenceSquaresIn
+squares-natural f c e = squares-nonnegative (angleCount f) (signedIn c e)
 
 -- ---- A
 
@@ -77,8 +74,18 @@ pub together-magnitude : (denominator : ℕ) (d taken : ℤ) → denominator ≤
 together-magnitude denominator d taken few small less =
     omega (arith, natAbs-add (pos denominator *ℤ d) taken, product-magnitude (pos denominator) d mostDenominator mostDifference few small)
 
-pub reduced-magnitude : (f : Figure) (differences : List ℤ) → Within mostDifference differences → (i : ℕ) → natAbs (secondReduced f differences i) ≤ mostReduced
-unfolding secondReduced reducedCoefficient
-reduced-magnitude f differences most i =
-    together-magnitude (denominator f) (signedDifference f differences i) (numerator f (conditionSum f (signedDifference f differences)) i)
-    (denominator-bound f) (difference-magnitude f differences most i) (taken-magnitude f (signedDifference f differences) (difference-magnitude f differences most) i)
+pub reduced-magnitude : (f : Figure) (c : SineCondition) → Signed f c → (e : SineEntries) → Within mostDifference (e .differences)
+    → (i : ℕ) → natAbs (reducedIn f c e i) ≤ mostReduced
+unfolding reducedIn reducedCoefficient
+reduced-magnitude f c signed e most i =
+    together-magnitude (denominator f) (signedIn c e i) (numerator f (conditionSum f (signedIn c e)) i)
+    (denominator-bound f) (difference-magnitude f c signed e most i) (taken-magnitude f (signedIn c e) (difference-magnitude f c signed e most) i)
+
+-- the sum of the products of two sets of them has 60 bits
+pub products-magnitude : (f : Figure) (x y : ℕ → ℤ) → ((i : ℕ) → natAbs (x i) ≤ mostReduced) → ((i : ℕ) → natAbs (y i) ≤ mostReduced)
+    → natAbs (dot (angleCount f) x y) ≤ 2 ^ 60
+unfolding dot
+products-magnitude f x y h k =
+    le-trans
+    (sum-magnitude (angleCount f) (λ i. x i *ℤ y i) (mostReduced * mostReduced) (λ i b. product-magnitude (x i) (y i) mostReduced mostReduced (h i) (k i)))
+    (le-trans (mul-le-mul-right (mostReduced * mostReduced) (angle-bound f)) (lit≤ tt))

@@ -1,4 +1,4 @@
--- The steps of the sine condition are those of the definitions. Assumes nothing.
+-- The steps of a sine condition are those of the definitions. Assumes nothing.
 use mathlib.Core.Path.{_≡_, refl, sym, ap, ap₂, _∙_}
 use mathlib.Core.List.{List}
 use Prim.Native.Nat.{ℕ, _≤_, _<_}
@@ -9,15 +9,15 @@ use Rattle.whole.specs.Lists.{listed}
 use Rattle.whole.specs.Sums.{dot, squares, vector}
 use Rattle.whole.proofs.Lists.{listed-ext}
 use Rattle.whole.proofs.Sums.{dot-ext, squares-ext}
-use Rattle.refusals.specs.Ranges.{mostDifference}
 use Rattle.figures.specs.declared.Figure.{Figure}
-use Rattle.figures.specs.Figure.{denominator, angleCount, conditionCount, pole}
+use Rattle.figures.specs.Figure.{SineCondition, denominator, angleCount, conditionCount}
 use Rattle.figures.specs.Numerators.{conditionSum, numerator, reducedCoefficient}
+use Rattle.figures.proofs.Figures.{Signed}
 use Rattle.pass_rules.specs.Pass.{given}
-use Rattle.pass_rules.specs.SecondPass.{sineSign, signedDifference, secondReduced, sineMisclosure, sumOfSquares, differenceSquares, reducedOf}
+use Rattle.pass_rules.specs.SecondPass.{SineEntries, signedIn, reducedIn, differenceSquaresIn}
 use Rattle.pass_steps.specs.Premises.{Within}
-use Rattle.pass_second.specs.Sines.{signedBy, reducedFrom}
-use Rattle.pass_second.proofs.SineBounds.{sign-magnitude, difference-magnitude}
+use Rattle.pass_second.specs.declared.sines.Sines.{Sines}
+use Rattle.pass_second.specs.Sines.{signedBy, reducedFrom, sinesBy, reducedBy}
 use Rattle.pass_steps.proofs.StepLaws.{listed-at, listed-within, condition-ext, numerator-ext}
 
 -- ---- the reduced coefficients of d
@@ -43,52 +43,65 @@ module _ (f : Figure) (d : List ℤ) where
     pub squares-are : squares (length d) (reducedFrom D d taken) ≡ squares (angleCount f) (reducedCoefficient f (vector d))
     squares-are = ap (λ (k : ℕ). squares k (reducedFrom D d taken)) n ∙ squares-ext (angleCount f) _ _ reduced-at
 
--- ---- what the signs give
+-- ---- the reduced coefficients of what a rule lists
 
-module _ (f : Figure) (signs : List ℤ) (own : take (angleCount f) signs ≡ pole f .signs) where
-  sign-at : (i : ℕ) → i < angleCount f → vector signs i ≡ sineSign f i
-  sign-at i h = sym (getD-take (angleCount f) signs i (pos 0) h) ∙ ap (λ (l : List ℤ). vector l i) own
+module _ (f : Figure) (d : List ℤ) (g : ℕ → ℤ) (e : d ≡ listed (angleCount f) g) where
+  d-at : (i : ℕ) → i < angleCount f → vector d i ≡ g i
+  d-at i h = ap (λ (l : List ℤ). vector l i) e ∙ listed-at (angleCount f) g i h
 
-  pub sign-small : (i : ℕ) → i < angleCount f → natAbs (vector signs i) ≤ 1
-  sign-small i h = rw (sign-at i h) (sign-magnitude f i)
-
-  module _ (logSines : List ℕ) (differences : List ℤ) (n : length differences ≡ angleCount f) where
-    difference-at : (i : ℕ) → i < angleCount f → signedBy signs differences i ≡ signedDifference f differences i
-    unfolding signedDifference
-    difference-at i h = ap (λ (z : ℤ). z *ℤ vector differences i) (sign-at i h)
-
-    pub differences-are : listed (length differences) (signedBy signs differences) ≡ listed (angleCount f) (signedDifference f differences)
-    differences-are = ap (λ (k : ℕ). listed k (signedBy signs differences)) n ∙ listed-ext (angleCount f) _ _ difference-at
-
-    pub misclosure-is : dot (length differences) (vector signs) (given logSines) ≡ sineMisclosure f logSines
-    unfolding sineMisclosure
-    misclosure-is =
-        ap (λ (k : ℕ). dot k (vector signs) (given logSines)) n
-        ∙ dot-ext (angleCount f) (vector signs) (given logSines) (sineSign f) (given logSines) sign-at (λ i h. refl)
-
-    pub difference-squares-are : squares (length differences) (signedBy signs differences) ≡ differenceSquares f differences
-    unfolding differenceSquares
-    difference-squares-are =
-        ap (λ (k : ℕ). squares k (signedBy signs differences)) n ∙ squares-ext (angleCount f) (signedBy signs differences) (signedDifference f differences) difference-at
-
--- ---- the reduced coefficients of the signed differences
-
-module _ (f : Figure) (differences d : List ℤ) (e : d ≡ listed (angleCount f) (signedDifference f differences)) where
-  d-at : (i : ℕ) → i < angleCount f → vector d i ≡ signedDifference f differences i
-  d-at i h = ap (λ (l : List ℤ). vector l i) e ∙ listed-at (angleCount f) (signedDifference f differences) i h
-
-  own-at : (i : ℕ) → i < angleCount f → reducedCoefficient f (vector d) i ≡ secondReduced f differences i
-  unfolding secondReduced reducedCoefficient
+  own-at : (i : ℕ) → i < angleCount f → reducedCoefficient f (vector d) i ≡ reducedCoefficient f g i
+  unfolding reducedCoefficient
   own-at i h =
       ap₂ (λ (a b : ℤ). pos (denominator f) *ℤ a +ℤ b) (d-at i h)
-      (numerator-ext f (conditionSum f (vector d)) (conditionSum f (signedDifference f differences)) (condition-ext f (vector d) (signedDifference f differences) d-at) i)
+      (numerator-ext f (conditionSum f (vector d)) (conditionSum f g) (condition-ext f (vector d) g d-at) i)
 
-  pub own-reduced : listed (angleCount f) (reducedCoefficient f (vector d)) ≡ reducedOf f differences
+  pub own-reduced : listed (angleCount f) (reducedCoefficient f (vector d)) ≡ listed (angleCount f) (reducedCoefficient f g)
   own-reduced = listed-ext (angleCount f) _ _ own-at
 
-  pub own-squares : squares (angleCount f) (reducedCoefficient f (vector d)) ≡ sumOfSquares f differences
-  unfolding sumOfSquares
+  pub own-squares : squares (angleCount f) (reducedCoefficient f (vector d)) ≡ squares (angleCount f) (reducedCoefficient f g)
   own-squares = squares-ext (angleCount f) _ _ own-at
 
-  pub own-small : Within mostDifference differences → Within mostDifference d
-  own-small most i = rw e (listed-within (angleCount f) (signedDifference f differences) mostDifference (λ k h. difference-magnitude f differences most k) i)
+  pub own-small : (most : ℕ) → ((i : ℕ) → i < angleCount f → natAbs (g i) ≤ most) → Within most d
+  own-small most small i = rw e (listed-within (angleCount f) g most small i)
+
+-- ---- what the signs of a sine condition give
+
+module _ (f : Figure) (c : SineCondition) (signs : List ℤ) (own : take (angleCount f) signs ≡ c .signs) (e : SineEntries) where
+  sign-at : (i : ℕ) → i < angleCount f → vector signs i ≡ vector (c .signs) i
+  sign-at i h = sym (getD-take (angleCount f) signs i (pos 0) h) ∙ ap (λ (l : List ℤ). vector l i) own
+
+  pub sign-small : Signed f c → (i : ℕ) → i < angleCount f → natAbs (vector signs i) ≤ 1
+  sign-small signed i h = rw (sign-at i h) (signed .sign-small i)
+
+  difference-at : (i : ℕ) → i < angleCount f → signedBy signs (e .differences) i ≡ signedIn c e i
+  unfolding signedIn
+  difference-at i h = ap (λ (z : ℤ). z *ℤ vector (e .differences) i) (sign-at i h)
+
+  in-condition : (i : ℕ) → i < angleCount f → reducedCoefficient f (signedBy signs (e .differences)) i ≡ reducedIn f c e i
+  unfolding reducedIn reducedCoefficient
+  in-condition i h =
+      ap₂ (λ (a b : ℤ). pos (denominator f) *ℤ a +ℤ b) (difference-at i h)
+      (numerator-ext f _ _ (condition-ext f (signedBy signs (e .differences)) (signedIn c e) difference-at) i)
+
+  -- the sums are those of the condition, and W is what the angles give of it
+  abbrev pub anglesPart : ℤ
+  anglesPart = dot (angleCount f) (vector (c .signs)) (given (e .logSines))
+
+  abbrev pub conditionSines : Sines
+  conditionSines = record { misclosure = anglesPart; squares = squares (angleCount f) (reducedIn f c e); «difference_squares» = differenceSquaresIn f c e }
+
+  pub sines-are : sinesBy f signs (e .logSines) (e .differences) ≡ conditionSines
+  unfolding differenceSquaresIn
+  sines-are = λ k. record { misclosure = w k; squares = s k; «difference_squares» = q k }
+    where
+      w : dot (angleCount f) (vector signs) (given (e .logSines)) ≡ anglesPart
+      w = dot-ext (angleCount f) (vector signs) (given (e .logSines)) (vector (c .signs)) (given (e .logSines)) sign-at (λ i h. refl)
+
+      s : squares (angleCount f) (reducedCoefficient f (signedBy signs (e .differences))) ≡ squares (angleCount f) (reducedIn f c e)
+      s = squares-ext (angleCount f) _ _ in-condition
+
+      q : squares (angleCount f) (signedBy signs (e .differences)) ≡ squares (angleCount f) (signedIn c e)
+      q = squares-ext (angleCount f) _ _ difference-at
+
+  pub reduced-by : reducedBy f signs (e .differences) ≡ listed (angleCount f) (reducedIn f c e)
+  reduced-by = listed-ext (angleCount f) _ _ in-condition

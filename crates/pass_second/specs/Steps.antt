@@ -1,37 +1,89 @@
--- What the steps of the second pass give, from W, S and its reduced coefficients a.
-use Prim.Native.Nat.{ℕ}
+-- What the steps of the second pass give, from the sums of both sine conditions and the reduced coefficients a and b.
+use Prim.Native.Nat.{ℕ, _^_, _≤_}
+use mathlib.Core.Bool.{cond}
 use mathlib.Core.List.{List}
 use mathlib.Core.Path.{_≡_}
+use lib.Dec.{eqb}
 use lib.IntN.{ℤ, pos, negℤ, natAbs, _*ℤ_}
+use lib.ListN.{length}
 use Rattle.whole.specs.Lists.{listed}
 use Rattle.whole.specs.Quotient.{roundedQuotient}
 use Rattle.whole.specs.Sums.{vector}
+use Rattle.wide.specs.Wide.{valueOf}
+use Rattle.wide_words.specs.Words.{highWord, lowWord}
+use Rattle.pass_pair.specs.declared.Pair.{Pair}
+use Rattle.pass_pair.specs.declared.PairFactors.{PairFactors}
+use Rattle.pass_pair.specs.declared.PairCorrection.{PairCorrection}
+use Rattle.pass_pair.specs.Pair.{determinant, pairNumerator, heldNumerator, correctionFrom, clamped}
+use Rattle.refusals.specs.declared.Verdict.{Verdict}
+use Rattle.refusals.specs.declared.Verdict.the-variants.{Passed, Failed}
 use Rattle.figures.specs.declared.Figure.{Figure}
-use Rattle.figures.specs.Figure.{denominator, angleCount, conditionCount}
+use Rattle.figures.specs.Figure.{denominator, conditionCount}
 use Rattle.figures.specs.Numerators.{conditionSum}
+use Rattle.pass_rules.specs.declared.second.SecondAnswer.{SecondAnswer}
+use Rattle.pass_rules.specs.declared.second.SecondAnswer.the-variants.{Done, Refused}
 use Rattle.pass_rules.specs.Promises.{SecondLent, secondLent}
+use Rattle.pass_steps.specs.Premises.{mostMisclosure}
 use Rattle.pass_steps.specs.Steps.{resultsFrom}
 
--- the numerator of an angle
-abbrev pub exactFrom : Figure → (w : ℤ) → (a : List ℤ) → ℕ → ℤ
-exactFrom f w a i = negℤ (pos 100) *ℤ pos (denominator f) *ℤ vector a i *ℤ w
+-- the sums keep the bounds by which no numerator passes two words
+pub record SmallPair (p : Pair) : Type 0 where
+  pub aa-small : natAbs (p .aa) ≤ 2 ^ 60
+  pub ab-small : natAbs (p .ab) ≤ 2 ^ 60
+  pub bb-small : natAbs (p .bb) ≤ 2 ^ 60
+  pub wa-small : natAbs (p .wa) ≤ mostMisclosure
+  pub wb-small : natAbs (p .wb) ≤ mostMisclosure
 
--- the rounded correction of an angle, and of each
-abbrev pub secondTenthsFrom : Figure → (w s : ℤ) → (a : List ℤ) → ℕ → ℤ
-secondTenthsFrom f w s a i = roundedQuotient (exactFrom f w a i) (natAbs s)
+-- −100·D
+abbrev pub factorOf : (denominator : ℕ) → ℤ
+factorOf denominator = negℤ (pos 100) *ℤ pos denominator
 
-abbrev pub secondTenthsOf : Figure → (w s : ℤ) → (a : List ℤ) → List ℤ
-secondTenthsOf f w s a = listed (angleCount f) (secondTenthsFrom f w s a)
+-- the numerator of an angle, by whether there are known sides
+abbrev pub exactFrom : (denominator sides : ℕ) → Pair → (a b : List ℤ) → ℕ → ℤ
+exactFrom denominator sides p a b i =
+    cond (eqb sides 0) (factorOf denominator *ℤ vector a i *ℤ p .wa)
+    (pairNumerator (factorOf denominator) (p .aa) (p .ab) (p .bb) (p .wa) (p .wb) (vector a i) (vector b i))
+
+abbrev pub divisorFrom : (sides : ℕ) → Pair → ℤ
+divisorFrom sides p = cond (eqb sides 0) (p .aa) (determinant (p .aa) (p .ab) (p .bb))
+
+-- an angle's correction: both words of its numerator, and tenths
+abbrev pub exactCorrection : (numerator : ℤ) → (divisor : ℕ) → PairCorrection
+exactCorrection numerator divisor = record { high = highWord numerator; low = lowWord numerator; tenths = clamped (roundedQuotient numerator divisor) }
+
+-- as it is worked in two words
+abbrev pub pairCorrection : (factor : ℤ) → PairFactors → (a b : List ℤ) → ℕ → PairCorrection
+pairCorrection factor factors a b i =
+    correctionFrom (heldNumerator factor (valueOf (factors .first)) (valueOf (factors .second)) (vector a i) (vector b i))
+    (natAbs (valueOf (factors .determinant)))
+
+abbrev pub highsFrom : (denominator sides : ℕ) → Pair → (a b : List ℤ) → List ℤ
+highsFrom denominator sides p a b = listed (length a) (λ i. highWord (exactFrom denominator sides p a b i))
+
+abbrev pub lowsFrom : (denominator sides : ℕ) → Pair → (a b : List ℤ) → List ℕ
+lowsFrom denominator sides p a b = listed (length a) (λ i. lowWord (exactFrom denominator sides p a b i))
+
+abbrev pub tenthsFrom : (denominator sides : ℕ) → Pair → (a b : List ℤ) → List ℤ
+tenthsFrom denominator sides p a b =
+    listed (length a) (λ i. clamped (roundedQuotient (exactFrom denominator sides p a b i) (natAbs (divisorFrom sides p))))
 
 -- all that is stored
-abbrev pub secondFrom : Figure → (angles : List ℕ) → (w s : ℤ) → (a : List ℤ) → SecondLent
-secondFrom f angles w s a =
-    secondLent a (listed (angleCount f) (exactFrom f w a)) (secondTenthsOf f w s a) (resultsFrom angles (secondTenthsOf f w s a))
-    (listed (conditionCount f) (conditionSum f (vector (secondTenthsOf f w s a))))
+abbrev pub secondFrom : Figure → (angles : List ℕ) → (sides : ℕ) → Pair → (a b : List ℤ) → SecondLent
+secondFrom f angles sides p a b =
+    secondLent a b (highsFrom (denominator f) sides p a b) (lowsFrom (denominator f) sides p a b) (tenthsFrom (denominator f) sides p a b)
+    (resultsFrom angles (tenthsFrom (denominator f) sides p a b))
+    (listed (conditionCount f) (conditionSum f (vector (tenthsFrom (denominator f) sides p a b))))
 
--- four slices hold what they are to hold
-pub record Stored (reduced numerators rounded rests a exact tenths sums : List ℤ) : Type 0 where
+-- six slices hold what they are to hold
+pub record Stored (reduced sideReduced highs : List ℤ) (lows : List ℕ) (rounded rests a b high : List ℤ) (low : List ℕ) (tenths sums : List ℤ) : Type 0 where
   pub reduced-are : reduced ≡ a
-  pub numerators-are : numerators ≡ exact
+  pub side-reduced-are : sideReduced ≡ b
+  pub highs-are : highs ≡ high
+  pub lows-are : lows ≡ low
   pub rounded-are : rounded ≡ tenths
   pub rests-are : rests ≡ sums
+
+-- what is answered
+abbrev pub answerBy : Verdict → (w sideW : ℤ) → (high low : ℕ) → SecondAnswer
+answerBy Passed w sideW high low = Done w sideW high low
+answerBy (Failed refusal) w sideW high low = Refused refusal

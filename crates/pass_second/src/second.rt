@@ -1,16 +1,20 @@
-// The second pass over lent slices: document 01, "The two passes".
+// The second pass over lent slices: document 01, "The two passes", and document 02, M-100.
 ghost use mathlib.Core.Path.{_≡_};
+ghost use Rattle.wide.specs.Wide.{sizeOf};
 ghost use Rattle.pass_rules.specs.Promises.{secondGiven, secondLent, SecondPromise, SecondPromiseOf};
-ghost use Rattle.pass_rules.specs.SecondPass.{secondAnswerOf};
+ghost use Rattle.pass_rules.specs.SecondPass.{sineEntries};
+ghost use Rattle.pass_second.specs.Steps.{answerBy};
 use crate::corrections::second_corrected;
 use crate::sines::sine_verdict;
-use crate::sines::sines_into;
+use crate::sums::divisor_of;
+use crate::sums::sums_into;
 use figures::Figure;
 use figures::MOST_ANGLES;
 use figures::Named;
 use pass_rules::SecondAnswer;
 use refusals::Refusal;
 use refusals::Verdict;
+use wide::Size;
 
 // The second pass of the figure that code and n name. Done, everything lent is as defined; refused, everything lent is as it was.
 pub fn second_pass(
@@ -20,17 +24,22 @@ pub fn second_pass(
     angles: &[u32],
     log_sines: &[u32],
     differences: &[i32],
+    log_sides: &[u32],
     reduced: &mut [i64],
-    numerators: &mut [i64],
+    side_reduced: &mut [i64],
+    numerators_high: &mut [i64],
+    numerators_low: &mut [u64],
     rounded: &mut [i32],
     adjusted: &mut [u32],
     rests: &mut [i32],
 ) -> SecondAnswer
     ensures { λ answer. ⌜ SecondPromise
-        (secondGiven code n tolerance (now (angles .entry)) (now («log_sines» .entry)) (now (differences .entry)))
-        (secondLent (now (reduced .entry)) (now (numerators .entry)) (now (rounded .entry))
-        (now (adjusted .entry)) (now (rests .entry))) answer
-        (secondLent (now (reduced .exit)) (now (numerators .exit)) (now (rounded .exit)) (now (adjusted .exit)) (now (rests .exit))) ⌝ }
+        (secondGiven code n tolerance (now (angles .entry))
+        (sineEntries (now («log_sines» .entry)) (now (differences .entry)) (now («log_sides» .entry))))
+        (secondLent (now (reduced .entry)) (now («side_reduced» .entry)) (now («numerators_high» .entry)) (now («numerators_low» .entry))
+        (now (rounded .entry)) (now (adjusted .entry)) (now (rests .entry))) answer
+        (secondLent (now (reduced .exit)) (now («side_reduced» .exit)) (now («numerators_high» .exit)) (now («numerators_low» .exit))
+        (now (rounded .exit)) (now (adjusted .exit)) (now (rests .exit))) ⌝ }
 {
     let Named::As(figure) = figures::figure_of(code, n) else {
         return SecondAnswer::Refused(Refusal::NoSuchFigure);
@@ -41,8 +50,11 @@ pub fn second_pass(
         angles,
         log_sines,
         differences,
+        log_sides,
         reduced,
-        numerators,
+        side_reduced,
+        numerators_high,
+        numerators_low,
         rounded,
         adjusted,
         rests,
@@ -56,20 +68,27 @@ pub fn second_pass_of(
     angles: &[u32],
     log_sines: &[u32],
     differences: &[i32],
+    log_sides: &[u32],
     reduced: &mut [i64],
-    numerators: &mut [i64],
+    side_reduced: &mut [i64],
+    numerators_high: &mut [i64],
+    numerators_low: &mut [u64],
     rounded: &mut [i32],
     adjusted: &mut [u32],
     rests: &mut [i32],
 ) -> SecondAnswer
-    ensures { λ answer. ⌜ SecondPromiseOf figure tolerance (now (angles .entry)) (now («log_sines» .entry)) (now (differences .entry))
-        (secondLent (now (reduced .entry)) (now (numerators .entry)) (now (rounded .entry))
-        (now (adjusted .entry)) (now (rests .entry))) answer
-        (secondLent (now (reduced .exit)) (now (numerators .exit)) (now (rounded .exit)) (now (adjusted .exit)) (now (rests .exit))) ⌝ }
+    ensures { λ answer. ⌜ SecondPromiseOf figure tolerance (now (angles .entry))
+        (sineEntries (now («log_sines» .entry)) (now (differences .entry)) (now («log_sides» .entry)))
+        (secondLent (now (reduced .entry)) (now («side_reduced» .entry)) (now («numerators_high» .entry)) (now («numerators_low» .entry))
+        (now (rounded .entry)) (now (adjusted .entry)) (now (rests .entry))) answer
+        (secondLent (now (reduced .exit)) (now («side_reduced» .exit)) (now («numerators_high» .exit)) (now («numerators_low» .exit))
+        (now (rounded .exit)) (now (adjusted .exit)) (now (rests .exit))) ⌝ }
 {
     let results = [
         reduced.len(),
-        numerators.len(),
+        side_reduced.len(),
+        numerators_high.len(),
+        numerators_low.len(),
         rounded.len(),
         adjusted.len(),
         rests.len(),
@@ -80,38 +99,54 @@ pub fn second_pass_of(
         angles,
         log_sines,
         differences,
+        log_sides,
         results,
     );
     if let Verdict::Failed(refusal) = before {
         return SecondAnswer::Refused(refusal);
     }
     let n = angles.len();
+    let k = side_reduced.len();
     let mut a = [0i64; MOST_ANGLES];
-    let sines = sines_into(figure, log_sines, differences, &mut a[..n]);
-    let beyond = sine_verdict(sines, tolerance);
+    let mut b = [0i64; MOST_ANGLES];
+    let sums = sums_into(
+        figure,
+        log_sines,
+        differences,
+        log_sides,
+        &mut a[..n],
+        &mut b[..k],
+    );
+    let pair = sums.pair;
+    let divisor = divisor_of(log_sides.len(), pair);
+    let beyond = sine_verdict(sums, divisor, tolerance);
     if let Verdict::Failed(refusal) = beyond {
         return SecondAnswer::Refused(refusal);
     }
     let outside = second_corrected(
         figure,
         angles,
-        sines.misclosure,
-        sines.squares,
+        log_sides.len(),
+        pair,
+        divisor,
         &a[..n],
+        &b[..k],
         reduced,
-        numerators,
+        side_reduced,
+        numerators_high,
+        numerators_low,
         rounded,
         adjusted,
         rests,
     );
-    answer_of(outside, sines.misclosure, sines.squares)
+    answer_of(outside, pair.wa, pair.wb, divisor)
 }
 
-fn answer_of(verdict: Verdict, misclosure: i64, squares: i64) -> SecondAnswer
-    ensures { λ answer. ⌜ answer ≡ secondAnswerOf verdict misclosure squares ⌝ }
+fn answer_of(verdict: Verdict, w: i64, side_w: i64, divisor: Size) -> SecondAnswer
+    ensures { λ answer. ⌜ answer ≡ answerBy verdict w «side_w» (divisor .high) (divisor .low) ⌝ }
 {
     match verdict {
-        Verdict::Passed => SecondAnswer::Done(misclosure, squares),
+        Verdict::Passed => SecondAnswer::Done(w, side_w, divisor.high, divisor.low),
         Verdict::Failed(refusal) => SecondAnswer::Refused(refusal),
     }
 }

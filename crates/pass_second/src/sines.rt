@@ -1,4 +1,4 @@
-// The sine condition of the second pass: document 01, "The two passes", and numbers 10 and 9.
+// A sine condition of the second pass: document 01, "The two passes", and numbers 10 and 9.
 ghost use mathlib.Core.Path.{_≡_};
 ghost use Prim.Native.Nat.{ℕ, _<_, _≤_, _^_};
 ghost use lib.IntN.{pos, natAbs};
@@ -11,9 +11,11 @@ ghost use Rattle.refusals.specs.Ranges.{mostDifference, mostTolerance};
 ghost use Rattle.refusals.specs.Table.{sineMisclosureRow};
 ghost use Rattle.figures.specs.Figure.{angleCount};
 ghost use Rattle.figures.specs.Numerators.{reducedCoefficient, mostAngles};
-ghost use Rattle.pass_rules.specs.SecondPass.{toleranceOf, sineRows, reducedOf};
+ghost use Rattle.wide.specs.Wide.{sizeOf};
+ghost use Rattle.pass_rules.specs.SecondPass.{toleranceOf, sineRows};
 ghost use Rattle.pass_steps.specs.Premises.{Within, LogSines, mostDenominator, mostTaken};
-ghost use Rattle.pass_second.specs.Sines.{signedBy, signedSumsOf, reducedFrom, sinesOf};
+ghost use Rattle.pass_second.specs.Sines.{signedBy, signedSumsOf, reducedFrom, sinesBy, reducedBy};
+use crate::sums::Sums;
 use figure_tables::Signs;
 use figures::Figure;
 use figures::MOST_ANGLES;
@@ -24,8 +26,9 @@ use pass_steps::numerators_into;
 use refusals::Refusal;
 use refusals::Verdict;
 use refusals::first_to_fail;
+use wide::Size;
 
-// W, S and the sum of d².
+// Of a sine condition, by the signs of its angles: its W without known sides, the sum of its squared reduced coefficients, and that of d².
 pub(crate) struct Sines {
     pub misclosure: i64,
     pub squares: i64,
@@ -37,29 +40,26 @@ struct SignedSums {
     difference_squares: i64,
 }
 
-// The reduced coefficients A, with what numbers 10 and 9 ask of.
+// The reduced coefficients of a sine condition, with its sums.
 pub(crate) fn sines_into(
     figure: Figure,
+    signs: Signs,
     log_sines: &[u32],
     differences: &[i32],
     a: &mut [i64],
 ) -> Sines
+    requires { ⌜ ((i : ℕ) → i < angleCount figure → natAbs (vector signs i) ≤ 1) ⌝ }
     requires { ⌜ length (now «log_sines») ≡ angleCount figure ⌝ }
     requires { ⌜ length (now differences) ≡ angleCount figure ⌝ }
     requires { ⌜ length (now a) ≡ angleCount figure ⌝ }
     requires { ⌜ LogSines (now «log_sines») ⌝ }
     requires { ⌜ Within mostDifference (now differences) ⌝ }
-    ensures { λ sines. ⌜ sines ≡ sinesOf figure (now («log_sines» .entry)) (now (differences .entry)) ⌝ }
-    ensures { λ _. ⌜ now (a .exit) ≡ reducedOf figure (now (differences .entry)) ⌝ }
+    ensures { λ sines. ⌜ sines ≡ sinesBy figure signs (now («log_sines» .entry)) (now (differences .entry)) ⌝ }
+    ensures { λ _. ⌜ now (a .exit) ≡ reducedBy figure signs (now (differences .entry)) ⌝ }
 {
     let n = differences.len();
     let mut d = [0i32; MOST_ANGLES];
-    let sums = signed_into(
-        figure_tables::signs_of(figure),
-        log_sines,
-        differences,
-        &mut d[..n],
-    );
+    let sums = signed_into(signs, log_sines, differences, &mut d[..n]);
     let squares = reduced_into(figure, &d[..n], a);
     Sines {
         misclosure: sums.misclosure,
@@ -138,17 +138,21 @@ fn reduced_from(denominator: u32, d: &[i32], taken: &[i32], a: &mut [i64]) -> i6
     squares
 }
 
-// Numbers 10 and 9.
-pub(crate) fn sine_verdict(sines: Sines, tolerance: u32) -> Verdict
-    requires { ⌜ natAbs (sines .misclosure) < 2 ^ 32 ⌝ }
+// Numbers 10 and 9, the latter of each sine condition.
+pub(crate) fn sine_verdict(sums: Sums, divisor: Size, tolerance: u32) -> Verdict
+    requires { ⌜ natAbs (sums .pair .wa) < 2 ^ 32 ⌝ }
+    requires { ⌜ natAbs (sums .pair .wb) < 2 ^ 32 ⌝ }
     requires { ⌜ tolerance ≤ mostTolerance ⌝ }
-    requires { ⌜ pos 0 ≤ℤ sines .«difference_squares» ⌝ }
-    requires { ⌜ natAbs (sines .«difference_squares») < 2 ^ 32 ⌝ }
-    ensures { λ verdict. ⌜ verdict ≡ judged (sineRows tolerance (sines .misclosure) (sines .squares) (sines .«difference_squares»)) ⌝ }
+    requires { ⌜ (pos 0 ≤ℤ sums .«difference_squares») × (natAbs (sums .«difference_squares») < 2 ^ 32) ⌝ }
+    requires { ⌜ (pos 0 ≤ℤ sums .«side_difference_squares») × (natAbs (sums .«side_difference_squares») < 2 ^ 32) ⌝ }
+    ensures { λ verdict. ⌜ verdict ≡ judged (sineRows tolerance (pos (sizeOf divisor))
+        (sums .pair .wa) (sums .«difference_squares») (sums .pair .wb) (sums .«side_difference_squares»)) ⌝ }
 {
-    let zero = judging::squares_verdict(sines.squares);
-    let beyond = tolerance_verdict(sines.misclosure, tolerance, sines.difference_squares);
-    first_to_fail(zero, beyond)
+    let pair = sums.pair;
+    let zero = judging::squares_verdict(divisor.high, divisor.low);
+    let pole = tolerance_verdict(pair.wa, tolerance, sums.difference_squares);
+    let side = tolerance_verdict(pair.wb, tolerance, sums.side_difference_squares);
+    first_to_fail(zero, first_to_fail(pole, side))
 }
 
 // Number 9.

@@ -21,7 +21,7 @@ use Rattle.sheet_rules.specs.Judging.{ownLengths, bodyRows, readingAfter}
 use Rattle.sheet_rules.proofs.Accepted.{head-found}
 use Rattle.pass_rules.specs.FirstPass.{firstRows}
 use Rattle.pass_rules.specs.SecondPass.{secondRows}
-use Rattle.pass_sheet.specs.Worked.{WorkedSheet, shownIf, firstSheet, secondSheet, workedKind, workedRead, workedLook, workedOf, passRows, sheetRows, outcomeTold}
+use Rattle.pass_sheet.specs.Worked.{WorkedSheet, shownIf, firstSheet, secondSheet, entriesOf, workedKind, workedRead, workedLook, workedOf, passRows, sheetRows, outcomeTold}
 
 -- every row is in the table
 pass-known : (kind : Kind) (f : Figure) (v : Values) → T (allInTable (passRows kind f v))
@@ -29,7 +29,8 @@ unfolding firstRows secondRows
 pass-known FirstPass f v = tt
 pass-known SecondPass f v = tt
 
-body-known : (sheet : List ℕ) (kind : Kind) (f : Figure) → T (allInTable (bodyRows kind f sheet (ownLengths kind f) ++ passRows kind f (valuesRead kind f sheet)))
+body-known : (sheet : List ℕ) (kind : Kind) (f : Figure)
+    → T (allInTable (bodyRows kind f sheet (ownLengths kind f) ++ passRows kind f (valuesRead kind f sheet)))
 unfolding bodyRows
 body-known sheet kind f = pass-known kind f (valuesRead kind f sheet)
 
@@ -37,17 +38,21 @@ pub sheet-rows-known : (sheet : List ℕ) → T (allInTable (sheetRows sheet))
 unfolding sheetRows headRows
 sheet-rows-known sheet = go (lookOf sheet)
   where
-    go : (found : Look) → T (allInTable (ofHead found [] (λ kind f. bodyRows kind f sheet (ownLengths kind f) ++ passRows kind f (valuesRead kind f sheet))))
+    go : (found : Look)
+        → T (allInTable (ofHead found []
+        (λ kind f. bodyRows kind f sheet (ownLengths kind f) ++ passRows kind f (valuesRead kind f sheet))))
     go (Head kind f) = body-known sheet kind f
     go (Look.Refused refusal) = tt
 
 -- what a pass shows tells its verdict
-if-told : (verdict : Verdict) (shown : WorkedSheet) → outcomeTold (shown .outcome) ≡ told 0 0 → outcomeTold (shownIf verdict shown .outcome) ≡ verdictTold verdict
+if-told : (verdict : Verdict) (shown : WorkedSheet) → outcomeTold (shown .outcome) ≡ told 0 0
+    → outcomeTold (shownIf verdict shown .outcome) ≡ verdictTold verdict
 if-told Passed shown done = done
 if-told (Failed refusal) shown done = refl
 
 shown-told : (kind : Kind) (f : Figure) (v : Values)
-    → outcomeTold (workedKind kind f (v .limitOrTolerance) (v .angles) (v .fixed) (v .logSines) (v .differences) .outcome) ≡ verdictTold (judged (passRows kind f v))
+    → outcomeTold (workedKind kind f (v .limitOrTolerance) (v .angles) (v .fixed) (entriesOf v) .outcome)
+    ≡ verdictTold (judged (passRows kind f v))
 unfolding firstSheet secondSheet
 shown-told FirstPass f v = if-told (judged (passRows FirstPass f v)) _ refl
 shown-told SecondPass f v = if-told (judged (passRows SecondPass f v)) _ refl
@@ -60,11 +65,14 @@ module _ (sheet : List ℕ) where
       → outcomeTold (workedRead (readingAfter v kind f sheet) sheet .outcome)
       ≡ verdictTold (judged (bodyRows kind f sheet (ownLengths kind f) ++ passRows kind f (valuesRead kind f sheet)))
   body-told kind f Passed e =
-      shown-told kind f (valuesRead kind f sheet) ∙ sym (ap verdictTold (judged-after-pass (bodyRows kind f sheet (ownLengths kind f)) (passRows kind f (valuesRead kind f sheet)) e))
+      shown-told kind f (valuesRead kind f sheet)
+      ∙ sym (ap verdictTold (judged-after-pass (bodyRows kind f sheet (ownLengths kind f)) (passRows kind f (valuesRead kind f sheet)) e))
   body-told kind f (Failed refusal) e =
-      sym (ap verdictTold (judged-after-failure (bodyRows kind f sheet (ownLengths kind f)) (passRows kind f (valuesRead kind f sheet)) refusal e))
+      sym (ap verdictTold
+      (judged-after-failure (bodyRows kind f sheet (ownLengths kind f)) (passRows kind f (valuesRead kind f sheet)) refusal e))
 
-  head-told : (found : Look) → lookOf sheet ≡ found → outcomeTold (workedLook found sheet .outcome) ≡ verdictTold (judged (headRows sheet ++ rowsAfter found))
+  head-told : (found : Look) → lookOf sheet ≡ found
+      → outcomeTold (workedLook found sheet .outcome) ≡ verdictTold (judged (headRows sheet ++ rowsAfter found))
   head-told (Head kind f) e =
       ap (λ (reading : Reading). outcomeTold (workedRead reading sheet .outcome)) (head-found sheet (ownLengths kind f) kind f e)
       ∙ body-told kind f (judged (bodyRows kind f sheet (ownLengths kind f))) refl

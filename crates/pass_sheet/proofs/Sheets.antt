@@ -1,22 +1,30 @@
 -- From what a pass promises to the text of its sheet. Assumes nothing.
-use mathlib.Core.Path.{_≡_, sym, ap, _∙_}
-use native.Mathlib.Omega.{arith}
+use mathlib.Core.Bool.{Bool, true, false}
+use mathlib.Core.Path.{_≡_, sym, ap, _∙_, subst}
 use mathlib.Core.List.{List, _∷_}
-use Prim.Native.Nat.{ℕ}
-use lib.IntN.{ℤ}
+use Prim.Native.Nat.{ℕ, _/_, _%_, _^_}
+use lib.Dec.{T}
+use lib.IntN.{ℤ, pos, natAbs}
 use lib.ListN.{length}
 use Rattle.whole.specs.Sums.{vector, naturals}
+use Rattle.whole.proofs.Order.{natural}
+use Rattle.wide.specs.Wide.{radix}
+use Rattle.wide_words.specs.Words.{joined, highWord, lowWord}
+use Rattle.wide_words.proofs.Joining.{joined-words}
 use Rattle.refusals.specs.declared.Refusal.{Refusal}
 use Rattle.refusals.specs.declared.Verdict.{Verdict}
 use Rattle.refusals.specs.declared.Verdict.the-variants.{Passed, Failed}
 use Rattle.refusals.specs.Order.{judged}
 use Rattle.refusals.specs.Promise.{stored}
 use Rattle.figures.specs.declared.Figure.{Figure}
-use Rattle.lines.specs.Lines.{firstText, secondText, refusedText}
+use Rattle.figures.specs.Figure.{angleCount}
+use Rattle.lines.specs.Lines.{firstText, secondText, refusedText, wideNumbers}
+use Rattle.lines.proofs.WideNumbers.{wide-listed}
 use Rattle.pass_rules.specs.FirstPass.{firstRows, firstResultLengths}
 use Rattle.pass_rules.specs.declared.second.SecondAnswer.{SecondAnswer}
 use Rattle.pass_rules.specs.declared.second.SecondAnswer.the-variants.{Done, Refused}
-use Rattle.pass_rules.specs.SecondPass.{sineMisclosure, sumOfSquares, secondRows, secondResultLengths, secondAnswerOf}
+use Rattle.pass_rules.specs.SecondPass.{SineEntries, sineMisclosure, sideMisclosure, divisor, secondNumerator, secondRows, secondResultLengths, secondAnswerFor, reducedOf, sideReducedOf, secondRoundedOf, adjustedOf, secondRestsOf}
+use Rattle.pass_rules.proofs.SecondLaws.{divisor-natural}
 use Rattle.pass_rules.specs.Promises.{FirstLent, firstResultsLent, firstValuesOf, FirstPromiseOf, SecondLent, secondResultsLent, secondValuesOf, secondVerdictOf, SecondPromiseOf}
 use Rattle.pass_sheet.specs.Texts.{textOf}
 use Rattle.pass_sheet.specs.Worked.{shownIf, firstShown, firstSheetLengths, firstSheet, secondShown, secondSheetLengths, secondSheet}
@@ -42,52 +50,66 @@ module _ (f : Figure) (limit : ℕ) (angles fixed : List ℕ) (entry exit : Firs
 same-refusal : {q r : Refusal} → Refused q ≡ Refused r → q ≡ r
 same-refusal e = cc
 
-same-w : {w s w′ s′ : ℤ} → Done w s ≡ Done w′ s′ → w ≡ w′
-same-w e = cc
+-- the parts of an answer
+told-w : SecondAnswer → ℤ
+told-w (Done w sideW high low) = w
+told-w (Refused r) = pos 0
 
-same-s : {w s w′ s′ : ℤ} → Done w s ≡ Done w′ s′ → s ≡ s′
-same-s e = cc
+told-side : SecondAnswer → ℤ
+told-side (Done w sideW high low) = sideW
+told-side (Refused r) = pos 0
 
-not-both : {w s : ℤ} {r : Refusal} → Done w s ≡ Refused r → ⊥
-not-both e = let clash : _≡_ {A = ℕ} 0 1 = cc in absurd (omega arith)
+told-divisor : SecondAnswer → ℤ
+told-divisor (Done w sideW high low) = joined (pos high) low
+told-divisor (Refused r) = pos 0
 
-module _ (f : Figure) (tolerance : ℕ) (angles logSines : List ℕ) (differences : List ℤ) (entry exit : SecondLent) (answer : SecondAnswer)
-    (promise : SecondPromiseOf f tolerance angles logSines differences entry answer exit) (lengths : secondResultsLent entry ≡ secondResultLengths f) where
-  abbrev w : ℤ
-  w = sineMisclosure f logSines
+is-done : SecondAnswer → Bool
+is-done (Done w sideW high low) = true
+is-done (Refused r) = false
 
-  abbrev s : ℤ
-  s = sumOfSquares f differences
+not-both : {w sideW : ℤ} {high low : ℕ} {r : Refusal} → Done w sideW high low ≡ Refused r → ⊥
+unfolding is-done
+not-both e = subst (λ (a : SecondAnswer). T (is-done a)) e tt
 
+-- the words of S or the determinant are worth it
+divisor-joined : (f : Figure) (e : SineEntries) → joined (pos (natAbs (divisor f e) / 2 ^ 64)) (natAbs (divisor f e) % 2 ^ 64) ≡ divisor f e
+unfolding highWord lowWord radix
+divisor-joined f e = joined-words (pos (natAbs (divisor f e))) ∙ sym (natural (divisor f e) (divisor-natural f e))
+
+module _ (f : Figure) (tolerance : ℕ) (angles : List ℕ) (e : SineEntries) (entry exit : SecondLent) (answer : SecondAnswer)
+    (promise : SecondPromiseOf f tolerance angles e entry answer exit) (lengths : secondResultsLent entry ≡ secondResultLengths f) where
   abbrev verdict : Verdict
-  verdict = secondVerdictOf f tolerance angles logSines differences entry
+  verdict = secondVerdictOf f tolerance angles e entry
 
-  own-verdict : verdict ≡ judged (secondRows f tolerance angles logSines differences (secondSheetLengths f angles logSines differences))
+  own-verdict : verdict ≡ judged (secondRows f tolerance angles e (secondSheetLengths f angles e))
   own-verdict =
-      ap (λ (l : List ℕ). judged (secondRows f tolerance angles logSines differences (length angles ∷ length logSines ∷ length differences ∷ l))) lengths
+      ap (λ (l : List ℕ). judged (secondRows f tolerance angles e (length angles ∷ length (e .logSines) ∷ length (e .differences) ∷ length (e .logSides) ∷ l)))
+      lengths
 
-  pub second-refused : (r : Refusal) → answer ≡ Refused r → refusedText r ≡ textOf (secondSheet f tolerance angles logSines differences)
+  pub second-refused : (r : Refusal) → answer ≡ Refused r → refusedText r ≡ textOf (secondSheet f tolerance angles e)
   unfolding textOf secondSheet
-  second-refused r e =
-      go verdict (sym (promise .answered) ∙ e) ∙ ap (λ (v : Verdict). textOf (shownIf v (secondShown f angles logSines differences))) own-verdict
+  second-refused r is = go verdict (sym (promise .answered) ∙ is) ∙ ap (λ (v : Verdict). textOf (shownIf v (secondShown f angles e))) own-verdict
     where
-      go : (v : Verdict) → secondAnswerOf v w s ≡ Refused r → refusedText r ≡ textOf (shownIf v (secondShown f angles logSines differences))
+      go : (v : Verdict) → secondAnswerFor f e v ≡ Refused r → refusedText r ≡ textOf (shownIf v (secondShown f angles e))
       go Passed told = absurd (not-both told)
       go (Failed q) told = ap refusedText (sym (same-refusal told))
 
-  abbrev textWith : (w s : ℤ) → SecondLent → List ℕ
-  textWith v t x =
-      secondText f v t (naturals angles) (vector (x .reduced)) (vector (x .numerators)) (vector (x .rounded)) (naturals (x .adjusted)) (vector (x .rests))
+  abbrev textWith : (w sideW over : ℤ) → SecondLent → List ℕ
+  textWith w sideW over x =
+      secondText f w sideW over (naturals angles) (vector (x .reduced)) (vector (x .sideReduced)) (wideNumbers (x .highNumerators) (x .lowNumerators))
+      (vector (x .rounded)) (naturals (x .adjusted)) (vector (x .rests))
 
-  pub second-worked : {w′ s′ : ℤ} → answer ≡ Done w′ s′
-      → secondText f w′ s′ (naturals angles) (vector (exit .reduced)) (vector (exit .numerators)) (vector (exit .rounded)) (naturals (exit .adjusted)) (vector (exit .rests))
-      ≡ textOf (secondSheet f tolerance angles logSines differences)
-  unfolding textOf secondSheet
-  second-worked {w′} {s′} e =
-      ap (textWith w′ s′) (promise .leaves) ∙ go verdict (sym (promise .answered) ∙ e)
-      ∙ ap (λ (v : Verdict). textOf (shownIf v (secondShown f angles logSines differences))) own-verdict
+  pub second-worked : {w sideW : ℤ} {high low : ℕ} → answer ≡ Done w sideW high low → textWith w sideW (joined (pos high) low) exit ≡ textOf (secondSheet f tolerance angles e)
+  unfolding textOf secondSheet told-w told-side told-divisor
+  second-worked {w} {sideW} {high} {low} is =
+      ap (textWith w sideW (joined (pos high) low)) (promise .leaves) ∙ go verdict (sym (promise .answered) ∙ is)
+      ∙ ap (λ (v : Verdict). textOf (shownIf v (secondShown f angles e))) own-verdict
     where
-      go : (v : Verdict) → secondAnswerOf v w s ≡ Done w′ s′
-          → textWith w′ s′ (stored v (secondValuesOf f angles logSines differences) entry) ≡ textOf (shownIf v (secondShown f angles logSines differences))
-      go Passed told = λ i. textWith (sym (same-w told) i) (sym (same-s told) i) (secondValuesOf f angles logSines differences)
+      go : (v : Verdict) → secondAnswerFor f e v ≡ Done w sideW high low
+          → textWith w sideW (joined (pos high) low) (stored v (secondValuesOf f angles e) entry) ≡ textOf (shownIf v (secondShown f angles e))
+      go Passed told =
+          (λ i. textWith (sym (ap told-w told) i) (sym (ap told-side told) i) ((sym (ap told-divisor told) ∙ divisor-joined f e) i) (secondValuesOf f angles e))
+          ∙ ap (λ (numerators : ℕ → ℤ). secondText f (sineMisclosure f e) (sideMisclosure f e) (divisor f e) (naturals angles) (vector (reducedOf f e))
+          (vector (sideReducedOf f e)) numerators (vector (secondRoundedOf f e)) (naturals (adjustedOf f angles e)) (vector (secondRestsOf f e)))
+          (wide-listed (angleCount f) (secondNumerator f e))
       go (Failed q) told = absurd (not-both (sym told))

@@ -1,9 +1,9 @@
--- A sheet worked through is shown in one of three ways: as a worked figure of either kind, whose order has passed, or as a refusal. Assumes nothing.
+-- A sheet worked through is shown in one of three ways: as a worked figure of either kind, whose order has passed, or as a refusal. Assumes
+-- nothing.
 use Prim.Native.Nat.{ℕ}
 use mathlib.Core.List.{List, []}
 use mathlib.Core.Logic.{_⊎_, inl, inr}
 use mathlib.Core.Path.{_≡_, refl, sym, ap, subst}
-use lib.IntN.{ℤ}
 use Rattle.refusals.specs.declared.Refusal.{Refusal}
 use Rattle.refusals.specs.declared.Verdict.{Verdict}
 use Rattle.refusals.specs.declared.Verdict.the-variants.{Passed, Failed}
@@ -19,8 +19,8 @@ use Rattle.sheet_rules.specs.Sheet.{valuesRead}
 use Rattle.sheet_rules.specs.Judging.{ownLengths, bodyRows, readingAfter}
 use Rattle.sheet_rules.proofs.Accepted.{head-found}
 use Rattle.pass_rules.specs.FirstPass.{firstRows}
-use Rattle.pass_rules.specs.SecondPass.{secondRows}
-use Rattle.pass_sheet.specs.Worked.{WorkedSheet, firstSheetLengths, secondSheetLengths, refusedSheet, shownIf, firstShown, firstSheet, secondShown, secondSheet, workedRead, workedLook, workedOf, differencesIn}
+use Rattle.pass_rules.specs.SecondPass.{SineEntries, sineEntries, secondRows}
+use Rattle.pass_sheet.specs.Worked.{WorkedSheet, firstSheetLengths, secondSheetLengths, refusedSheet, shownIf, firstShown, firstSheet, secondShown, secondSheet, entriesOf, workedRead, workedLook, workedOf, entriesIn}
 
 pub record FirstShown (worked : WorkedSheet) : Type 0 where
   pub figure : Figure
@@ -34,11 +34,10 @@ pub record SecondShown (sheet : List ℕ) (worked : WorkedSheet) : Type 0 where
   pub figure : Figure
   pub tolerance : ℕ
   pub angles : List ℕ
-  pub logSines : List ℕ
-  pub differences : List ℤ
-  pub held : differencesIn sheet ≡ differences
-  pub passed : judged (secondRows figure tolerance angles logSines differences (secondSheetLengths figure angles logSines differences)) ≡ Passed
-  pub is : worked ≡ secondShown figure angles logSines differences
+  pub entries : SineEntries
+  pub held : entriesIn sheet ≡ entries
+  pub passed : judged (secondRows figure tolerance angles entries (secondSheetLengths figure angles entries)) ≡ Passed
+  pub is : worked ≡ secondShown figure angles entries
 
 pub record RefusedShown (worked : WorkedSheet) : Type 0 where
   pub refusal : Refusal
@@ -60,38 +59,40 @@ module _ (sheet : List ℕ) where
       go Passed e = inl (record { figure = f; limit = limit; angles = angles; fixed = fixed; passed = e; is = refl })
       go (Failed refusal) e = refused-shown refusal
 
-  second-shown : (f : Figure) (tolerance : ℕ) (angles logSines : List ℕ) (differences : List ℤ) → differencesIn sheet ≡ differences
-      → ShownAs sheet (secondSheet f tolerance angles logSines differences)
+  second-shown : (f : Figure) (tolerance : ℕ) (angles : List ℕ) (e : SineEntries) → entriesIn sheet ≡ e
+      → ShownAs sheet (secondSheet f tolerance angles e)
   unfolding secondSheet
-  second-shown f tolerance angles logSines differences held = go (judged (secondRows f tolerance angles logSines differences (secondSheetLengths f angles logSines differences))) refl
+  second-shown f tolerance angles e held = go (judged (secondRows f tolerance angles e (secondSheetLengths f angles e))) refl
     where
-      go : (v : Verdict) → judged (secondRows f tolerance angles logSines differences (secondSheetLengths f angles logSines differences)) ≡ v
-          → ShownAs sheet (shownIf v (secondShown f angles logSines differences))
-      go Passed e = inr (inl (record {
+      go : (v : Verdict) → judged (secondRows f tolerance angles e (secondSheetLengths f angles e)) ≡ v
+          → ShownAs sheet (shownIf v (secondShown f angles e))
+      go Passed passed = inr (inl (record {
         figure = f;
         tolerance = tolerance;
         angles = angles;
-        logSines = logSines;
-        differences = differences;
+        entries = e;
         held = held;
-        passed = e;
+        passed = passed;
         is = refl;
       }))
-      go (Failed refusal) e = refused-shown refusal
+      go (Failed refusal) failed = refused-shown refusal
 
-  read-shown : (kind : Kind) (f : Figure) → differencesIn sheet ≡ valuesRead kind f sheet .differences → (v : Verdict)
+  read-shown : (kind : Kind) (f : Figure) → entriesIn sheet ≡ entriesOf (valuesRead kind f sheet) → (v : Verdict)
       → ShownAs sheet (workedRead (readingAfter v kind f sheet) sheet)
-  read-shown FirstPass f held Passed = first-shown f (valuesRead FirstPass f sheet .limitOrTolerance) (valuesRead FirstPass f sheet .angles) (valuesRead FirstPass f sheet .fixed)
+  read-shown FirstPass f held Passed =
+      first-shown f (valuesRead FirstPass f sheet .limitOrTolerance) (valuesRead FirstPass f sheet .angles)
+      (valuesRead FirstPass f sheet .fixed)
   read-shown FirstPass f held (Failed refusal) = refused-shown refusal
   read-shown SecondPass f held Passed =
-      second-shown f (valuesRead SecondPass f sheet .limitOrTolerance) (valuesRead SecondPass f sheet .angles) (valuesRead SecondPass f sheet .logSines)
-      (valuesRead SecondPass f sheet .differences) held
+      second-shown f (valuesRead SecondPass f sheet .limitOrTolerance) (valuesRead SecondPass f sheet .angles)
+      (entriesOf (valuesRead SecondPass f sheet)) held
   read-shown SecondPass f held (Failed refusal) = refused-shown refusal
 
   look-shown : (found : Look) → lookOf sheet ≡ found → ShownAs sheet (workedLook found sheet)
   look-shown (Head kind f) e =
       subst (λ (reading : Reading). ShownAs sheet (workedRead reading sheet)) (sym (head-found sheet (ownLengths kind f) kind f e))
-      (read-shown kind f (ap (λ (found : Look). ofHead found [] (λ k g. valuesRead k g sheet .differences)) e) (judged (bodyRows kind f sheet (ownLengths kind f))))
+      (read-shown kind f (ap (λ (found : Look). ofHead found (sineEntries [] [] []) (λ k g. entriesOf (valuesRead k g sheet))) e)
+      (judged (bodyRows kind f sheet (ownLengths kind f))))
   look-shown (Look.Refused refusal) e = refused-shown refusal
 
   pub shown-as : ShownAs sheet (workedOf sheet)

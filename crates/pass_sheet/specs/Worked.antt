@@ -9,7 +9,8 @@ use Rattle.refusals.specs.declared.Verdict.{Verdict}
 use Rattle.refusals.specs.declared.Verdict.the-variants.{Passed, Failed}
 use Rattle.refusals.specs.Numbers.{Told, told, refusalTold}
 use Rattle.refusals.specs.Order.{Row, judged}
-use Rattle.figures.specs.Numerators.{mostAngles}
+use Rattle.whole.specs.Lists.{listed}
+use Rattle.figures.specs.Numerators.{mostAngles, mostSides}
 use Rattle.figures.specs.declared.Figure.{Figure}
 use Rattle.figures.specs.Figure.{angleCount}
 use Rattle.sheet_layout.specs.declared.Kind.{Kind}
@@ -17,18 +18,18 @@ use Rattle.sheet_layout.specs.declared.Kind.the-variants.{FirstPass, SecondPass
 use Rattle.sheet_layout.specs.declared.head.Look.{Look}
 use Rattle.sheet_layout.specs.declared.head.Look.the-variants.{Head}
 use Rattle.sheet_layout.specs.Head.{headRows, lookOf, ofHead}
-use Rattle.sheet_layout.specs.Layout.{fixedIn, sineEntriesIn}
+use Rattle.sheet_layout.specs.Layout.{fixedIn, sineEntriesIn, sidesIn}
 use Rattle.sheet_rules.specs.declared.Reading.{Reading}
 use Rattle.sheet_rules.specs.declared.Reading.the-variants.{Read}
 use Rattle.sheet_rules.specs.Judging.{ownLengths, bodyRows, readingOf, readingAfter, afterReading}
 use Rattle.sheet_rules.specs.Sheet.{Values, valuesRead}
 use Rattle.pass_sheet.specs.declared.SheetValues.{SheetValues}
 use Rattle.pass_rules.specs.FirstPass.{firstResultLengths, firstRows, misclosuresOf, numeratorsOf, roundedOf, correctedOf, restsOf}
-use Rattle.pass_rules.specs.SecondPass.{sineMisclosure, sumOfSquares, secondResultLengths, secondRows, reducedOf, secondNumeratorsOf, secondRoundedOf, adjustedOf, secondRestsOf}
+use Rattle.pass_rules.specs.SecondPass.{SineEntries, sineEntries, sineMisclosure, sideMisclosure, divisor, secondNumerator, secondResultLengths, secondRows, reducedOf, sideReducedOf, secondRoundedOf, adjustedOf, secondRestsOf}
 
 -- no figure has more fixed angles
 abbrev pub mostFixed : ℕ
-mostFixed = 3
+mostFixed = 4
 
 -- the arrays have their whole length
 pub record FullArrays (r : SheetValues) : Type 0 where
@@ -36,6 +37,7 @@ pub record FullArrays (r : SheetValues) : Type 0 where
   pub fixed-full : length (r .fixed) ≡ mostFixed
   pub log-sines-full : length (r .«log_sines») ≡ mostAngles
   pub differences-full : length (r .differences) ≡ mostAngles
+  pub log-sides-full : length (r .«log_sides») ≡ mostSides
 
 -- the reader's answer, and its values at the start of each array
 pub record ReadInto (sheet : List ℕ) (kind : Kind) (f : Figure) (r : SheetValues) : Type 0 where
@@ -46,13 +48,14 @@ pub record ReadInto (sheet : List ℕ) (kind : Kind) (f : Figure) (r : SheetValu
   pub log-sines-are : take (sineEntriesIn kind f) (r .«log_sines») ≡ afterReading (r .reading) (λ k g. valuesRead k g sheet .logSines) (take (sineEntriesIn kind f) (r .«log_sines»))
   pub differences-are :
       take (sineEntriesIn kind f) (r .differences) ≡ afterReading (r .reading) (λ k g. valuesRead k g sheet .differences) (take (sineEntriesIn kind f) (r .differences))
+  pub log-sides-are : take (sidesIn kind f) (r .«log_sides») ≡ afterReading (r .reading) (λ k g. valuesRead k g sheet .logSides) (take (sidesIn kind f) (r .«log_sides»))
 
 -- ---- what is shown of a sheet
 
 -- what became of it
 pub data Outcome : Type 0 where
   First : Figure → Outcome
-  Second : Figure → (w s : ℤ) → Outcome
+  Second : Figure → (w sideW divisor : ℤ) → Outcome
   Refused : Refusal → Outcome
 
 -- and a list for each thing that its lines show, in the order of the numbers of angles or conditions; none where a kind has none
@@ -61,6 +64,7 @@ pub record WorkedSheet : Type 0 where
   pub given : List ℕ
   pub misclosures : List ℤ
   pub reduced : List ℤ
+  pub sideReduced : List ℤ
   pub numerators : List ℤ
   pub rounded : List ℤ
   pub results : List ℕ
@@ -72,6 +76,7 @@ refusedSheet r = record {
   given = [];
   misclosures = [];
   reduced = [];
+  sideReduced = [];
   numerators = [];
   rounded = [];
   results = [];
@@ -84,6 +89,7 @@ firstShown f angles fixed = record {
   given = angles;
   misclosures = misclosuresOf f angles fixed;
   reduced = [];
+  sideReduced = [];
   numerators = numeratorsOf f angles fixed;
   rounded = roundedOf f angles fixed;
   results = correctedOf f angles fixed;
@@ -102,47 +108,52 @@ unfoldable pub firstSheet : Figure → (limit : ℕ) → (angles fixed : List �
 firstSheet f limit angles fixed =
     shownIf (judged (firstRows f limit angles fixed (firstSheetLengths f angles fixed))) (firstShown f angles fixed)
 
-abbrev pub secondShown : Figure → (angles logSines : List ℕ) → (differences : List ℤ) → WorkedSheet
-secondShown f angles logSines differences = record {
-  outcome = Second f (sineMisclosure f logSines) (sumOfSquares f differences);
+abbrev pub secondShown : Figure → (angles : List ℕ) → SineEntries → WorkedSheet
+secondShown f angles e = record {
+  outcome = Second f (sineMisclosure f e) (sideMisclosure f e) (divisor f e);
   given = angles;
   misclosures = [];
-  reduced = reducedOf f differences;
-  numerators = secondNumeratorsOf f logSines differences;
-  rounded = secondRoundedOf f logSines differences;
-  results = adjustedOf f angles logSines differences;
-  rests = secondRestsOf f logSines differences;
+  reduced = reducedOf f e;
+  sideReduced = sideReducedOf f e;
+  numerators = listed (angleCount f) (secondNumerator f e);
+  rounded = secondRoundedOf f e;
+  results = adjustedOf f angles e;
+  rests = secondRestsOf f e;
 }
 
 -- kind 2: the second pass of the figure, with slices of the right lengths lent for the results
-abbrev pub secondSheetLengths : Figure → (angles logSines : List ℕ) → (differences : List ℤ) → List ℕ
-secondSheetLengths f angles logSines differences = length angles ∷ length logSines ∷ length differences ∷ secondResultLengths f
+abbrev pub secondSheetLengths : Figure → (angles : List ℕ) → SineEntries → List ℕ
+secondSheetLengths f angles e =
+    length angles ∷ length (e .logSines) ∷ length (e .differences) ∷ length (e .logSides) ∷ secondResultLengths f
 
-unfoldable pub secondSheet : Figure → (tolerance : ℕ) → (angles logSines : List ℕ) → (differences : List ℤ) → WorkedSheet
-secondSheet f tolerance angles logSines differences =
-    shownIf (judged (secondRows f tolerance angles logSines differences (secondSheetLengths f angles logSines differences)))
-    (secondShown f angles logSines differences)
+unfoldable pub secondSheet : Figure → (tolerance : ℕ) → (angles : List ℕ) → SineEntries → WorkedSheet
+secondSheet f tolerance angles e =
+    shownIf (judged (secondRows f tolerance angles e (secondSheetLengths f angles e))) (secondShown f angles e)
 
 -- ---- from what the reader answered
 
-abbrev pub workedKind : Kind → Figure → (limitOrTolerance : ℕ) → (angles fixed logSines : List ℕ) → (differences : List ℤ) → WorkedSheet
-workedKind FirstPass f limit angles fixed logSines differences = firstSheet f limit angles fixed
-workedKind SecondPass f tolerance angles fixed logSines differences = secondSheet f tolerance angles logSines differences
+-- what a sheet of kind 2 has beside its angles
+abbrev pub entriesOf : Values → SineEntries
+entriesOf v = sineEntries (v .logSines) (v .differences) (v .logSides)
 
-abbrev pub workedReading : Reading → (angles fixed logSines : List ℕ) → (differences : List ℤ) → WorkedSheet
-workedReading (Reading.Refused r) angles fixed logSines differences = refusedSheet r
-workedReading (Read kind f limitOrTolerance) angles fixed logSines differences = workedKind kind f limitOrTolerance angles fixed logSines differences
+abbrev pub workedKind : Kind → Figure → (limitOrTolerance : ℕ) → (angles fixed : List ℕ) → SineEntries → WorkedSheet
+workedKind FirstPass f limit angles fixed e = firstSheet f limit angles fixed
+workedKind SecondPass f tolerance angles fixed e = secondSheet f tolerance angles e
+
+abbrev pub workedReading : Reading → (angles fixed : List ℕ) → SineEntries → WorkedSheet
+workedReading (Reading.Refused r) angles fixed e = refusedSheet r
+workedReading (Read kind f limitOrTolerance) angles fixed e = workedKind kind f limitOrTolerance angles fixed e
 
 abbrev pub workedFrom : Kind → Figure → SheetValues → WorkedSheet
 workedFrom kind f v =
-    workedReading (v .reading) (take (angleCount f) (v .angles)) (take (fixedIn kind f) (v .fixed)) (take (sineEntriesIn kind f) (v .«log_sines»)) (take (sineEntriesIn kind f) (v .differences))
+    workedReading (v .reading) (take (angleCount f) (v .angles)) (take (fixedIn kind f) (v .fixed))
+    (sineEntries (take (sineEntriesIn kind f) (v .«log_sines»)) (take (sineEntriesIn kind f) (v .differences)) (take (sidesIn kind f) (v .«log_sides»)))
 
 -- the values that the reader gives, where it gives them
 abbrev pub workedRead : Reading → List ℕ → WorkedSheet
 workedRead (Reading.Refused r) sheet = refusedSheet r
 workedRead (Read kind f limitOrTolerance) sheet =
-    workedKind kind f limitOrTolerance (valuesRead kind f sheet .angles) (valuesRead kind f sheet .fixed)
-    (valuesRead kind f sheet .logSines) (valuesRead kind f sheet .differences)
+    workedKind kind f limitOrTolerance (valuesRead kind f sheet .angles) (valuesRead kind f sheet .fixed) (entriesOf (valuesRead kind f sheet))
 
 abbrev pub workedLook : Look → List ℕ → WorkedSheet
 workedLook (Look.Refused r) sheet = refusedSheet r
@@ -156,8 +167,7 @@ workedOf sheet = workedLook (lookOf sheet) sheet
 
 abbrev pub passRows : Kind → Figure → Values → List Row
 passRows FirstPass f v = firstRows f (v .limitOrTolerance) (v .angles) (v .fixed) (firstSheetLengths f (v .angles) (v .fixed))
-passRows SecondPass f v =
-    secondRows f (v .limitOrTolerance) (v .angles) (v .logSines) (v .differences) (secondSheetLengths f (v .angles) (v .logSines) (v .differences))
+passRows SecondPass f v = secondRows f (v .limitOrTolerance) (v .angles) (entriesOf v) (secondSheetLengths f (v .angles) (entriesOf v))
 
 unfoldable pub sheetRows : List ℕ → List Row
 sheetRows sheet =
@@ -167,9 +177,9 @@ sheetRows sheet =
 -- the number and place of an outcome
 abbrev pub outcomeTold : Outcome → Told
 outcomeTold (First f) = told 0 0
-outcomeTold (Second f w s) = told 0 0
+outcomeTold (Second f w sideW divisor) = told 0 0
 outcomeTold (Outcome.Refused refusal) = refusalTold refusal
 
--- the sine differences that a sheet holds
-abbrev pub differencesIn : List ℕ → List ℤ
-differencesIn sheet = ofHead (lookOf sheet) [] (λ kind f. valuesRead kind f sheet .differences)
+-- the log-sines, sine differences and known log sides that a sheet holds
+abbrev pub entriesIn : List ℕ → SineEntries
+entriesIn sheet = ofHead (lookOf sheet) (sineEntries [] [] []) (λ kind f. entriesOf (valuesRead kind f sheet))

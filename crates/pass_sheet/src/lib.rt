@@ -2,16 +2,19 @@
 // its kind, and its lines laid from what was read and worked.
 ghost use mathlib.Core.Path.{_≡_};
 ghost use Rattle.text.specs.Holds.{Holds};
+ghost use Rattle.pass_rules.specs.SecondPass.{sineEntries};
 ghost use Rattle.pass_sheet.specs.Texts.{textOf, workedText};
 ghost use Rattle.pass_sheet.specs.Worked.{ReadInto, FullArrays, firstSheet, secondSheet, workedFrom};
 use figures::Figure;
 use figures::MOST_ANGLES;
 use figures::MOST_CONDITIONS;
+use figures::MOST_SIDES;
 use lines::first_lines;
 use lines::refused_lines;
 use lines::second_lines;
 use pass_first::first_pass_of;
 use pass_rules::SecondAnswer;
+use pass_rules::second_result_lengths;
 use pass_second::second_pass_of;
 use refusals::Verdict;
 use sheet_rules::Kind;
@@ -19,7 +22,7 @@ use sheet_rules::Look;
 use sheet_rules::Reading;
 
 // No figure has more fixed angles.
-const MOST_FIXED: usize = 3;
+const MOST_FIXED: usize = 4;
 
 // What the reader answered, and the values that it stored from the start of each array.
 struct SheetValues {
@@ -28,6 +31,7 @@ struct SheetValues {
     fixed: [u32; MOST_FIXED],
     log_sines: [u32; MOST_ANGLES],
     differences: [i32; MOST_ANGLES],
+    log_sides: [u32; MOST_SIDES],
 }
 
 fn values_of(sheet: &[u8], kind: Kind, figure: Figure) -> SheetValues
@@ -37,10 +41,12 @@ fn values_of(sheet: &[u8], kind: Kind, figure: Figure) -> SheetValues
     let n = lengths.angles;
     let k = lengths.fixed;
     let m = lengths.log_sines;
+    let s = lengths.log_sides;
     let mut angles = [0u32; MOST_ANGLES];
     let mut fixed = [0u32; MOST_FIXED];
     let mut log_sines = [0u32; MOST_ANGLES];
     let mut differences = [0i32; MOST_ANGLES];
+    let mut log_sides = [0u32; MOST_SIDES];
     let reading = sheet_reader::read_body(
         sheet,
         kind,
@@ -49,6 +55,7 @@ fn values_of(sheet: &[u8], kind: Kind, figure: Figure) -> SheetValues
         &mut fixed[..k],
         &mut log_sines[..m],
         &mut differences[..m],
+        &mut log_sides[..s],
     );
     SheetValues {
         reading,
@@ -56,6 +63,7 @@ fn values_of(sheet: &[u8], kind: Kind, figure: Figure) -> SheetValues
         fixed,
         log_sines,
         differences,
+        log_sides,
     }
 }
 
@@ -112,16 +120,21 @@ fn second_sheet(
     angles: &[u32],
     log_sines: &[u32],
     differences: &[i32],
+    log_sides: &[u32],
 ) -> usize
     ensures { λ next. ⌜ Holds (now (buffer .entry))
-        (textOf (secondSheet figure tolerance (now (angles .entry)) (now («log_sines» .entry)) (now (differences .entry))))
+        (textOf (secondSheet figure tolerance (now (angles .entry))
+        (sineEntries (now («log_sines» .entry)) (now (differences .entry)) (now («log_sides» .entry)))))
         (now (buffer .exit)) next ⌝ }
 {
-    let counts = figure_tables::counts_of(figure);
-    let n = counts.angles;
-    let m = counts.conditions;
+    let lengths = second_result_lengths(figure);
+    let n = lengths[0];
+    let k = lengths[1];
+    let m = lengths[6];
     let mut reduced = [0i64; MOST_ANGLES];
-    let mut numerators = [0i64; MOST_ANGLES];
+    let mut side_reduced = [0i64; MOST_ANGLES];
+    let mut high = [0i64; MOST_ANGLES];
+    let mut low = [0u64; MOST_ANGLES];
     let mut rounded = [0i32; MOST_ANGLES];
     let mut adjusted = [0u32; MOST_ANGLES];
     let mut rests = [0i32; MOST_CONDITIONS];
@@ -131,22 +144,29 @@ fn second_sheet(
         angles,
         log_sines,
         differences,
+        log_sides,
         &mut reduced[..n],
-        &mut numerators[..n],
+        &mut side_reduced[..k],
+        &mut high[..n],
+        &mut low[..n],
         &mut rounded[..n],
         &mut adjusted[..n],
         &mut rests[..m],
     );
     match answer {
         SecondAnswer::Refused(refusal) => refused_lines(buffer, refusal),
-        SecondAnswer::Done(w, s) => second_lines(
+        SecondAnswer::Done(w, side_w, divisor_high, divisor_low) => second_lines(
             buffer,
             figure,
             w,
-            s,
+            side_w,
+            divisor_high,
+            divisor_low,
             angles,
             &reduced[..n],
-            &numerators[..n],
+            &side_reduced[..k],
+            &high[..n],
+            &low[..n],
             &rounded[..n],
             &adjusted[..n],
             &rests[..m],
@@ -163,10 +183,12 @@ fn values_lines(buffer: &mut [u8], kind: Kind, figure: Figure, values: SheetValu
     let n = lengths.angles;
     let k = lengths.fixed;
     let m = lengths.log_sines;
+    let s = lengths.log_sides;
     let angles = values.angles;
     let fixed = values.fixed;
     let log_sines = values.log_sines;
     let differences = values.differences;
+    let log_sides = values.log_sides;
     let reading = values.reading;
     match reading {
         Reading::Refused(refusal) => refused_lines(buffer, refusal),
@@ -189,6 +211,7 @@ fn values_lines(buffer: &mut [u8], kind: Kind, figure: Figure, values: SheetValu
                 &angles[..n],
                 &log_sines[..m],
                 &differences[..m],
+                &log_sides[..s],
             ),
         },
     }

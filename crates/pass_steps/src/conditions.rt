@@ -1,7 +1,10 @@
-// The conditions of each figure, by its family: document 01, "The eight figures". Conditions and angles are used by their indices, counted
-// from 0.
+// The conditions of each figure, by its family: document 01, "The eight figures", and document 02, M-100. Conditions and angles are used by
+// their indices, counted from 0.
+ghost use mathlib.Core.Bool.{cond};
 ghost use mathlib.Core.Path.{_≡_};
-ghost use Prim.Native.Nat.{ℕ, _+_, _*_, _<_, _≤_};
+ghost use Prim.Native.Nat.{ℕ, _+_, _-_, _*_, _<_, _≤_};
+ghost use lib.Dec.{eqb};
+ghost use lib.IntN.{_+ℤ_};
 ghost use lib.ListN.{length};
 ghost use Rattle.whole.specs.Sums.{sum, vector};
 ghost use Rattle.figures.specs.declared.Figure.{Figure};
@@ -9,7 +12,6 @@ ghost use Rattle.figures.specs.Figure.{angleCount, conditionCount};
 ghost use Rattle.figures.specs.Numerators.{conditionSum, mostMembers};
 ghost use Rattle.pass_steps.specs.Steps.{fitting, sumsOf};
 ghost use Rattle.pass_steps.specs.Steps.{held as Steps·held};
-use figure_tables::PointInTriangle;
 use figures::Figure;
 
 // The most that a sum may be, either way: what 32 bits hold.
@@ -51,7 +53,8 @@ fn held(total: i64) -> i32
     }
 }
 
-// The sum over the angles of condition j. Code 1: angles 1 to 4, 3 to 6, 5 to 8. Code 3: the triangles, and the angles at the inner point.
+// The sum over the angles of condition j. Code 1: angles 1 to 4, 3 to 6, 5 to 8. Code 2: the triangles, and the corners. Code 3: the
+// triangles, and the angles at the inner point.
 fn condition_sum(figure: Figure, x: &[i32], j: usize) -> i64
     requires { ⌜ length (now x) ≡ angleCount figure ⌝ }
     requires { ⌜ j < conditionCount figure ⌝ }
@@ -59,7 +62,13 @@ fn condition_sum(figure: Figure, x: &[i32], j: usize) -> i64
 {
     match figure {
         Figure::Quadrilateral => run_sum(x, 2 * j, 1, 4),
-        Figure::PointInTriangle => point_sum(x, j),
+        Figure::PointInTriangle | Figure::PointInQuadrilateral => {
+            if 3 * j < x.len() {
+                run_sum(x, 3 * j, 1, 3)
+            } else {
+                corner_sum(x, 3 * j - x.len())
+            }
+        }
         _ => {
             if 3 * j < x.len() {
                 run_sum(x, 3 * j, 1, 3)
@@ -70,26 +79,20 @@ fn condition_sum(figure: Figure, x: &[i32], j: usize) -> i64
     }
 }
 
-// Code 2: the triangles, and at each corner the last angle of the triangle before with the second of its own.
-fn point_sum(x: &[i32], j: usize) -> i64
-    requires { ⌜ length (now x) ≡ angleCount Figure.PointInTriangle ⌝ }
-    requires { ⌜ j < conditionCount Figure.PointInTriangle ⌝ }
-    ensures { λ total. ⌜ total ≡ conditionSum Figure.PointInTriangle (vector (now (x .entry))) j ⌝ }
+// At the corner whose own triangle begins at `first`: the last angle of the triangle before with the second of its own.
+fn corner_sum(x: &[i32], first: usize) -> i64
+    requires { ⌜ first + 1 < length (now x) ⌝ }
+    ensures { λ total. ⌜ total
+        ≡ vector (now (x .entry)) (cond (eqb first 0) (length (now (x .entry))) first - 1) +ℤ vector (now (x .entry)) (first + 1) ⌝ }
 {
-    if j < PointInTriangle::TRIANGLES {
-        run_sum(x, 3 * j, 1, 3)
-    } else if j == PointInTriangle::TRIANGLES {
-        run_sum(x, 1, 7, 2)
-    } else {
-        run_sum(x, 3 * (j - 4) + 2, 2, 2)
-    }
+    let before = if first == 0 { x.len() } else { first };
+    x[before - 1] as i64 + x[first + 1] as i64
 }
 
 // The sum of `count` numbers: the one at `first`, and then every `step`th.
 fn run_sum(x: &[i32], first: usize, step: usize, count: usize) -> i64
     requires { ⌜ ((k : ℕ) → k < count → first + step * k < length (now x)) ⌝ }
     requires { ⌜ count ≤ mostMembers ⌝ }
-    requires { ⌜ step ≤ 7 ⌝ }
     ensures { λ total. ⌜ total ≡ sum count (λ k. vector (now (x .entry)) (first + step * k)) ⌝ }
 {
     let mut total = 0i64;

@@ -19,6 +19,7 @@ use figure_tables::CentralOctagon;
 use figure_tables::CentralPentagon;
 use figure_tables::CentralQuadrilateral;
 use figure_tables::CentralTriangle;
+use figure_tables::PointInQuadrilateral;
 use figure_tables::PointInTriangle;
 use figure_tables::Quadrilateral;
 use figures::Figure;
@@ -65,6 +66,13 @@ fn table_applied(figure: Figure, w: &[i32], numerators: &mut [i32])
             PointInTriangle::rows(),
             PointInTriangle::ANGLES,
             PointInTriangle::CONDITIONS,
+            w,
+            numerators,
+        ),
+        Figure::PointInQuadrilateral => rows_applied(
+            PointInQuadrilateral::rows(),
+            PointInQuadrilateral::ANGLES,
+            PointInQuadrilateral::CONDITIONS,
             w,
             numerators,
         ),

@@ -38,7 +38,7 @@ misclosuresRow limit misclosures =
 abbrev pub resultsRow : (results : List ℤ) → Row
 resultsRow results = rowAt 7 (length results) (λ p. outsideSigned (pos leastAngle) (pos mostAngle) (numbered results p (pos 0)))
 
--- 8: log-sine or difference outside range; its place is the angle
+-- 8: log-sine, difference or log side outside range; its place is the angle, and log sides are numbered on after the last angle (M-100)
 abbrev pub sineEntryOutside : (logSine : ℕ) → (difference : ℤ) → Question
 sineEntryOutside logSine difference =
     either (outside leastLogSine mostLogSine logSine) (outsideSigned (negℤ (pos mostDifference)) (pos mostDifference) difference)

@@ -1,11 +1,11 @@
--- No sheet is turned back at a place past the number of angles of the largest figure, whoever turns it back: the reader, or a pass. Assumes nothing.
+-- No sheet is turned back at a place past the number of angles of the largest figure, whoever turns it back: the reader, or a pass.
+-- Assumes nothing.
 use Prim.Native.Nat.{ℕ, _≤_}
 use mathlib.Core.List.{List, [], _++_}
 use native.Mathlib.Nat.{le-trans}
 use native.Mathlib.Omega.{arith}
 use lib.Dec.{lit≤}
-use lib.IntN.{ℤ}
-use lib.ListN.{length}
+use lib.ListN.{length, length-append}
 use Rattle.whole.proofs.Lists.{length-listed}
 use Rattle.refusals.specs.Order.{Row, HoldsNowhere}
 use Rattle.refusals.specs.Table.{lengthsRow}
@@ -16,15 +16,16 @@ use Rattle.figures.specs.Numerators.{mostAngles}
 use Rattle.figures.proofs.Figures.{angle-bound, condition-bound}
 use Rattle.sheet_layout.specs.declared.Kind.{Kind}
 use Rattle.sheet_layout.specs.declared.Kind.the-variants.{FirstPass, SecondPass}
-use Rattle.sheet_layout.specs.Layout.{fixedIn, sineEntriesIn}
+use Rattle.sheet_layout.specs.Layout.{fixedIn, sineEntriesIn, sidesIn}
 use Rattle.sheet_layout.specs.declared.head.Look.{Look}
 use Rattle.sheet_layout.specs.declared.head.Look.the-variants.{Head}
 use Rattle.sheet_layout.specs.Head.{headRows, lookOf, ofHead}
+use Rattle.sheet_layout.proofs.Sizes.{entry-bound}
 use Rattle.sheet_rules.specs.Sheet.{valuesRead}
 use Rattle.sheet_rules.specs.Judging.{ownLengths, bodyRows}
 use Rattle.pass_rules.specs.FirstPass.{firstLengths, firstRows, misclosure, corrected}
-use Rattle.pass_rules.specs.SecondPass.{secondLengths, secondRows, secondAdjusted}
-use Rattle.pass_sheet.specs.Worked.{passRows, sheetRows}
+use Rattle.pass_rules.specs.SecondPass.{SineEntries, secondLengths, secondRows, secondAdjusted}
+use Rattle.pass_sheet.specs.Worked.{entriesOf, passRows, sheetRows}
 use Rattle.pass_sheet.proofs.SheetBounds as SheetBounds
 
 -- ---- the reader
@@ -42,13 +43,16 @@ module _ (kind : Kind) (f : Figure) (sheet : List ℕ) where
   unfolding valuesRead
   fixed-few = rw (length-listed (fixedIn kind f) _) (le-trans (SheetBounds.fixed-few kind f) (lit≤ tt))
 
-  pub log-sines-few : length (valuesRead kind f sheet .logSines) ≤ mostAngles
+  -- those of number 8: the log-sines, and the known log sides after them
+  pub entries-few : length (valuesRead kind f sheet .logSines ++ valuesRead kind f sheet .logSides) ≤ mostAngles
   unfolding valuesRead
-  log-sines-few = rw (length-listed (sineEntriesIn kind f) _) (SheetBounds.log-sines-few kind f)
+  entries-few = rw (length-append, length-listed (sineEntriesIn kind f), length-listed (sidesIn kind f)) (entry-bound kind f)
 
-  pub body-within : (lent : List ℕ) (later : List Row) → PlacesWithin mostAngles later → PlacesWithin mostAngles (bodyRows kind f sheet lent ++ later)
+  pub body-within : (lent : List ℕ) (later : List Row) → PlacesWithin mostAngles later
+      → PlacesWithin mostAngles (bodyRows kind f sheet lent ++ later)
   unfolding bodyRows
-  body-within lent later within = λ size lengths filling limit. (angles-few, λ angles. (fixed-few, λ fixed. (log-sines-few, λ sines. within)))
+  body-within lent later within =
+      λ size lengths filling limit. (angles-few, λ angles. (fixed-few, λ fixed. (entries-few, λ entries. within)))
 
 -- ---- the passes, where slices of the right lengths are few values
 
@@ -70,15 +74,15 @@ first-within f limit angles fixed lent few = λ lengths range. (
   ),
 )
 
-pub second-within : (f : Figure) (tolerance : ℕ) (angles logSines : List ℕ) (differences : List ℤ) (lent : List ℕ)
-    → (HoldsNowhere (lengthsRow lent (secondLengths f)) → (length angles ≤ mostAngles) × (length logSines ≤ mostAngles))
-    → PlacesWithin mostAngles (secondRows f tolerance angles logSines differences lent)
+pub second-within : (f : Figure) (tolerance : ℕ) (angles : List ℕ) (e : SineEntries) (lent : List ℕ)
+    → (HoldsNowhere (lengthsRow lent (secondLengths f)) → (length angles ≤ mostAngles) × (length (e .logSines ++ e .logSides) ≤ mostAngles))
+    → PlacesWithin mostAngles (secondRows f tolerance angles e lent)
 unfolding secondRows
-second-within f tolerance angles logSines differences lent few = λ lengths range. (
+second-within f tolerance angles e lent few = λ lengths range. (
   few lengths .0,
   λ angle. (
     few lengths .1,
-    λ entries zero tolerance-row. (rw (length-listed (angleCount f) (secondAdjusted f angles logSines differences)) (angle-bound f), λ results. tt),
+    λ entries zero pole-row side-row. (rw (length-listed (angleCount f) (secondAdjusted f angles e)) (angle-bound f), λ results. tt),
   ),
 )
 
@@ -86,18 +90,20 @@ second-within f tolerance angles logSines differences lent few = λ lengths rang
 
 pass-within : (kind : Kind) (f : Figure) (sheet : List ℕ) → PlacesWithin mostAngles (passRows kind f (valuesRead kind f sheet))
 pass-within FirstPass f sheet =
-    first-within f (valuesRead FirstPass f sheet .limitOrTolerance) (valuesRead FirstPass f sheet .angles) (valuesRead FirstPass f sheet .fixed) _
+    first-within f (valuesRead FirstPass f sheet .limitOrTolerance) (valuesRead FirstPass f sheet .angles)
+    (valuesRead FirstPass f sheet .fixed) _
     (λ lengths. (angles-few FirstPass f sheet, fixed-few FirstPass f sheet))
 pass-within SecondPass f sheet =
-    second-within f (valuesRead SecondPass f sheet .limitOrTolerance) (valuesRead SecondPass f sheet .angles) (valuesRead SecondPass f sheet .logSines)
-    (valuesRead SecondPass f sheet .differences) _
-    (λ lengths. (angles-few SecondPass f sheet, log-sines-few SecondPass f sheet))
+    second-within f (valuesRead SecondPass f sheet .limitOrTolerance) (valuesRead SecondPass f sheet .angles)
+    (entriesOf (valuesRead SecondPass f sheet)) _
+    (λ lengths. (angles-few SecondPass f sheet, entries-few SecondPass f sheet))
 
 pub sheet-within : (sheet : List ℕ) → PlacesWithin mostAngles (sheetRows sheet)
 unfolding sheetRows
 sheet-within sheet = head-within sheet _ (go (lookOf sheet))
   where
     go : (found : Look)
-        → PlacesWithin mostAngles (ofHead found [] (λ kind f. bodyRows kind f sheet (ownLengths kind f) ++ passRows kind f (valuesRead kind f sheet)))
+        → PlacesWithin mostAngles
+        (ofHead found [] (λ kind f. bodyRows kind f sheet (ownLengths kind f) ++ passRows kind f (valuesRead kind f sheet)))
     go (Head kind f) = body-within kind f sheet (ownLengths kind f) (passRows kind f (valuesRead kind f sheet)) (pass-within kind f sheet)
     go (Look.Refused refusal) = tt

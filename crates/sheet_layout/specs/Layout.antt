@@ -5,7 +5,7 @@ use mathlib.Core.Bool.{Bool, cond, _&&_}
 use mathlib.Core.List.{List, [], _∷_, _++_, map}
 use lib.Dec.{eqb}
 use Rattle.figures.specs.declared.Figure.{Figure}
-use Rattle.figures.specs.Figure.{angleCount, fixedCount}
+use Rattle.figures.specs.Figure.{angleCount, fixedCount, sideCount}
 use Rattle.figures.specs.Rows.{eachOf}
 use Rattle.bits.specs.Bits.{fieldAt, totalWidth, byteCount}
 use Rattle.sheet_layout.specs.declared.Kind.{Kind}
@@ -23,7 +23,7 @@ allKinds = FirstPass ∷ SecondPass ∷ []
 
 -- ---- what stands in a sheet, and in which width
 
--- angles, fixed angles, log-sines and differences by their number, counted from 1
+-- angles, fixed angles, log-sines, differences and known log sides by their number, counted from 1
 pub data Item : Type 0 where
   theKind : Item
   theCode : Item
@@ -34,8 +34,9 @@ pub data Item : Type 0 where
   fixedAngle : ℕ → Item
   logSine : ℕ → Item
   difference : ℕ → Item
+  logSide : ℕ → Item
 
--- "kind 4 bits, code 4, n 4, L 10, each angle 23"; "e 6"; "23 angle, 27 log-sine, 15 sine difference"
+-- "kind 4 bits, code 4, n 4, L 10, each angle 23"; "e 6"; "23 angle, 27 log-sine, 15 sine difference"; M-100: a log side 27
 abbrev pub widthOf : Item → ℕ
 widthOf theKind = 4
 widthOf theCode = 4
@@ -46,6 +47,7 @@ widthOf (angle i) = 23
 widthOf (fixedAngle i) = 23
 widthOf (logSine i) = 27
 widthOf (difference i) = 15
+widthOf (logSide i) = 27
 
 -- L or e
 abbrev pub limitOrToleranceItem : Kind → Item
@@ -56,10 +58,11 @@ limitOrToleranceItem SecondPass = tolerance
 abbrev pub head : List Item
 head = theKind ∷ theCode ∷ theN ∷ []
 
--- kind 1: each angle, then the fixed angles. Kind 2: per angle the angle, its log-sine, its sine difference
+-- kind 1: each angle, then the fixed angles. Kind 2: the known log sides (M-100, "after e"), then per angle the angle, its log-sine and its
+-- sine difference
 abbrev pub body : Kind → Figure → List Item
 body FirstPass f = eachOf (angleCount f) (λ i. angle i ∷ []) ++ eachOf (fixedCount f) (λ j. fixedAngle j ∷ [])
-body SecondPass f = eachOf (angleCount f) (λ i. angle i ∷ logSine i ∷ difference i ∷ [])
+body SecondPass f = eachOf (sideCount f) (λ j. logSide j ∷ []) ++ eachOf (angleCount f) (λ i. angle i ∷ logSine i ∷ difference i ∷ [])
 
 unfoldable pub layout : Kind → Figure → List Item
 layout kind f = head ++ (limitOrToleranceItem kind ∷ body kind f)
@@ -74,12 +77,16 @@ abbrev pub sineEntriesIn : Kind → Figure → ℕ
 sineEntriesIn FirstPass f = 0
 sineEntriesIn SecondPass f = angleCount f
 
-abbrev pub lengthsFrom : (angles fixed logSines differences : ℕ) → Lengths
-lengthsFrom a f l d = record { angles = a; fixed = f; «log_sines» = l; differences = d }
+abbrev pub sidesIn : Kind → Figure → ℕ
+sidesIn FirstPass f = 0
+sidesIn SecondPass f = sideCount f
+
+abbrev pub lengthsFrom : (angles fixed logSines differences logSides : ℕ) → Lengths
+lengthsFrom a f l d s = record { angles = a; fixed = f; «log_sines» = l; differences = d; «log_sides» = s }
 
 -- how long each slice of values is
 abbrev pub lengthsOf : Kind → Figure → Lengths
-lengthsOf kind f = lengthsFrom (angleCount f) (fixedIn kind f) (sineEntriesIn kind f) (sineEntriesIn kind f)
+lengthsOf kind f = lengthsFrom (angleCount f) (fixedIn kind f) (sineEntriesIn kind f) (sineEntriesIn kind f) (sidesIn kind f)
 
 -- how many bits the fields take, and how many bytes hold them
 unfoldable pub bitCount : Kind → Figure → ℕ
@@ -101,6 +108,7 @@ sort (angle i) = 5
 sort (fixedAngle i) = 6
 sort (logSine i) = 7
 sort (difference i) = 8
+sort (logSide i) = 9
 
 unfoldable pub numberOfItem : Item → ℕ
 numberOfItem theKind = 0
@@ -112,6 +120,7 @@ numberOfItem (angle i) = i
 numberOfItem (fixedAngle i) = i
 numberOfItem (logSine i) = i
 numberOfItem (difference i) = i
+numberOfItem (logSide i) = i
 
 unfoldable pub same : Item → Item → Bool
 unfolding sort numberOfItem

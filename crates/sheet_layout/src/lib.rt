@@ -25,6 +25,7 @@ pub struct Lengths {
     pub fixed: usize,
     pub log_sines: usize,
     pub differences: usize,
+    pub log_sides: usize,
 }
 
 // The widths of the fields, in bits.
@@ -44,6 +45,8 @@ pub const LOG_SINE_WIDTH: u32 = 27;
 
 pub const DIFFERENCE_WIDTH: u32 = 15;
 
+pub const LOG_SIDE_WIDTH: u32 = 27;
+
 // Where the fields of the head begin, and L or e after them.
 pub const CODE_AT: usize = KIND_WIDTH as usize;
 
@@ -51,12 +54,14 @@ pub const N_AT: usize = CODE_AT + CODE_WIDTH as usize;
 
 pub const LIMIT_OR_TOLERANCE_AT: usize = N_AT + N_WIDTH as usize;
 
-// Where the first angle begins.
+// Where the body begins: kind 1 with the first angle, kind 2 with the first known log side, if the figure has any.
 pub const FIRST_PASS_BODY_AT: usize = LIMIT_OR_TOLERANCE_AT + LIMIT_WIDTH as usize;
 
 pub const SECOND_PASS_BODY_AT: usize = LIMIT_OR_TOLERANCE_AT + TOLERANCE_WIDTH as usize;
 
-// An angle's bits in the body: kind 1 has the angle, kind 2 its log-sine and difference too.
+// A known log side's bits in the body, and an angle's: kind 1 has the angle, kind 2 its log-sine and difference too.
+pub const LOG_SIDE_STEP: usize = LOG_SIDE_WIDTH as usize;
+
 pub const FIRST_PASS_STEP: usize = ANGLE_WIDTH as usize;
 
 pub const SECOND_PASS_STEP: usize = FIRST_PASS_STEP
@@ -74,12 +79,14 @@ pub fn lengths_of(kind: Kind, figure: Figure) -> Lengths
             fixed: counts.fixed,
             log_sines: 0,
             differences: 0,
+            log_sides: 0,
         },
         Kind::SecondPass => Lengths {
             angles: counts.angles,
             fixed: 0,
             log_sines: counts.angles,
             differences: counts.angles,
+            log_sides: counts.sides,
         },
     }
 }
@@ -91,7 +98,9 @@ pub fn bit_count(kind: Kind, figure: Figure) -> usize
     let counts = counts_of(figure);
     match kind {
         Kind::FirstPass => FIRST_PASS_BODY_AT + FIRST_PASS_STEP * (counts.angles + counts.fixed),
-        Kind::SecondPass => SECOND_PASS_BODY_AT + SECOND_PASS_STEP * counts.angles,
+        Kind::SecondPass => {
+            SECOND_PASS_BODY_AT + LOG_SIDE_STEP * counts.sides + SECOND_PASS_STEP * counts.angles
+        }
     }
 }
 

@@ -15,7 +15,7 @@ use Rattle.refusals.proofs.Rows.{none-holds}
 use Rattle.figures.specs.declared.Figure.{Figure}
 use Rattle.figures.specs.Figure.{angleCount}
 use Rattle.sheet_layout.specs.declared.Kind.{Kind}
-use Rattle.sheet_layout.specs.Layout.{fixedIn, sineEntriesIn, lengthsOf}
+use Rattle.sheet_layout.specs.Layout.{fixedIn, sineEntriesIn, sidesIn, lengthsOf}
 use Rattle.sheet_layout.specs.declared.head.Look.{Look}
 use Rattle.sheet_layout.specs.declared.head.Look.the-variants.{Head}
 use Rattle.sheet_layout.specs.Head.{lookOf}
@@ -26,17 +26,19 @@ use Rattle.sheet_rules.specs.Judging.{ownLengths, valueRows, bodyRows, readingA
 use Rattle.sheet_rules.specs.Promises.{Slices, slices, slicesOf, lengthsLent, readAnswer, ReaderPromise}
 use Rattle.refusals.proofs.InSteps.{judged-after-pass, judged-after-failure}
 use Rattle.sheet_rules.proofs.Accepted.{head-refused, head-found, kept}
-use Rattle.sheet_reader.specs.Columns.{valuesTaken, ShortEnough}
+use Rattle.sheet_reader.specs.Columns.{valuesTaken, ShortEnough, firstOf}
 use Rattle.sheet_reader.specs.Parts.{shapeRows, answered, bodyAnswer, BodyPromise}
 use Rattle.sheet_reader.proofs.ColumnLaws.{few-of-each}
 
 -- what was taken off a sheet
-pub record TakenOff (kind : Kind) (f : Figure) (s : List ℕ) (limitOrTolerance : ℕ) (angles fixed logSines : List ℕ) (differences : List ℤ) : Type 0 where
+pub record TakenOff (kind : Kind) (f : Figure) (s : List ℕ) (limitOrTolerance : ℕ) (angles fixed logSines : List ℕ) (differences : List ℤ) (logSides : List ℕ)
+    : Type 0 where
   pub limit : limitOrTolerance ≡ valuesRead kind f s .limitOrTolerance
   pub each-angle : take (angleCount f) angles ≡ valuesRead kind f s .angles
   pub each-fixed : take (fixedIn kind f) fixed ≡ valuesRead kind f s .fixed
   pub each-log-sine : take (sineEntriesIn kind f) logSines ≡ valuesRead kind f s .logSines
   pub each-difference : take (sineEntriesIn kind f) differences ≡ valuesRead kind f s .differences
+  pub each-log-side : take (sidesIn kind f) logSides ≡ valuesRead kind f s .logSides
 
 module _ (kind : Kind) (f : Figure) (s : List ℕ) (entry : Slices) where
   refused : (r : Refusal) → judged (bodyRows kind f s (lengthsLent entry)) ≡ Failed r → BodyPromise kind f s entry (Reading.Refused r) entry
@@ -58,23 +60,24 @@ module _ (kind : Kind) (f : Figure) (s : List ℕ) (entry : Slices) where
     as-many i = ap (λ (l : List ℕ). getD l i 0) right-lengths
 
     pub short-enough : ShortEnough entry
-    short-enough = omega (arith, few-of-each kind f {lengths = lengthsOf kind f} refl, as-many 0, as-many 1, as-many 2, as-many 3)
+    short-enough = omega (arith, few-of-each kind f {lengths = lengthsOf kind f} refl, as-many 0, as-many 1, as-many 2, as-many 3, as-many 4)
 
-    module _ {l : ℕ} {angles fixed logSines : List ℕ} {differences : List ℤ} (off : TakenOff kind f s l angles fixed logSines differences)
-        {verdict : Verdict} (is : verdict ≡ judged (valueRows kind (valuesTaken kind f l angles fixed logSines differences))) where
+    module _ {l : ℕ} {angles fixed logSines : List ℕ} {differences : List ℤ} {logSides : List ℕ}
+        (off : TakenOff kind f s l angles fixed logSines differences logSides)
+        {verdict : Verdict} (is : verdict ≡ judged (valueRows kind (valuesTaken kind f l angles fixed logSines differences logSides))) where
       -- the values decide
       decided : judged (bodyRows kind f s (lengthsLent entry)) ≡ verdict
       unfolding bodyRows
       decided =
           judged-after-pass (shapeRows kind f s (lengthsLent entry)) (valueRows kind (valuesRead kind f s)) (sym is-shape ∙ passes)
-          ∙ sym (is ∙ rw (off .limit, off .each-angle, off .each-fixed, off .each-log-sine, off .each-difference))
+          ∙ sym (is ∙ rw (off .limit, off .each-angle, off .each-fixed, off .each-log-sine, off .each-difference, off .each-log-side))
 
       pub values-refused : {reading : Reading} (r : Refusal) → reading ≡ answered verdict kind f l → verdict ≡ Failed r → BodyPromise kind f s entry reading entry
       values-refused r is-reading e =
           rw (is-reading, e) (refused r (decided ∙ e))
 
       pub values-read : {reading : Reading} {exit : Slices} → reading ≡ answered verdict kind f l → verdict ≡ Passed
-          → exit ≡ slices (take (length (entry .angles)) angles) (take (length (entry .fixed)) fixed) (take (length (entry .logSines)) logSines) (take (length (entry .differences)) differences)
+          → exit ≡ firstOf entry (slices angles fixed logSines differences logSides)
           → BodyPromise kind f s entry reading exit
       values-read is-reading e stored =
           let answer : bodyAnswer kind f s entry ≡ Read kind f (valuesRead kind f s .limitOrTolerance) =
@@ -83,7 +86,7 @@ module _ (kind : Kind) (f : Figure) (s : List ℕ) (entry : Slices) where
             answered = is-reading ∙ ap (λ (v : Verdict). answered v kind f l) e ∙ ap (Read kind f) (off .limit) ∙ sym answer;
             leaves =
                 stored
-                ∙ (rw (as-many 0, as-many 1, as-many 2, as-many 3, off .each-angle, off .each-fixed, off .each-log-sine, off .each-difference))
+                ∙ (rw (as-many 0, as-many 1, as-many 2, as-many 3, as-many 4, off .each-angle, off .each-fixed, off .each-log-sine, off .each-difference, off .each-log-side))
                 ∙ sym (ap (λ (reading : Reading). afterReading reading (λ k g. slicesOf (valuesRead k g s)) entry) answer);
           }
 

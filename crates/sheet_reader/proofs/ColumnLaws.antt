@@ -8,7 +8,7 @@ use native.Mathlib.Omega.{arith}
 use lib.Dec.{T, eqb, eqb→eq}
 use lib.IntN.{ℤ}
 use lib.ListN.{take}
-use Rattle.whole.specs.Lists.{every, everyBelow}
+use Rattle.whole.specs.Lists.{listed, every, everyBelow}
 use Rattle.whole.proofs.Computed.{and-left, and-right, every-below}
 use Rattle.whole.proofs.Lists.{listed-ext}
 use Rattle.bits.specs.Bits.{fieldAt}
@@ -19,12 +19,12 @@ use Rattle.figures.proofs.Figures.{angle-bound}
 use Rattle.sheet_layout.specs.declared.Kind.{Kind}
 use Rattle.sheet_layout.specs.declared.Kind.the-variants.{FirstPass, SecondPass}
 use Rattle.sheet_layout.specs.declared.Lengths.{Lengths}
-use Rattle.sheet_layout.specs.Layout.{Item, angle, fixedAngle, logSine, difference, widthOf, layout, lengthsOf, limitOrToleranceItem, fixedIn, sineEntriesIn, sort, numberOfItem, same, positionOf, held}
-use Rattle.sheet_layout.proofs.Sizes.{fixed-bound}
+use Rattle.sheet_layout.specs.Layout.{Item, angle, fixedAngle, logSine, difference, logSide, widthOf, layout, lengthsOf, limitOrToleranceItem, fixedIn, sineEntriesIn, sidesIn, sort, numberOfItem, same, positionOf, held}
+use Rattle.sheet_layout.proofs.Sizes.{fixed-bound, side-bound}
 use Rattle.sheet_rules.specs.Sheet.{valuesRead}
 use Rattle.sheet_rules.proofs.Positions.{each}
 use Rattle.sheet_reader.specs.declared.columns.Column.{Column}
-use Rattle.sheet_reader.specs.Columns.{angleColumn, fixedColumn, logSineColumn, differenceColumn, ColumnFits, columnValues, signedColumnValues}
+use Rattle.sheet_reader.specs.Columns.{angleColumn, fixedColumn, logSineColumn, differenceColumn, logSideColumn, ColumnFits, columnValues, signedColumnValues}
 
 -- ---- items in columns
 
@@ -55,21 +55,25 @@ module _ (item : ℕ → Item) (count : Kind → Figure → ℕ) (column : Kind 
         width = eqb→eq (widthOf p) (column kind f .width) (and-right first second all);
       }
 
-pub angle-in-column : (kind : Kind) (f : Figure) (i : ℕ) → i < angleCount f → InColumn kind f (angle (suc i)) (angleColumn kind) i
+pub angle-in-column : (kind : Kind) (f : Figure) (i : ℕ) → i < angleCount f → InColumn kind f (angle (suc i)) (angleColumn kind f) i
 unfolding layout positionOf same sort numberOfItem isColumn isInColumn
-angle-in-column = in-column angle (λ kind f. angleCount f) (λ kind f. angleColumn kind) tt
+angle-in-column = in-column angle (λ kind f. angleCount f) angleColumn tt
 
 pub fixed-in-column : (kind : Kind) (f : Figure) (i : ℕ) → i < fixedIn kind f → InColumn kind f (fixedAngle (suc i)) (fixedColumn f) i
 unfolding layout positionOf same sort numberOfItem isColumn isInColumn
 fixed-in-column = in-column fixedAngle fixedIn (λ kind f. fixedColumn f) tt
 
-pub log-sine-in-column : (kind : Kind) (f : Figure) (i : ℕ) → i < sineEntriesIn kind f → InColumn kind f (logSine (suc i)) logSineColumn i
+pub log-sine-in-column : (kind : Kind) (f : Figure) (i : ℕ) → i < sineEntriesIn kind f → InColumn kind f (logSine (suc i)) (logSineColumn f) i
 unfolding layout positionOf same sort numberOfItem isColumn isInColumn
-log-sine-in-column = in-column logSine sineEntriesIn (λ kind f. logSineColumn) tt
+log-sine-in-column = in-column logSine sineEntriesIn (λ kind f. logSineColumn f) tt
 
-pub difference-in-column : (kind : Kind) (f : Figure) (i : ℕ) → i < sineEntriesIn kind f → InColumn kind f (difference (suc i)) differenceColumn i
+pub difference-in-column : (kind : Kind) (f : Figure) (i : ℕ) → i < sineEntriesIn kind f → InColumn kind f (difference (suc i)) (differenceColumn f) i
 unfolding layout positionOf same sort numberOfItem isColumn isInColumn
-difference-in-column = in-column difference sineEntriesIn (λ kind f. differenceColumn) tt
+difference-in-column = in-column difference sineEntriesIn (λ kind f. differenceColumn f) tt
+
+pub log-side-in-column : (kind : Kind) (f : Figure) (i : ℕ) → i < sidesIn kind f → InColumn kind f (logSide (suc i)) logSideColumn i
+unfolding layout positionOf same sort numberOfItem isColumn isInColumn
+log-side-in-column = in-column logSide sidesIn (λ kind f. logSideColumn) tt
 
 -- what is held as an item of a column
 held-in-column : (kind : Kind) (f : Figure) (s : List ℕ) (p : Item) (c : Column) (i : ℕ) → InColumn kind f p c i
@@ -77,31 +81,37 @@ held-in-column : (kind : Kind) (f : Figure) (s : List ℕ) (p : Item) (c : Colum
 unfolding held
 held-in-column kind f s p c i h = ap₂ (fieldAt s) (h .position) (h .width)
 
+-- the items of a column, read in their order
+column-read : (kind : Kind) (f : Figure) (s : List ℕ) (item : ℕ → Item) (c : Column) (count : ℕ) → ((i : ℕ) → i < count → InColumn kind f (item (suc i)) c i)
+    → listed count (λ i. held (layout kind f) s (item (suc i))) ≡ columnValues s c count
+unfolding columnValues
+column-read kind f s item c count stands =
+    listed-ext count (λ i. held (layout kind f) s (item (suc i))) (λ i. fieldAt s (c .start + c .step * i) (c .width))
+    (λ i h. held-in-column kind f s (item (suc i)) c i (stands i h))
+
 module _ (kind : Kind) (f : Figure) (s : List ℕ) where
-  pub angles-read : valuesRead kind f s .angles ≡ columnValues s (angleColumn kind) (angleCount f)
-  unfolding valuesRead columnValues
-  angles-read =
-      listed-ext (angleCount f) (λ i. held (layout kind f) s (angle (suc i))) (λ i. fieldAt s (angleColumn kind .start + angleColumn kind .step * i) (angleColumn kind .width))
-      (λ i h. held-in-column kind f s (angle (suc i)) (angleColumn kind) i (angle-in-column kind f i h))
+  pub angles-read : valuesRead kind f s .angles ≡ columnValues s (angleColumn kind f) (angleCount f)
+  unfolding valuesRead
+  angles-read = column-read kind f s angle (angleColumn kind f) (angleCount f) (angle-in-column kind f)
 
   pub fixed-read : valuesRead kind f s .fixed ≡ columnValues s (fixedColumn f) (fixedIn kind f)
-  unfolding valuesRead columnValues
-  fixed-read =
-      listed-ext (fixedIn kind f) (λ i. held (layout kind f) s (fixedAngle (suc i))) (λ i. fieldAt s (fixedColumn f .start + fixedColumn f .step * i) (fixedColumn f .width))
-      (λ i h. held-in-column kind f s (fixedAngle (suc i)) (fixedColumn f) i (fixed-in-column kind f i h))
+  unfolding valuesRead
+  fixed-read = column-read kind f s fixedAngle (fixedColumn f) (fixedIn kind f) (fixed-in-column kind f)
 
-  pub log-sines-read : valuesRead kind f s .logSines ≡ columnValues s logSineColumn (sineEntriesIn kind f)
-  unfolding valuesRead columnValues
-  log-sines-read =
-      listed-ext (sineEntriesIn kind f) (λ i. held (layout kind f) s (logSine (suc i))) (λ i. fieldAt s (logSineColumn .start + logSineColumn .step * i) (logSineColumn .width))
-      (λ i h. held-in-column kind f s (logSine (suc i)) logSineColumn i (log-sine-in-column kind f i h))
+  pub log-sines-read : valuesRead kind f s .logSines ≡ columnValues s (logSineColumn f) (sineEntriesIn kind f)
+  unfolding valuesRead
+  log-sines-read = column-read kind f s logSine (logSineColumn f) (sineEntriesIn kind f) (log-sine-in-column kind f)
 
-  pub differences-read : valuesRead kind f s .differences ≡ signedColumnValues s differenceColumn (sineEntriesIn kind f)
+  pub differences-read : valuesRead kind f s .differences ≡ signedColumnValues s (differenceColumn f) (sineEntriesIn kind f)
   unfolding valuesRead signedColumnValues
   differences-read =
       listed-ext (sineEntriesIn kind f) (λ i. signedOf 15 (held (layout kind f) s (difference (suc i))))
-      (λ i. signedOf 15 (fieldAt s (differenceColumn .start + differenceColumn .step * i) (differenceColumn .width)))
-      (λ i h. ap (signedOf 15) (held-in-column kind f s (difference (suc i)) differenceColumn i (difference-in-column kind f i h)))
+      (λ i. signedOf 15 (fieldAt s (differenceColumn f .start + differenceColumn f .step * i) (differenceColumn f .width)))
+      (λ i h. ap (signedOf 15) (held-in-column kind f s (difference (suc i)) (differenceColumn f) i (difference-in-column kind f i h)))
+
+  pub log-sides-read : valuesRead kind f s .logSides ≡ columnValues s logSideColumn (sidesIn kind f)
+  unfolding valuesRead
+  log-sides-read = column-read kind f s logSide logSideColumn (sidesIn kind f) (log-side-in-column kind f)
 
 -- L or e stands after the head
 pub limit-or-tolerance-read : (kind : Kind) (f : Figure) (s : List ℕ) → valuesRead kind f s .limitOrTolerance ≡ fieldAt s 12 (widthOf (limitOrToleranceItem kind))
@@ -113,21 +123,22 @@ limit-or-tolerance-read SecondPass f s = refl
 
 -- there are at most 24 values of each sort
 pub few-of-each : (kind : Kind) (f : Figure) {lengths : Lengths} → lengths ≡ lengthsOf kind f
-    → (lengths .angles ≤ 24) × (lengths .fixed ≤ 24) × (lengths .«log_sines» ≤ 24) × (lengths .differences ≤ 24)
+    → (lengths .angles ≤ 24) × (lengths .fixed ≤ 24) × (lengths .«log_sines» ≤ 24) × (lengths .differences ≤ 24) × (lengths .«log_sides» ≤ 24)
 few-of-each kind f e = rw e (go kind)
   where
-    go : (kind : Kind) → (angleCount f ≤ 24) × (fixedIn kind f ≤ 24) × (sineEntriesIn kind f ≤ 24) × (sineEntriesIn kind f ≤ 24)
+    go : (kind : Kind)
+        → (angleCount f ≤ 24) × (fixedIn kind f ≤ 24) × (sineEntriesIn kind f ≤ 24) × (sineEntriesIn kind f ≤ 24) × (sidesIn kind f ≤ 24)
     go FirstPass = omega (arith, angle-bound f, fixed-bound f)
-    go SecondPass = omega (arith, angle-bound f)
+    go SecondPass = omega (arith, angle-bound f, side-bound f)
 
 module _ (kind : Kind) (f : Figure) {lengths : Lengths} (is-lengths : lengths ≡ lengthsOf kind f) {c : Column} where
   -- they are short and end early
-  pub angles-fit : c ≡ angleColumn kind → ColumnFits c (lengths .angles)
+  pub angles-fit : c ≡ angleColumn kind f → ColumnFits c (lengths .angles)
   angles-fit e = rw (is-lengths, e) (go kind)
     where
-      go : (kind : Kind) → ColumnFits (angleColumn kind) (lengthsOf kind f .angles)
+      go : (kind : Kind) → ColumnFits (angleColumn kind f) (lengthsOf kind f .angles)
       go FirstPass = (angle-bound f, omega (arith, angle-bound f))
-      go SecondPass = (angle-bound f, omega (arith, angle-bound f))
+      go SecondPass = (angle-bound f, omega (arith, angle-bound f, side-bound f))
 
   pub fixed-fit : c ≡ fixedColumn f → ColumnFits c (lengths .fixed)
   fixed-fit e = rw (is-lengths, e) (go kind)
@@ -136,23 +147,30 @@ module _ (kind : Kind) (f : Figure) {lengths : Lengths} (is-lengths : lengths �
       go FirstPass = (omega (arith, fixed-bound f), omega (arith, angle-bound f, fixed-bound f))
       go SecondPass = (omega arith, omega (arith, angle-bound f))
 
-  pub log-sines-fit : c ≡ logSineColumn → ColumnFits c (lengths .«log_sines»)
+  pub log-sines-fit : c ≡ logSineColumn f → ColumnFits c (lengths .«log_sines»)
   log-sines-fit e = rw (is-lengths, e) (go kind)
     where
-      go : (kind : Kind) → ColumnFits logSineColumn (lengthsOf kind f .«log_sines»)
-      go FirstPass = (omega arith, omega arith)
-      go SecondPass = (angle-bound f, omega (arith, angle-bound f))
+      go : (kind : Kind) → ColumnFits (logSineColumn f) (lengthsOf kind f .«log_sines»)
+      go FirstPass = (omega arith, omega (arith, side-bound f))
+      go SecondPass = (angle-bound f, omega (arith, angle-bound f, side-bound f))
 
-  pub differences-fit : c ≡ differenceColumn → ColumnFits c (lengths .differences)
+  pub differences-fit : c ≡ differenceColumn f → ColumnFits c (lengths .differences)
   differences-fit e = rw (is-lengths, e) (go kind)
     where
-      go : (kind : Kind) → ColumnFits differenceColumn (lengthsOf kind f .differences)
+      go : (kind : Kind) → ColumnFits (differenceColumn f) (lengthsOf kind f .differences)
+      go FirstPass = (omega arith, omega (arith, side-bound f))
+      go SecondPass = (angle-bound f, omega (arith, angle-bound f, side-bound f))
+
+  pub log-sides-fit : c ≡ logSideColumn → ColumnFits c (lengths .«log_sides»)
+  log-sides-fit e = rw (is-lengths, e) (go kind)
+    where
+      go : (kind : Kind) → ColumnFits logSideColumn (lengthsOf kind f .«log_sides»)
       go FirstPass = (omega arith, omega arith)
-      go SecondPass = (angle-bound f, omega (arith, angle-bound f))
+      go SecondPass = (omega (arith, side-bound f), omega (arith, side-bound f))
 
   -- and hold the values of the sheet
   module _ (s values : List ℕ) where
-    pub angles-held : c ≡ angleColumn kind → take (lengths .angles) values ≡ columnValues s c (lengths .angles)
+    pub angles-held : c ≡ angleColumn kind f → take (lengths .angles) values ≡ columnValues s c (lengths .angles)
         → take (angleCount f) values ≡ valuesRead kind f s .angles
     angles-held e is = (rw (is-lengths, e) at is) ∙ sym (angles-read kind f s)
 
@@ -160,11 +178,15 @@ module _ (kind : Kind) (f : Figure) {lengths : Lengths} (is-lengths : lengths �
         → take (fixedIn kind f) values ≡ valuesRead kind f s .fixed
     fixed-held e is = (rw (is-lengths, e) at is) ∙ sym (fixed-read kind f s)
 
-    pub log-sines-held : c ≡ logSineColumn → take (lengths .«log_sines») values ≡ columnValues s c (lengths .«log_sines»)
+    pub log-sines-held : c ≡ logSineColumn f → take (lengths .«log_sines») values ≡ columnValues s c (lengths .«log_sines»)
         → take (sineEntriesIn kind f) values ≡ valuesRead kind f s .logSines
     log-sines-held e is = (rw (is-lengths, e) at is) ∙ sym (log-sines-read kind f s)
 
-  pub differences-held : (s : List ℕ) (values : List ℤ) → c ≡ differenceColumn
+    pub log-sides-held : c ≡ logSideColumn → take (lengths .«log_sides») values ≡ columnValues s c (lengths .«log_sides»)
+        → take (sidesIn kind f) values ≡ valuesRead kind f s .logSides
+    log-sides-held e is = (rw (is-lengths, e) at is) ∙ sym (log-sides-read kind f s)
+
+  pub differences-held : (s : List ℕ) (values : List ℤ) → c ≡ differenceColumn f
       → take (lengths .differences) values ≡ signedColumnValues s c (lengths .differences)
       → take (sineEntriesIn kind f) values ≡ valuesRead kind f s .differences
   differences-held s values e is = (rw (is-lengths, e) at is) ∙ sym (differences-read kind f s)

@@ -6,32 +6,39 @@ use lib.IntN.{ℤ}
 use lib.ListN.{length, take}
 use Rattle.whole.specs.Lists.{listed}
 use Rattle.figures.specs.declared.Figure.{Figure}
-use Rattle.figures.specs.Figure.{angleCount}
+use Rattle.figures.specs.Figure.{angleCount, sideCount}
 use Rattle.figures.specs.Numerators.{mostAngles}
 use Rattle.bits.specs.Bits.{fieldAt}
 use Rattle.bits.specs.Complement.{signedOf}
 use Rattle.sheet_layout.specs.declared.Kind.{Kind}
 use Rattle.sheet_layout.specs.declared.Kind.the-variants.{FirstPass, SecondPass}
-use Rattle.sheet_layout.specs.Layout.{fixedIn, sineEntriesIn}
+use Rattle.sheet_layout.specs.Layout.{fixedIn, sineEntriesIn, sidesIn}
 use Rattle.sheet_rules.specs.Sheet.{Values, valuesFrom, mostBits}
-use Rattle.sheet_rules.specs.Promises.{Slices}
+use Rattle.sheet_rules.specs.Promises.{Slices, slices}
 use Rattle.sheet_reader.specs.declared.columns.Column.{Column}
 
 abbrev pub columnFrom : (start step width : ℕ) → Column
 columnFrom a b w = record { start = a; step = b; width = w }
 
-abbrev pub angleColumn : Kind → Column
-angleColumn FirstPass = columnFrom 22 23 23
-angleColumn SecondPass = columnFrom 18 65 23
+-- where the rows of kind 2 begin, after the known log sides
+abbrev pub rowsStart : Figure → ℕ
+rowsStart f = 18 + 27 * sideCount f
+
+abbrev pub angleColumn : Kind → Figure → Column
+angleColumn FirstPass f = columnFrom 22 23 23
+angleColumn SecondPass f = columnFrom (rowsStart f) 65 23
 
 abbrev pub fixedColumn : Figure → Column
 fixedColumn f = columnFrom (22 + 23 * angleCount f) 23 23
 
-abbrev pub logSineColumn : Column
-logSineColumn = columnFrom 41 65 27
+abbrev pub logSineColumn : Figure → Column
+logSineColumn f = columnFrom (rowsStart f + 23) 65 27
 
-abbrev pub differenceColumn : Column
-differenceColumn = columnFrom 68 65 15
+abbrev pub differenceColumn : Figure → Column
+differenceColumn f = columnFrom (rowsStart f + 50) 65 15
+
+abbrev pub logSideColumn : Column
+logSideColumn = columnFrom 18 27 27
 
 -- so many of its values are few, and end early
 abbrev pub ColumnFits : Column → (count : ℕ) → Type 0
@@ -47,13 +54,20 @@ signedColumnValues sheet c count = listed count (λ i. signedOf (c .width) (fiel
 -- ---- values that were taken off a sheet
 
 -- as many of each sort as the kind and the figure have
-abbrev pub valuesTaken : Kind → Figure → (limitOrTolerance : ℕ) (angles fixed logSines : List ℕ) (differences : List ℤ) → Values
-valuesTaken kind f limitOrTolerance angles fixed logSines differences =
+abbrev pub valuesTaken : Kind → Figure
+    → (limitOrTolerance : ℕ) (angles fixed logSines : List ℕ) (differences : List ℤ) (logSides : List ℕ) → Values
+valuesTaken kind f limitOrTolerance angles fixed logSines differences logSides =
     valuesFrom limitOrTolerance (take (angleCount f) angles) (take (fixedIn kind f) fixed)
-    (take (sineEntriesIn kind f) logSines) (take (sineEntriesIn kind f) differences)
+    (take (sineEntriesIn kind f) logSines) (take (sineEntriesIn kind f) differences) (take (sidesIn kind f) logSides)
 
 -- no slice is longer than the arrays
 abbrev pub ShortEnough : Slices → Type 0
 ShortEnough lent =
     (length (lent .angles) ≤ mostAngles) × (length (lent .fixed) ≤ mostAngles)
-    × (length (lent .logSines) ≤ mostAngles) × (length (lent .differences) ≤ mostAngles)
+    × (length (lent .logSines) ≤ mostAngles) × (length (lent .differences) ≤ mostAngles) × (length (lent .logSides) ≤ mostAngles)
+
+-- the first values of each sort, as many as are lent
+abbrev pub firstOf : (lent taken : Slices) → Slices
+firstOf lent taken = slices (take (length (lent .angles)) (taken .angles)) (take (length (lent .fixed)) (taken .fixed))
+    (take (length (lent .logSines)) (taken .logSines)) (take (length (lent .differences)) (taken .differences))
+    (take (length (lent .logSides)) (taken .logSides))

@@ -1,7 +1,7 @@
 // Columns of a sheet: the values of one sort, as they stand in it.
 ghost use mathlib.Core.Path.{_≡_};
 ghost use lib.ListN.{take};
-ghost use Rattle.sheet_reader.specs.Columns.{angleColumn, fixedColumn, logSineColumn, differenceColumn};
+ghost use Rattle.sheet_reader.specs.Columns.{rowsStart, angleColumn, fixedColumn, logSineColumn, differenceColumn, logSideColumn};
 ghost use Rattle.sheet_reader.specs.Columns.{ColumnFits, columnValues, signedColumnValues};
 use bits::field;
 use bits::signed;
@@ -13,6 +13,8 @@ use sheet_layout::DIFFERENCE_WIDTH;
 use sheet_layout::FIRST_PASS_BODY_AT;
 use sheet_layout::FIRST_PASS_STEP;
 use sheet_layout::Kind;
+use sheet_layout::LOG_SIDE_STEP;
+use sheet_layout::LOG_SIDE_WIDTH;
 use sheet_layout::LOG_SINE_WIDTH;
 use sheet_layout::SECOND_PASS_BODY_AT;
 use sheet_layout::SECOND_PASS_STEP;
@@ -24,13 +26,20 @@ pub(crate) struct Column {
     pub(crate) width: u32,
 }
 
-// Where log-sines and differences begin in kind 2, after the first angle.
-const LOG_SINES_AT: usize = 41;
+// Where the log-sine and the difference stand in a row of kind 2, after the angle.
+const LOG_SINE_IN_ROW: usize = 23;
 
-const DIFFERENCES_AT: usize = 68;
+const DIFFERENCE_IN_ROW: usize = 50;
 
-pub(crate) fn angle_column(kind: Kind) -> Column
-    ensures { λ column. ⌜ column ≡ angleColumn kind ⌝ }
+// Where the rows of kind 2 begin, after the known log sides.
+fn rows_at(figure: Figure) -> usize
+    ensures { λ start. ⌜ start ≡ rowsStart figure ⌝ }
+{
+    SECOND_PASS_BODY_AT + LOG_SIDE_STEP * counts_of(figure).sides
+}
+
+pub(crate) fn angle_column(kind: Kind, figure: Figure) -> Column
+    ensures { λ column. ⌜ column ≡ angleColumn kind figure ⌝ }
 {
     match kind {
         Kind::FirstPass => Column {
@@ -39,7 +48,7 @@ pub(crate) fn angle_column(kind: Kind) -> Column
             width: ANGLE_WIDTH,
         },
         Kind::SecondPass => Column {
-            start: SECOND_PASS_BODY_AT,
+            start: rows_at(figure),
             step: SECOND_PASS_STEP,
             width: ANGLE_WIDTH,
         },
@@ -57,23 +66,34 @@ pub(crate) fn fixed_column(figure: Figure) -> Column
     }
 }
 
-pub(crate) fn log_sine_column() -> Column
-    ensures { λ column. ⌜ column ≡ logSineColumn ⌝ }
+pub(crate) fn log_sine_column(figure: Figure) -> Column
+    ensures { λ column. ⌜ column ≡ logSineColumn figure ⌝ }
 {
     Column {
-        start: LOG_SINES_AT,
+        start: rows_at(figure) + LOG_SINE_IN_ROW,
         step: SECOND_PASS_STEP,
         width: LOG_SINE_WIDTH,
     }
 }
 
-pub(crate) fn difference_column() -> Column
-    ensures { λ column. ⌜ column ≡ differenceColumn ⌝ }
+pub(crate) fn difference_column(figure: Figure) -> Column
+    ensures { λ column. ⌜ column ≡ differenceColumn figure ⌝ }
 {
     Column {
-        start: DIFFERENCES_AT,
+        start: rows_at(figure) + DIFFERENCE_IN_ROW,
         step: SECOND_PASS_STEP,
         width: DIFFERENCE_WIDTH,
+    }
+}
+
+// Known log sides stand before the rows, in kind 2 only.
+pub(crate) fn log_side_column() -> Column
+    ensures { λ column. ⌜ column ≡ logSideColumn ⌝ }
+{
+    Column {
+        start: SECOND_PASS_BODY_AT,
+        step: LOG_SIDE_STEP,
+        width: LOG_SIDE_WIDTH,
     }
 }
 

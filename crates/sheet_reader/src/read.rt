@@ -11,6 +11,7 @@ use crate::values::angles_in;
 use crate::values::differences_in;
 use crate::values::fixed_in;
 use crate::values::limit_or_tolerance_in;
+use crate::values::log_sides_in;
 use crate::values::log_sines_in;
 use crate::values::store;
 use crate::values::taken_verdict;
@@ -51,7 +52,13 @@ fn shape_verdict(sheet: &[u8], kind: Kind, figure: Figure, lent: &[usize]) -> Ve
     let own = lengths_of(kind, figure);
     let lengths = lengths_verdict(
         lent,
-        &[own.angles, own.fixed, own.log_sines, own.differences],
+        &[
+            own.angles,
+            own.fixed,
+            own.log_sines,
+            own.differences,
+            own.log_sides,
+        ],
     );
     first_to_fail(lengths, filling_verdict(sheet, kind, figure))
 }
@@ -78,31 +85,47 @@ pub fn read_body(
     fixed: &mut [u32],
     log_sines: &mut [u32],
     differences: &mut [i32],
+    log_sides: &mut [u32],
 ) -> Reading
     ensures { λ reading. ⌜ BodyPromise kind figure (now (sheet .entry))
-        (slices (now (angles .entry)) (now (fixed .entry)) (now («log_sines» .entry)) (now (differences .entry))) reading
-        (slices (now (angles .exit)) (now (fixed .exit)) (now («log_sines» .exit)) (now (differences .exit))) ⌝ }
+        (slices (now (angles .entry)) (now (fixed .entry)) (now («log_sines» .entry)) (now (differences .entry))
+        (now («log_sides» .entry))) reading
+        (slices (now (angles .exit)) (now (fixed .exit)) (now («log_sines» .exit)) (now (differences .exit))
+        (now («log_sides» .exit))) ⌝ }
 {
     let lent = [
         angles.len(),
         fixed.len(),
         log_sines.len(),
         differences.len(),
+        log_sides.len(),
     ];
     let shape = shape_verdict(sheet, kind, figure, &lent);
     if let Verdict::Failed(refusal) = shape {
         return Reading::Refused(refusal);
     }
-    // Angles, fixed angles, log-sines and differences, each taken once.
+    // Angles, fixed angles, log-sines, differences and log sides, each taken once.
     let bound = limit_or_tolerance_in(sheet, kind);
     let a = angles_in(sheet, kind, figure);
     let f = fixed_in(sheet, kind, figure);
     let l = log_sines_in(sheet, kind, figure);
     let d = differences_in(sheet, kind, figure);
-    let verdict = taken_verdict(kind, figure, bound, a, f, l, d);
+    let s = log_sides_in(sheet, kind, figure);
+    let verdict = taken_verdict(kind, figure, bound, a, f, l, d, s);
     let reading = reading_after(verdict, kind, figure, bound);
     if let Verdict::Passed = verdict {
-        store(a, f, l, d, angles, fixed, log_sines, differences);
+        store(
+            a,
+            f,
+            l,
+            d,
+            s,
+            angles,
+            fixed,
+            log_sines,
+            differences,
+            log_sides,
+        );
     }
     reading
 }
@@ -114,10 +137,13 @@ pub fn read_sheet(
     fixed: &mut [u32],
     log_sines: &mut [u32],
     differences: &mut [i32],
+    log_sides: &mut [u32],
 ) -> Reading
     ensures { λ reading. ⌜ ReaderPromise (now (sheet .entry))
-        (slices (now (angles .entry)) (now (fixed .entry)) (now («log_sines» .entry)) (now (differences .entry))) reading
-        (slices (now (angles .exit)) (now (fixed .exit)) (now («log_sines» .exit)) (now (differences .exit))) ⌝ }
+        (slices (now (angles .entry)) (now (fixed .entry)) (now («log_sines» .entry)) (now (differences .entry))
+        (now («log_sides» .entry))) reading
+        (slices (now (angles .exit)) (now (fixed .exit)) (now («log_sines» .exit)) (now (differences .exit))
+        (now («log_sides» .exit))) ⌝ }
 {
     match look_at(sheet) {
         Look::Refused(refusal) => Reading::Refused(refusal),
@@ -129,6 +155,7 @@ pub fn read_sheet(
             fixed,
             log_sines,
             differences,
+            log_sides,
         ),
     }
 }

@@ -7,15 +7,16 @@ ghost use Rattle.refusals.specs.Order.{judged};
 ghost use Rattle.figures.specs.declared.Figure.{Figure};
 ghost use Rattle.figures.specs.Figure.{angleCount};
 ghost use Rattle.figures.specs.Numerators.{mostAngles};
-ghost use Rattle.sheet_layout.specs.Layout.{fixedIn, sineEntriesIn};
+ghost use Rattle.sheet_layout.specs.Layout.{fixedIn, sineEntriesIn, sidesIn};
 ghost use Rattle.sheet_rules.specs.Sheet.{valuesRead};
 ghost use Rattle.sheet_rules.specs.Judging.{valueRows};
 ghost use Rattle.sheet_rules.specs.Promises.{slices};
-ghost use Rattle.sheet_reader.specs.Columns.{valuesTaken, ShortEnough};
+ghost use Rattle.sheet_reader.specs.Columns.{valuesTaken, ShortEnough, firstOf};
 use crate::columns::angle_column;
 use crate::columns::column_values;
 use crate::columns::difference_column;
 use crate::columns::fixed_column;
+use crate::columns::log_side_column;
 use crate::columns::log_sine_column;
 use crate::columns::signed_column_values;
 use bits::field;
@@ -42,7 +43,11 @@ pub(crate) fn limit_or_tolerance_in(sheet: &[u8], kind: Kind) -> u32
 pub(crate) fn angles_in(sheet: &[u8], kind: Kind, figure: Figure) -> [u32; MOST_ANGLES]
     ensures { λ held. ⌜ take (angleCount figure) held ≡ valuesRead kind figure (now (sheet .entry)) .angles ⌝ }
 {
-    column_values(sheet, angle_column(kind), lengths_of(kind, figure).angles)
+    column_values(
+        sheet,
+        angle_column(kind, figure),
+        lengths_of(kind, figure).angles,
+    )
 }
 
 pub(crate) fn fixed_in(sheet: &[u8], kind: Kind, figure: Figure) -> [u32; MOST_ANGLES]
@@ -54,7 +59,11 @@ pub(crate) fn fixed_in(sheet: &[u8], kind: Kind, figure: Figure) -> [u32; MOST_A
 pub(crate) fn log_sines_in(sheet: &[u8], kind: Kind, figure: Figure) -> [u32; MOST_ANGLES]
     ensures { λ held. ⌜ take (sineEntriesIn kind figure) held ≡ valuesRead kind figure (now (sheet .entry)) .logSines ⌝ }
 {
-    column_values(sheet, log_sine_column(), lengths_of(kind, figure).log_sines)
+    column_values(
+        sheet,
+        log_sine_column(figure),
+        lengths_of(kind, figure).log_sines,
+    )
 }
 
 pub(crate) fn differences_in(sheet: &[u8], kind: Kind, figure: Figure) -> [i32; MOST_ANGLES]
@@ -62,9 +71,15 @@ pub(crate) fn differences_in(sheet: &[u8], kind: Kind, figure: Figure) -> [i32; 
 {
     signed_column_values(
         sheet,
-        difference_column(),
+        difference_column(figure),
         lengths_of(kind, figure).differences,
     )
+}
+
+pub(crate) fn log_sides_in(sheet: &[u8], kind: Kind, figure: Figure) -> [u32; MOST_ANGLES]
+    ensures { λ held. ⌜ take (sidesIn kind figure) held ≡ valuesRead kind figure (now (sheet .entry)) .logSides ⌝ }
+{
+    column_values(sheet, log_side_column(), lengths_of(kind, figure).log_sides)
 }
 
 // The tests of the values.
@@ -76,9 +91,10 @@ pub(crate) fn taken_verdict(
     fixed: [u32; MOST_ANGLES],
     log_sines: [u32; MOST_ANGLES],
     differences: [i32; MOST_ANGLES],
+    log_sides: [u32; MOST_ANGLES],
 ) -> Verdict
     ensures { λ verdict. ⌜ verdict ≡ judged (valueRows kind
-        (valuesTaken kind figure «limit_or_tolerance» angles fixed «log_sines» differences)) ⌝ }
+        (valuesTaken kind figure «limit_or_tolerance» angles fixed «log_sines» differences «log_sides»)) ⌝ }
 {
     let count = lengths_of(kind, figure);
     values_verdict(
@@ -88,6 +104,7 @@ pub(crate) fn taken_verdict(
         &fixed[..count.fixed],
         &log_sines[..count.log_sines],
         &differences[..count.differences],
+        &log_sides[..count.log_sides],
     )
 }
 
@@ -119,18 +136,23 @@ pub(crate) fn store(
     taken_fixed: [u32; MOST_ANGLES],
     taken_log_sines: [u32; MOST_ANGLES],
     taken_differences: [i32; MOST_ANGLES],
+    taken_log_sides: [u32; MOST_ANGLES],
     angles: &mut [u32],
     fixed: &mut [u32],
     log_sines: &mut [u32],
     differences: &mut [i32],
+    log_sides: &mut [u32],
 )
-    requires { ⌜ ShortEnough (slices (now angles) (now fixed) (now «log_sines») (now differences)) ⌝ }
+    requires { ⌜ ShortEnough (slices (now angles) (now fixed) (now «log_sines») (now differences) (now «log_sides»)) ⌝ }
     ensures { λ _. ⌜ slices (now (angles .exit)) (now (fixed .exit)) (now («log_sines» .exit)) (now (differences .exit))
-        ≡ slices (take (length (now (angles .entry))) «taken_angles») (take (length (now (fixed .entry))) «taken_fixed»)
-        (take (length (now («log_sines» .entry))) «taken_log_sines») (take (length (now (differences .entry))) «taken_differences») ⌝ }
+        (now («log_sides» .exit))
+        ≡ firstOf (slices (now (angles .entry)) (now (fixed .entry)) (now («log_sines» .entry)) (now (differences .entry))
+        (now («log_sides» .entry)))
+        (slices «taken_angles» «taken_fixed» «taken_log_sines» «taken_differences» «taken_log_sides») ⌝ }
 {
     copy(taken_angles, angles);
     copy(taken_fixed, fixed);
     copy(taken_log_sines, log_sines);
     copy_signed(taken_differences, differences);
+    copy(taken_log_sides, log_sides);
 }

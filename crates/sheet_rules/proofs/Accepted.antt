@@ -17,7 +17,7 @@ use Rattle.figures.specs.declared.Figure.{Figure}
 use Rattle.figures.specs.declared.Named.the-variants.{As}
 use Rattle.figures.specs.Figure.{angleCount, figureOf}
 use Rattle.sheet_layout.specs.declared.Kind.{Kind}
-use Rattle.sheet_layout.specs.Layout.{fixedIn, sineEntriesIn, sheetSize}
+use Rattle.sheet_layout.specs.Layout.{fixedIn, sineEntriesIn, sidesIn, sheetSize}
 use Rattle.sheet_layout.specs.declared.head.NamedKind.the-variants.{Is}
 use Rattle.sheet_layout.specs.declared.head.Look.{Look}
 use Rattle.sheet_layout.specs.declared.head.Look.the-variants.{Head}
@@ -145,14 +145,15 @@ pub record AsMany (kind : Kind) (f : Figure) (v : Values) : Type 0 where
   pub fixed : length (v .fixed) ≡ fixedIn kind f
   pub logSines : length (v .logSines) ≡ sineEntriesIn kind f
   pub differences : length (v .differences) ≡ sineEntriesIn kind f
+  pub logSides : length (v .logSides) ≡ sidesIn kind f
 
 pub as-many : (kind : Kind) (f : Figure) (v : Values) → lengthsGiven v ≡ ownLengths kind f → AsMany kind f v
 as-many kind f v same =
     let each : (i : ℕ) → getD (lengthsGiven v) i 0 ≡ getD (ownLengths kind f) i 0 = λ i. ap (λ (l : List ℕ). getD l i 0) same in
-    record { angles = each 0; fixed = each 1; logSines = each 2; differences = each 3 }
+    record { angles = each 0; fixed = each 1; logSines = each 2; differences = each 3; logSides = each 4 }
 
 pub own-lengths : (kind : Kind) (f : Figure) (v : Values) → AsMany kind f v → lengthsGiven v ≡ ownLengths kind f
-own-lengths kind f v many = rw (many .angles, many .fixed, many .logSines, many .differences)
+own-lengths kind f v many = rw (many .angles, many .fixed, many .logSines, many .differences, many .logSides)
 
 pub record Given (kind : Kind) (f : Figure) (v : Values) (size : ℕ) : Type 0 where
   pub lengths : AsMany kind f v
@@ -165,7 +166,7 @@ module _ (kind : Kind) (f : Figure) (v : Values) (size : ℕ) where
       → (lengthsGiven v ≡ ownLengths kind f) × (size ≡ sheetSize kind f)
   right-lengths none =
       let same : lengthsGiven v ++ (size ∷ []) ≡ ownLengths kind f ++ (sheetSize kind f ∷ []) = same-lengths _ _ none in
-      (ap (take 4) same, ap (λ (l : List ℕ). getD l 4 0) same)
+      (ap (take 5) same, ap (λ (l : List ℕ). getD l 5 0) same)
 
   pub given-accepted : judged (givenRows kind f v size) ≡ Passed → Given kind f v size
   unfolding givenRows
@@ -210,4 +211,5 @@ as-many-read kind f s = record {
   fixed = length-listed _ _;
   logSines = length-listed _ _;
   differences = length-listed _ _;
+  logSides = length-listed _ _;
 }

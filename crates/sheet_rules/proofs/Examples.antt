@@ -35,7 +35,7 @@ printed = record {
   kind = FirstPass;
   figure = Quadrilateral;
   values =
-      valuesFrom 0 (1620004 ∷ 1620000 ∷ 1620000 ∷ 1620000 ∷ 1620000 ∷ 1620000 ∷ 1620000 ∷ 1620000 ∷ []) [] [] [];
+      valuesFrom 0 (1620004 ∷ 1620000 ∷ 1620000 ∷ 1620000 ∷ 1620000 ∷ 1620000 ∷ 1620000 ∷ 1620000 ∷ []) [] [] [] [];
   bytes =
       0x11 ∷ 0x00 ∷ 0x00 ∷ 0xc5 ∷ 0xc1 ∷ 0x21 ∷ 0x8b ∷ 0x82 ∷ 0x03 ∷ 0x17 ∷ 0x04 ∷ 0x06 ∷ 0x2e ∷ 0x08 ∷ 0x0c ∷ 0x5c ∷ 0x10 ∷ 0x18 ∷ 0xb8
       ∷ 0x20 ∷ 0x31 ∷ 0x70 ∷ 0x40 ∷ 0x62 ∷ 0xe0 ∷ 0x80 ∷ [];
@@ -48,7 +48,7 @@ point-first = record {
   figure = PointInTriangle;
   values =
       valuesFrom 600 (4540265 ∷ 950457 ∷ 989272 ∷ 4174479 ∷ 1116755 ∷ 1188767 ∷ 4245251 ∷ 1174924 ∷ 1059792 ∷ [])
-      (2010251 ∷ 2106028 ∷ 2363721 ∷ []) [] [];
+      (2010251 ∷ 2106028 ∷ 2363721 ∷ []) [] [] [];
   bytes =
       0x12 ∷ 0x39 ∷ 0x62 ∷ 0x2a ∷ 0x3b ∷ 0x48 ∷ 0xe8 ∷ 0x0b ∷ 0x91 ∷ 0xe3 ∷ 0x0b ∷ 0x0f ∷ 0xec ∷ 0xa3 ∷ 0xc8 ∷ 0x85 ∷ 0x29 ∷ 0x92 ∷ 0x23
       ∷ 0x9f ∷ 0x81 ∷ 0x8e ∷ 0x06 ∷ 0x47 ∷ 0xb6 ∷ 0x30 ∷ 0x81 ∷ 0x5e ∷ 0x81 ∷ 0xea ∷ 0xc8 ∷ 0xb4 ∷ 0x04 ∷ 0x55 ∷ 0x89 ∷ 0x04 ∷ 0x52 ∷ 0x40 ∷ [];
@@ -61,7 +61,7 @@ point-second = record {
   values =
       valuesFrom 0 (4540268 ∷ 950455 ∷ 989277 ∷ 4174473 ∷ 1116751 ∷ 1188775 ∷ 4245259 ∷ 1174946 ∷ 1059796 ∷ []) []
       (99073033 ∷ 96480271 ∷ 96641130 ∷ 99538169 ∷ 97121024 ∷ 97363599 ∷ 99462413 ∷ 97318469 ∷ 96915176 ∷ [])
-      (negℤ (pos 154) ∷ pos 424 ∷ pos 405 ∷ negℤ (pos 103) ∷ pos 350 ∷ pos 324 ∷ negℤ (pos 112) ∷ pos 329 ∷ pos 373 ∷ []);
+      (negℤ (pos 154) ∷ pos 424 ∷ pos 405 ∷ negℤ (pos 103) ∷ pos 350 ∷ pos 324 ∷ negℤ (pos 112) ∷ pos 329 ∷ pos 373 ∷ []) [];
   bytes =
       0x22 ∷ 0x30 ∷ 0x22 ∷ 0xa3 ∷ 0xb6 ∷ 0x5e ∷ 0x7b ∷ 0xc0 ∷ 0x9f ∷ 0xec ∷ 0xc3 ∷ 0xa0 ∷ 0x2d ∷ 0xee ∷ 0x01 ∷ 0x60 ∷ 0x78 ∷ 0x1a ∷ 0x81
       ∷ 0xe3 ∷ 0x0b ∷ 0xb7 ∷ 0x0a ∷ 0x81 ∷ 0xa8 ∷ 0x0c ∷ 0xab ∷ 0xfb ∷ 0x28 ∷ 0x9b ∷ 0xdd ∷ 0xa9 ∷ 0xf3 ∷ 0xfe ∷ 0x64 ∷ 0x88 ∷ 0x52 ∷ 0x7d
@@ -74,7 +74,7 @@ polygon-first = record {
   kind = FirstPass;
   figure = CentralTriangle;
   values =
-      valuesFrom 0 (4258721 ∷ 1129342 ∷ 1091899 ∷ 4179504 ∷ 1086150 ∷ 1214352 ∷ 4521768 ∷ 1015872 ∷ 942384 ∷ []) [] [] [];
+      valuesFrom 0 (4258721 ∷ 1129342 ∷ 1091899 ∷ 4179504 ∷ 1086150 ∷ 1214352 ∷ 4521768 ∷ 1015872 ∷ 942384 ∷ []) [] [] [] [];
   bytes =
       0x13 ∷ 0x30 ∷ 0x02 ∷ 0x07 ∷ 0xdd ∷ 0x09 ∷ 0x13 ∷ 0xb7 ∷ 0xe2 ∷ 0x15 ∷ 0x27 ∷ 0x6f ∷ 0xf1 ∷ 0x8c ∷ 0x08 ∷ 0x49 ∷ 0x63 ∷ 0x12 ∷ 0x87
       ∷ 0x90 ∷ 0x89 ∷ 0xfe ∷ 0x50 ∷ 0x3e ∷ 0x01 ∷ 0x00 ∷ 0x73 ∷ 0x09 ∷ 0x80 ∷ [];
@@ -87,7 +87,7 @@ polygon-second = record {
   values =
       valuesFrom 50 (4258735 ∷ 1129354 ∷ 1091911 ∷ 4179503 ∷ 1086147 ∷ 1214349 ∷ 4521761 ∷ 1015863 ∷ 942375 ∷ []) []
       (99447256 ∷ 97164847 ∷ 97032850 ∷ 99532997 ∷ 97012040 ∷ 97445338 ∷ 99101201 ∷ 96747087 ∷ 96445833 ∷ [])
-      (negℤ (pos 113) ∷ pos 345 ∷ pos 360 ∷ negℤ (pos 103) ∷ pos 362 ∷ pos 315 ∷ negℤ (pos 151) ∷ pos 392 ∷ pos 428 ∷ []);
+      (negℤ (pos 113) ∷ pos 345 ∷ pos 360 ∷ negℤ (pos 103) ∷ pos 362 ∷ pos 315 ∷ negℤ (pos 151) ∷ pos 392 ∷ pos 428 ∷ []) [];
   bytes =
       0x23 ∷ 0x3c ∷ 0xa0 ∷ 0x7d ∷ 0xd7 ∷ 0xde ∷ 0xd7 ∷ 0x1d ∷ 0x8f ∷ 0xf1 ∷ 0xe4 ∷ 0x4e ∷ 0xe2 ∷ 0xae ∷ 0x54 ∷ 0xf1 ∷ 0x78 ∷ 0x15 ∷ 0x92
       ∷ 0x15 ∷ 0x28 ∷ 0xf7 ∷ 0x22 ∷ 0x6a ∷ 0x48 ∷ 0x0b ∷ 0x43 ∷ 0xfc ∷ 0x62 ∷ 0xfb ∷ 0xdd ∷ 0x81 ∷ 0x8b ∷ 0xfe ∷ 0x64 ∷ 0x84 ∷ 0x96 ∷ 0x1d
@@ -122,7 +122,7 @@ filling-bit : readingOf (0x11 ∷ 0x0f ∷ 0xfc ∷ (replicate 22 0 ++ (1 ∷ []
 unfolding readingOf readerRows lookOf headOf headRows bodyRows answerOf held positionOf same sort numberOfItem fieldAt inside value digit bitsOf bits odd figureOf sheetSize bitCount layout totalWidth byteCount
 filling-bit = refl
 
-limit-601 : readingOf (packedSheet FirstPass Quadrilateral (valuesFrom 601 (replicate 8 1620000) [] [] [])) (ownLengths FirstPass Quadrilateral)
+limit-601 : readingOf (packedSheet FirstPass Quadrilateral (valuesFrom 601 (replicate 8 1620000) [] [] [] [])) (ownLengths FirstPass Quadrilateral)
     ≡ Reading.Refused Refusal.LimitOrToleranceOutOfRange
 unfolding readingOf readerRows lookOf headOf headRows bodyRows answerOf held positionOf same sort numberOfItem fieldAt inside value digit bitsOf bits odd figureOf sheetSize bitCount layout totalWidth byteCount packedSheet packedBits bytesOf bytesFrom firstByte valuesRead
 limit-601 = refl
@@ -130,7 +130,7 @@ limit-601 = refl
 -- −10,000 at angle 3
 difference-below-range :
     readingOf (packedSheet SecondPass Quadrilateral
-    (valuesFrom 0 (replicate 8 1620000) [] (replicate 8 98494850) (pos 300 ∷ pos 169 ∷ negℤ (pos 10000) ∷ replicate 5 (pos 100))))
+    (valuesFrom 0 (replicate 8 1620000) [] (replicate 8 98494850) (pos 300 ∷ pos 169 ∷ negℤ (pos 10000) ∷ replicate 5 (pos 100)) []))
     (ownLengths SecondPass Quadrilateral)
     ≡ Reading.Refused (Refusal.SineEntryOutOfRange 3)
 unfolding readingOf readerRows lookOf headOf headRows bodyRows answerOf lowestPlace held positionOf same sort numberOfItem fieldAt inside value digit bitsOf bits odd figureOf sheetSize bitCount layout totalWidth byteCount packedSheet packedBits bytesOf bytesFrom firstByte valuesRead listed signedOf twosComplement fitsSigned halfRange

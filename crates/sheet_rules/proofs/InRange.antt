@@ -1,9 +1,12 @@
 -- What the rows of the values let pass: every value lies within its range, and so fits its field. Assumes nothing.
-use Prim.Native.Nat.{ℕ, _≤_, _<_, _^_}
+use Prim.Native.Nat.{ℕ, _+_, _≤_, _<_, _^_}
+use mathlib.Core.List.{List, _++_}
+use mathlib.Core.Path.{_≡_, subst}
 use native.Mathlib.Omega.{arith}
 use lib.Dec.{leb→le}
 use lib.IntN.{ℤ, pos, negsuc, negℤ}
-use lib.ListN.{length, getD}
+use lib.ListN.{length, getD, length-append, List·getD-append}
+use lib.Seq.{getD-append-add}
 use lib.Signed.{mag, _≤ℤ_}
 use Rattle.refusals.specs.Order.{NoneHolds}
 use Rattle.refusals.specs.Ranges.{leastAngle, mostAngle, leastLogSine, mostLogSine, mostDifference}
@@ -19,15 +22,24 @@ pub record InRange (kind : Kind) (v : Values) : Type 0 where
   pub logSines : (i : ℕ) → i < length (v .logSines) → (leastLogSine ≤ getD (v .logSines) i 0) × (getD (v .logSines) i 0 ≤ mostLogSine)
   pub differences : (i : ℕ) → i < length (v .logSines)
       → (negℤ (pos mostDifference) ≤ℤ getD (v .differences) i (pos 0)) × (getD (v .differences) i (pos 0) ≤ℤ pos mostDifference)
+  pub logSides : (i : ℕ) → i < length (v .logSides) → (leastLogSine ≤ getD (v .logSides) i 0) × (getD (v .logSides) i 0 ≤ mostLogSine)
+
+abbrev Within : ℕ → Type 0
+Within log = (leastLogSine ≤ log) × (log ≤ mostLogSine)
 
 pub in-range : (kind : Kind) (v : Values) → NoneHolds (valueRows kind v) → InRange kind v
-in-range kind v none = record {
-  limitOrTolerance = limit-within (mostLimitOrTolerance kind) (v .limitOrTolerance) (none .0);
-  angles = angles-within (v .angles) (none .1 .0);
-  fixed = fixed-within (v .fixed) (none .1 .1 .0);
-  logSines = log-sines-within (v .logSines) (v .differences) (none .1 .1 .1 .0);
-  differences = differences-within (v .logSines) (v .differences) (none .1 .1 .1 .0);
-}
+in-range kind v none =
+    let entries : List ℕ = v .logSines ++ v .logSides in
+    let each = log-sines-within entries (v .differences) (none .1 .1 .1 .0) in
+    let both : length entries ≡ length (v .logSines) + length (v .logSides) = length-append (v .logSines) (v .logSides) in
+    record {
+      limitOrTolerance = limit-within (mostLimitOrTolerance kind) (v .limitOrTolerance) (none .0);
+      angles = angles-within (v .angles) (none .1 .0);
+      fixed = fixed-within (v .fixed) (none .1 .1 .0);
+      logSines = λ i h. subst Within (List·getD-append (v .logSines) (v .logSides) 0 i h) (each i (omega arith));
+      differences = λ i h. differences-within entries (v .differences) (none .1 .1 .1 .0) i (omega arith);
+      logSides = λ i h. subst Within (getD-append-add (v .logSines) (v .logSides) i 0) (each (length (v .logSines) + i) (omega arith));
+    }
 
 -- a difference within its range fits 15 bits
 pub difference-fits : (d : ℤ) → negℤ (pos mostDifference) ≤ℤ d → d ≤ℤ pos mostDifference → mag d < 2 ^ 14

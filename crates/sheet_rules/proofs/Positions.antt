@@ -15,14 +15,14 @@ use Rattle.figures.specs.Figure.{allFigures, angleCount}
 use Rattle.figures.proofs.Figures.{each-figure}
 use Rattle.sheet_layout.specs.declared.Kind.{Kind}
 use Rattle.sheet_layout.specs.declared.Kind.the-variants.{FirstPass, SecondPass}
-use Rattle.sheet_layout.specs.Layout.{Item, theKind, theCode, theN, limit, tolerance, angle, fixedAngle, logSine, difference, widthOf, head, layout, limitOrToleranceItem, fixedIn, sineEntriesIn, sort, numberOfItem, same, positionOf, held}
+use Rattle.sheet_layout.specs.Layout.{Item, theKind, theCode, theN, limit, tolerance, angle, fixedAngle, logSine, difference, logSide, widthOf, head, layout, limitOrToleranceItem, fixedIn, sineEntriesIn, sidesIn, sort, numberOfItem, same, positionOf, held}
 
 -- ---- items and their indexes
 
 -- an item is told by its sort and its number
 itemFrom : ℕ → ℕ → Item
 itemFrom s i =
-    getD (theKind ∷ theCode ∷ theN ∷ limit ∷ tolerance ∷ angle i ∷ fixedAngle i ∷ logSine i ∷ difference i ∷ []) s theKind
+    getD (theKind ∷ theCode ∷ theN ∷ limit ∷ tolerance ∷ angle i ∷ fixedAngle i ∷ logSine i ∷ difference i ∷ logSide i ∷ []) s theKind
 
 told : (p : Item) → itemFrom (sort p) (numberOfItem p) ≡ p
 unfolding itemFrom sort numberOfItem
@@ -35,6 +35,7 @@ told (angle i) = refl
 told (fixedAngle i) = refl
 told (logSine i) = refl
 told (difference i) = refl
+told (logSide i) = refl
 
 pub same-item : (p q : Item) → T (same p q) → p ≡ q
 unfolding same
@@ -99,6 +100,7 @@ counted kind f (angle i) = isAmong (angleCount f) i
 counted kind f (fixedAngle i) = isAmong (fixedIn kind f) i
 counted kind f (logSine i) = isAmong (sineEntriesIn kind f) i
 counted kind f (difference i) = isAmong (sineEntriesIn kind f) i
+counted kind f (logSide i) = isAmong (sidesIn kind f) i
 
 pub each-counted : (kind : Kind) (f : Figure) (k : ℕ) → k < length (layout kind f) → T (counted kind f (getD (layout kind f) k theKind))
 unfolding layout same sort numberOfItem
@@ -115,6 +117,7 @@ narrow (angle i) = lit≤ tt
 narrow (fixedAngle i) = lit≤ tt
 narrow (logSine i) = lit≤ tt
 narrow (difference i) = lit≤ tt
+narrow (logSide i) = lit≤ tt
 
 -- the items of the head, and L or e, stand in every layout
 pub kind-stands : (kind : Kind) (f : Figure) → indexOf theKind (layout kind f) < length (layout kind f)
@@ -163,6 +166,10 @@ log-sine-stands = each-stands logSine sineEntriesIn tt
 pub difference-stands : (kind : Kind) (f : Figure) (i : ℕ) → i < sineEntriesIn kind f → indexOf (difference (suc i)) (layout kind f) < length (layout kind f)
 unfolding layout indexOf same sort numberOfItem allStand stands
 difference-stands = each-stands difference sineEntriesIn tt
+
+pub log-side-stands : (kind : Kind) (f : Figure) (i : ℕ) → i < sidesIn kind f → indexOf (logSide (suc i)) (layout kind f) < length (layout kind f)
+unfolding layout indexOf same sort numberOfItem allStand stands
+log-side-stands = each-stands logSide sidesIn tt
 
 -- ---- the head stands first in every layout
 

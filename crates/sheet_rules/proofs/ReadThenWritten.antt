@@ -24,7 +24,7 @@ use Rattle.figures.specs.declared.Figure.{Figure}
 use Rattle.figures.specs.Figure.{description, angleCount}
 use Rattle.figures.proofs.Naming.{named-exactly}
 use Rattle.sheet_layout.specs.declared.Kind.{Kind}
-use Rattle.sheet_layout.specs.Layout.{Item, theKind, theCode, theN, limit, tolerance, angle, fixedAngle, logSine, difference, widthOf, limitOrToleranceItem, layout, fixedIn, sineEntriesIn, bitCount, sheetSize, numberOfKind, positionOf, held}
+use Rattle.sheet_layout.specs.Layout.{Item, theKind, theCode, theN, limit, tolerance, angle, fixedAngle, logSine, difference, logSide, widthOf, limitOrToleranceItem, layout, fixedIn, sineEntriesIn, sidesIn, bitCount, sheetSize, numberOfKind, positionOf, held}
 use Rattle.sheet_layout.specs.Head.{kindNumberIn, codeIn, nIn}
 use Rattle.sheet_layout.proofs.Sizes.{bits-within}
 use Rattle.sheet_layout.proofs.Naming.{kind-exactly, own-head}
@@ -59,6 +59,7 @@ module _ (kind : Kind) (f : Figure) (s : List ℕ)
       ap (twosComplement 15) (counted-value (sineEntriesIn kind f) (λ i. signedOf 15 (held (layout kind f) s (difference i))) (pos 0) i t)
       ∙ twosComplement-signedOf 15 (lit≤ tt) (lit≤ tt) (held (layout kind f) s (difference i))
       (fieldAt-lt s (positionOf (difference i) (layout kind f)) 15)
+  number-held (logSide i) t = counted-value (sidesIn kind f) (λ i. held (layout kind f) s (logSide i)) 0 i t
 
 -- the width of a field that is read
 width-read : (ws : List ℕ) (b : List Bool) (k : ℕ) (none : Field) → k < length ws → getD (readFields ws b) k none .width ≡ getD ws k 0

@@ -25,7 +25,7 @@ use Rattle.figures.proofs.Figures.{each-figure}
 use Rattle.figures.proofs.Naming.{named-exactly}
 use Rattle.sheet_layout.specs.declared.Kind.{Kind}
 use Rattle.sheet_layout.specs.declared.Kind.the-variants.{FirstPass, SecondPass}
-use Rattle.sheet_layout.specs.Layout.{Item, theKind, theCode, theN, limit, tolerance, angle, fixedAngle, logSine, difference, widthOf, limitOrToleranceItem, layout, fixedIn, sineEntriesIn, bitCount, sheetSize, numberOfKind, positionOf, held}
+use Rattle.sheet_layout.specs.Layout.{Item, theKind, theCode, theN, limit, tolerance, angle, fixedAngle, logSine, difference, logSide, widthOf, limitOrToleranceItem, layout, fixedIn, sineEntriesIn, sidesIn, bitCount, sheetSize, numberOfKind, positionOf, held}
 use Rattle.sheet_layout.specs.declared.head.Look.the-variants.{Head}
 use Rattle.sheet_layout.specs.Head.{kindNumberIn, codeIn, nIn, headOf}
 use Rattle.sheet_layout.proofs.Naming.{kind-exactly}
@@ -34,7 +34,7 @@ use Rattle.sheet_rules.specs.declared.Reading.the-variants.{Read}
 use Rattle.sheet_rules.specs.Sheet.{Values, valuesFrom, numberAt, fieldOf, packedSheet, valuesRead}
 use Rattle.sheet_rules.specs.Judging.{mostLimitOrTolerance, valueRows, ownLengths, lengthsGiven, readingOf, afterReading, writingOf, writtenOf}
 use Rattle.sheet_rules.specs.Promises.{Slices, slicesOf, lengthsLent, readAnswer, readLeft}
-use Rattle.sheet_rules.proofs.Positions.{same-item, indexOf, position-by-index, item-at-index, counted, each-counted, narrow, kind-stands, code-stands, n-stands, limit-stands, angle-stands, fixed-stands, log-sine-stands, difference-stands, kind-in-head, code-in-head, n-in-head}
+use Rattle.sheet_rules.proofs.Positions.{same-item, indexOf, position-by-index, item-at-index, counted, each-counted, narrow, kind-stands, code-stands, n-stands, limit-stands, angle-stands, fixed-stands, log-sine-stands, difference-stands, log-side-stands, kind-in-head, code-in-head, n-in-head}
 use Rattle.sheet_rules.proofs.Accepted.{Accepted, AsMany, own-lengths, accepted-back, writer-accepted, sheet-written}
 use Rattle.sheet_rules.proofs.Filling.{no-filling-bit}
 use Rattle.sheet_rules.proofs.InRange.{InRange, in-range, difference-fits}
@@ -78,6 +78,7 @@ module _ (kind : Kind) (f : Figure) (v : Values) (lengths : AsMany kind f v) (ra
   number-fits (fixedAngle i) t = numbered-fits (v .fixed) 6479999 23 (fixedIn kind f) i (lit< tt) (lengths .fixed) (λ j h. range .fixed j h .1) t
   number-fits (logSine i) t = numbered-fits (v .logSines) 100000000 27 (sineEntriesIn kind f) i (lit< tt) (lengths .logSines) (λ j h. range .logSines j h .1) t
   number-fits (difference i) t = twosComplement-lt 15 (numbered (v .differences) i (pos 0))
+  number-fits (logSide i) t = numbered-fits (v .logSides) 100000000 27 (sidesIn kind f) i (lit< tt) (lengths .logSides) (λ j h. range .logSides j h .1) t
 
   all-fit : (ps : List Item) → ((k : ℕ) → k < length ps → T (counted kind f (getD ps k theKind))) → AllFit (map (fieldOf kind f v) ps)
   unfolding AllFit
@@ -147,13 +148,14 @@ module _ (kind : Kind) (f : Figure) (v : Values) (lengths : AsMany kind f v) (ra
       ap (signedOf 15) (held-written kind f v lengths range (difference (suc i)) (difference-stands kind f i h))
       ∙ signedOf-twosComplement 15 (lit≤ tt) (lit≤ tt) (getD (v .differences) i (pos 0)) (difference-fits (getD (v .differences) i (pos 0)) (within .0) (within .1)))
 
+  log-sides-back : listed (sidesIn kind f) (λ i. at (logSide (suc i))) ≡ v .logSides
+  log-sides-back =
+      listed-back (sidesIn kind f) (v .logSides) (λ i. at (logSide (suc i))) 0 (lengths .logSides)
+      (λ i h. held-written kind f v lengths range (logSide (suc i)) (log-side-stands kind f i h))
+
   pub values-back : valuesRead kind f sheet ≡ v
   unfolding valuesRead
-  values-back =
-      ap₂ (λ (l : ℕ) (a : List ℕ). valuesFrom l a (listed (fixedIn kind f) (λ i. at (fixedAngle (suc i)))) (listed (sineEntriesIn kind f) (λ i. at (logSine (suc i))))
-      (listed (sineEntriesIn kind f) (λ i. signedOf 15 (at (difference (suc i)))))) limit-back angles-back
-      ∙ ap₂ (λ (x l : List ℕ). valuesFrom (v .limitOrTolerance) (v .angles) x l (listed (sineEntriesIn kind f) (λ i. signedOf 15 (at (difference (suc i)))))) fixed-back log-sines-back
-      ∙ ap (λ (d : List ℤ). valuesFrom (v .limitOrTolerance) (v .angles) (v .fixed) (v .logSines) d) differences-back
+  values-back = rw (limit-back, angles-back, fixed-back, log-sines-back, differences-back, log-sides-back)
 
   -- ---- the sheet is accepted
 

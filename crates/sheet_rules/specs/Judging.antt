@@ -29,22 +29,24 @@ abbrev pub mostLimitOrTolerance : Kind → ℕ
 mostLimitOrTolerance FirstPass = mostLimit
 mostLimitOrTolerance SecondPass = mostTolerance
 
+-- number 8 asks of the angles' entries, and then of the known log sides, which have the places after them (M-100)
 abbrev pub valueRows : Kind → Values → List Row
 valueRows kind v =
     limitOrToleranceRow (mostLimitOrTolerance kind) (v .limitOrTolerance)
     ∷ anglesRow (v .angles)
     ∷ fixedRow (v .fixed)
-    ∷ sineEntriesRow (v .logSines) (v .differences)
+    ∷ sineEntriesRow (v .logSines ++ v .logSides) (v .differences)
     ∷ []
 
--- ---- the lengths of slices: angles, fixed angles, log-sines, differences
+-- ---- the lengths of slices: angles, fixed angles, log-sines, differences, log sides
 
 abbrev pub ownLengths : Kind → Figure → List ℕ
 ownLengths kind f =
-    lengthsOf kind f .angles ∷ lengthsOf kind f .fixed ∷ lengthsOf kind f .«log_sines» ∷ lengthsOf kind f .differences ∷ []
+    lengthsOf kind f .angles ∷ lengthsOf kind f .fixed ∷ lengthsOf kind f .«log_sines» ∷ lengthsOf kind f .differences
+    ∷ lengthsOf kind f .«log_sides» ∷ []
 
 abbrev pub lengthsGiven : Values → List ℕ
-lengthsGiven v = length (v .angles) ∷ length (v .fixed) ∷ length (v .logSines) ∷ length (v .differences) ∷ []
+lengthsGiven v = length (v .angles) ∷ length (v .fixed) ∷ length (v .logSines) ∷ length (v .differences) ∷ length (v .logSides) ∷ []
 
 -- ---- the reader: 12 if under two bytes, then 11, 1, 12, 2 (slices lent for the values), 13, 3, 4, 5, 8
 

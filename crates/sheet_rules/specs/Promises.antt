@@ -17,16 +17,18 @@ pub record Slices : Type 0 where
   pub fixed : List ℕ
   pub logSines : List ℕ
   pub differences : List ℤ
+  pub logSides : List ℕ
 
-abbrev pub slices : (angles fixed logSines : List ℕ) → (differences : List ℤ) → Slices
-slices angles fixed logSines differences = record { angles = angles; fixed = fixed; logSines = logSines; differences = differences }
+abbrev pub slices : (angles fixed logSines : List ℕ) → (differences : List ℤ) → (logSides : List ℕ) → Slices
+slices a f l d s = record { angles = a; fixed = f; logSines = l; differences = d; logSides = s }
 
 abbrev pub slicesOf : Values → Slices
-slicesOf v = slices (v .angles) (v .fixed) (v .logSines) (v .differences)
+slicesOf v = slices (v .angles) (v .fixed) (v .logSines) (v .differences) (v .logSides)
 
 -- their lengths, for number 2
 abbrev pub lengthsLent : Slices → List ℕ
-lengthsLent lent = length (lent .angles) ∷ length (lent .fixed) ∷ length (lent .logSines) ∷ length (lent .differences) ∷ []
+lengthsLent lent =
+    length (lent .angles) ∷ length (lent .fixed) ∷ length (lent .logSines) ∷ length (lent .differences) ∷ length (lent .logSides) ∷ []
 
 abbrev pub readAnswer : (sheet : List ℕ) → Slices → Reading
 readAnswer sheet lent = readingOf sheet (lengthsLent lent)

@@ -9,7 +9,7 @@ use Rattle.figures.specs.Figure.{description, angleCount}
 use Rattle.bits.specs.Bits.{Field, bytesOf, packedBits}
 use Rattle.bits.specs.Complement.{signedOf, twosComplement}
 use Rattle.sheet_layout.specs.declared.Kind.{Kind}
-use Rattle.sheet_layout.specs.Layout.{Item, theKind, theCode, theN, limit, tolerance, angle, fixedAngle, logSine, difference, numberOfKind, widthOf, limitOrToleranceItem, layout, fixedIn, sineEntriesIn, held}
+use Rattle.sheet_layout.specs.Layout.{Item, theKind, theCode, theN, limit, tolerance, angle, fixedAngle, logSine, difference, logSide, numberOfKind, widthOf, limitOrToleranceItem, layout, fixedIn, sineEntriesIn, sidesIn, held}
 
 -- ---- the values of a sheet, and its bytes
 
@@ -19,9 +19,10 @@ pub record Values : Type 0 where
   pub fixed : List ℕ
   pub logSines : List ℕ
   pub differences : List ℤ
+  pub logSides : List ℕ
 
-abbrev pub valuesFrom : (limitOrTolerance : ℕ) (angles fixed logSines : List ℕ) (differences : List ℤ) → Values
-valuesFrom e a f l d = record { limitOrTolerance = e; angles = a; fixed = f; logSines = l; differences = d }
+abbrev pub valuesFrom : (limitOrTolerance : ℕ) (angles fixed logSines : List ℕ) (differences : List ℤ) (logSides : List ℕ) → Values
+valuesFrom e a f l d s = record { limitOrTolerance = e; angles = a; fixed = f; logSines = l; differences = d; logSides = s }
 
 -- the number that stands for an item
 abbrev pub numberAt : Kind → Figure → Values → Item → ℕ
@@ -34,6 +35,7 @@ numberAt kind f v (angle i) = numbered (v .angles) i 0
 numberAt kind f v (fixedAngle i) = numbered (v .fixed) i 0
 numberAt kind f v (logSine i) = numbered (v .logSines) i 0
 numberAt kind f v (difference i) = twosComplement (widthOf (difference i)) (numbered (v .differences) i (pos 0))
+numberAt kind f v (logSide i) = numbered (v .logSides) i 0
 
 abbrev pub fieldOf : Kind → Figure → Values → Item → Field
 fieldOf kind f v item = record { width = widthOf item; holds = numberAt kind f v item }
@@ -56,6 +58,7 @@ valuesRead kind f sheet = valuesFrom
     (oneOfEach (fixedIn kind f) (λ i. held (layout kind f) sheet (fixedAngle i)))
     (oneOfEach (sineEntriesIn kind f) (λ i. held (layout kind f) sheet (logSine i)))
     (oneOfEach (sineEntriesIn kind f) (λ i. signedOf (widthOf (difference i)) (held (layout kind f) sheet (difference i))))
+    (oneOfEach (sidesIn kind f) (λ i. held (layout kind f) sheet (logSide i)))
 
 -- a bound on the positions of reader and writer: no sheet is so long
 abbrev pub mostBits : ℕ

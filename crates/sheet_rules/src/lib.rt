@@ -47,15 +47,16 @@ pub fn values_verdict(
     fixed: &[u32],
     log_sines: &[u32],
     differences: &[i32],
+    log_sides: &[u32],
 ) -> Verdict
     ensures { λ verdict. ⌜ verdict ≡ judged (valueRows kind (valuesFrom «limit_or_tolerance»
-        (now (angles .entry)) (now (fixed .entry)) (now («log_sines» .entry)) (now (differences .entry)))) ⌝ }
+        (now (angles .entry)) (now (fixed .entry)) (now («log_sines» .entry)) (now (differences .entry)) (now («log_sides» .entry)))) ⌝ }
 {
     let limit = limit_or_tolerance_verdict(limit_or_tolerance, most_limit_or_tolerance(kind));
     let observed = first_to_fail(limit, angles_verdict(angles));
     let others = first_to_fail(
         fixed_verdict(fixed),
-        sine_entries_verdict(log_sines, differences),
+        sine_entries_verdict(log_sines, log_sides, differences),
     );
     first_to_fail(observed, others)
 }

@@ -3,7 +3,7 @@ use Prim.Native.Nat.{ℕ, zero, suc, _+_, _*_, _≤_, _<_}
 use mathlib.Core.Bool.{true}
 use mathlib.Core.List.{List, [], _∷_, _++_, append-assoc, append-nil}
 use mathlib.Core.Path.{_≡_, refl, sym, ap, ap₂, subst, _∙_}
-use native.Mathlib.Nat.{add-zero, add-assoc, mul-zero, mul-suc}
+use native.Mathlib.Nat.{add-zero, add-assoc, mul-zero, mul-suc, mul-le-mul-left}
 use native.Mathlib.Numerals.{add-one}
 use native.Mathlib.Omega.{arith}
 use lib.ListN.{length, take}
@@ -77,6 +77,13 @@ module _ (s : List ℕ) (start w : ℕ) (row : ℕ → List Field) (count : ℕ)
     rows = e ∙ ap₂ (λ (x : List ℕ) (k : ℕ). putAll x k (row (suc put))) (h .rows) (h .reached) ∙ sym (put-row-more row w each s start put);
   }
 
+  -- the next row ends no further than all
+  pub room : (most : ℕ) → start + w * count ≤ most → put < count → at + w ≤ most
+  room most fits l =
+      let more : put + 1 ≤ count = omega arith in
+      let next : w * (put + 1) ≡ w * put + w = ap (λ (k : ℕ). w * k) (add-one put) ∙ mul-suc w put in
+      omega (arith, h .reached, mul-le-mul-left w more)
+
   pub written-all : count ≤ put → sheet ≡ putAll s start (eachOf count row)
   written-all l = let all : put ≡ count = omega (arith, h .few) in h .rows ∙ ap (λ (k : ℕ). putAll s start (eachOf k row)) all
 
@@ -137,16 +144,18 @@ put-three s at f g h {x} {y} a b c =
 
 -- ---- the body
 
-column-width : (values : List ℕ) (n : ℕ) → totalWidth (widths (eachOf n (λ i. fieldFrom 23 (numbered values i 0) ∷ []))) ≡ 23 * n
+-- the one field of a value in a column has the column's width
+pub one-width : (width : ℕ) (values : List ℕ) (i : ℕ) → totalWidth (widths (fieldFrom width (numbered values i 0) ∷ [])) ≡ width
 unfolding totalWidth widths
-column-width values n = rows-width (λ i. fieldFrom 23 (numbered values i 0) ∷ []) 23 (λ i. refl) n
+one-width width values i = add-zero width
 
--- two columns, one after the other
-pub two-columns : (s : List ℕ) (angles fixed : List ℕ) {x y : List ℕ} → x ≡ putAll s 22 (columnFields angles) → y ≡ putAll x (22 + 23 * length angles) (columnFields fixed)
-    → y ≡ putAll s 22 (columnFields angles ++ columnFields fixed)
-two-columns s angles fixed a f =
-    f ∙ ap₂ (λ (x : List ℕ) (w : ℕ). putAll x (22 + w) (columnFields fixed)) a (sym (column-width angles (length angles)))
-    ∙ sym (put-append s 22 (columnFields angles) (columnFields fixed))
+-- a column, and what follows it
+pub column-then : (s : List ℕ) (start width : ℕ) (values : List ℕ) (later : List Field) {x y : List ℕ}
+    → x ≡ putAll s start (columnFields width values) → y ≡ putAll x (start + width * length values) later
+    → y ≡ putAll s start (columnFields width values ++ later)
+column-then s start width values later a b =
+    let whole = rows-width (λ i. fieldFrom width (numbered values i 0) ∷ []) width (one-width width values) (length values) in
+    b ∙ ap₂ (λ (x : List ℕ) (w : ℕ). putAll x (start + w) later) a (sym whole) ∙ sym (put-append s start (columnFields width values) later)
 
 module _ {kind : Kind} (v : Values) where
   pub first-fits : kind ≡ FirstPass → BodyFits kind v → BodyFits FirstPass v

@@ -9,15 +9,15 @@ use Rattle.refusals.specs.Numbers.{numbered}
 use Rattle.bits.specs.Bits.{Field, widths, totalWidth, byteCount, fillingWidth, withField}
 use Rattle.bits.proofs.Bytes.{AreBytes}
 use Rattle.figures.specs.declared.Figure.{Figure}
-use Rattle.figures.specs.Figure.{description, angleCount, fixedCount}
+use Rattle.figures.specs.Figure.{description, angleCount, fixedCount, sideCount}
 use Rattle.figures.specs.Rows.{eachOf}
 use Rattle.figures.proofs.Figures.{angle-bound}
 use Rattle.sheet_layout.specs.declared.Kind.{Kind}
 use Rattle.sheet_layout.specs.declared.Kind.the-variants.{FirstPass, SecondPass}
-use Rattle.sheet_layout.specs.Layout.{Item, angle, fixedAngle, logSine, difference, widthOf, limitOrToleranceItem, layout, numberOfKind, bitCount, sheetSize}
-use Rattle.sheet_layout.proofs.Sizes.{fixed-bound}
+use Rattle.sheet_layout.specs.Layout.{Item, angle, fixedAngle, logSine, difference, logSide, widthOf, limitOrToleranceItem, layout, numberOfKind, bitCount, sheetSize}
+use Rattle.sheet_layout.proofs.Sizes.{fixed-bound, side-bound}
 use Rattle.sheet_rules.specs.Sheet.{Values, valuesFrom, fieldOf, packedSheet}
-use Rattle.sheet_writer.specs.Parts.{putAll, fieldFrom, headFields, columnFields, bodyFields, bodyStart, BodyFits}
+use Rattle.sheet_writer.specs.Parts.{putAll, fieldFrom, headFields, bodyFields, bodyStart, BodyFits}
 use Rattle.sheet_rules.proofs.Accepted.{AsMany}
 use Rattle.sheet_rules.proofs.Positions.{narrow}
 use Rattle.sheet_rules.proofs.Layouts.{fields-bits}
@@ -27,30 +27,32 @@ map-each : {A B : Type 0} (g : A → B) (n : ℕ) (r : ℕ → List A) → map g
 map-each g zero r = refl
 map-each g (suc n) r = map-append g (eachOf n r) (r (suc n)) ∙ ap (λ (l : List _). l ++ map g (r (suc n))) (map-each g n r)
 
+-- so many items, or rows of them, as there are values
+as-many-fields : {A : Type 0} (g : Item → Field) (values : List A) (row : ℕ → List Item) {count : ℕ} → length values ≡ count
+    → map g (eachOf count row) ≡ eachOf (length values) (λ i. map g (row i))
+as-many-fields g values row {count} same = map-each g count row ∙ ap (λ (k : ℕ). eachOf k (λ i. map g (row i))) (sym same)
+
 module _ (f : Figure) (v : Values) where
   first-fields : AsMany FirstPass f v
       → map (fieldOf FirstPass f v) (layout FirstPass f)
       ≡ headFields 1 (description f .code) (description f .n) ++ (fieldFrom 10 (v .limitOrTolerance) ∷ bodyFields FirstPass v)
   unfolding layout
   first-fields e =
-      let angles : eachOf (angleCount f) (λ i. fieldFrom 23 (numbered (v .angles) i 0) ∷ []) ≡ columnFields (v .angles) =
-      ap (λ (k : ℕ). eachOf k (λ i. fieldFrom 23 (numbered (v .angles) i 0) ∷ [])) (sym (e .angles)) in
-      let fixed : eachOf (fixedCount f) (λ i. fieldFrom 23 (numbered (v .fixed) i 0) ∷ []) ≡ columnFields (v .fixed) =
-      ap (λ (k : ℕ). eachOf k (λ i. fieldFrom 23 (numbered (v .fixed) i 0) ∷ [])) (sym (e .fixed)) in
+      let g : Item → Field = fieldOf FirstPass f v in
       ap (λ (l : List Field). headFields 1 (description f .code) (description f .n) ++ (fieldFrom 10 (v .limitOrTolerance) ∷ l))
-      (map-append (fieldOf FirstPass f v) (eachOf (angleCount f) (λ i. angle i ∷ [])) (eachOf (fixedCount f) (λ j. fixedAngle j ∷ []))
-      ∙ ap₂ (λ (a b : List Field). a ++ b)
-      (map-each (fieldOf FirstPass f v) (angleCount f) (λ i. angle i ∷ []) ∙ angles)
-      (map-each (fieldOf FirstPass f v) (fixedCount f) (λ j. fixedAngle j ∷ []) ∙ fixed))
+      (map-append g (eachOf (angleCount f) (λ i. angle i ∷ [])) (eachOf (fixedCount f) (λ j. fixedAngle j ∷ []))
+      ∙ ap₂ (λ (a b : List Field). a ++ b) (as-many-fields g (v .angles) (λ i. angle i ∷ []) (e .angles)) (as-many-fields g (v .fixed) (λ j. fixedAngle j ∷ []) (e .fixed)))
 
   second-fields : AsMany SecondPass f v
       → map (fieldOf SecondPass f v) (layout SecondPass f)
       ≡ headFields 2 (description f .code) (description f .n) ++ (fieldFrom 6 (v .limitOrTolerance) ∷ bodyFields SecondPass v)
   unfolding layout
   second-fields e =
+      let g : Item → Field = fieldOf SecondPass f v in
+      let row : ℕ → List Item = λ i. angle i ∷ logSine i ∷ difference i ∷ [] in
       ap (λ (l : List Field). headFields 2 (description f .code) (description f .n) ++ (fieldFrom 6 (v .limitOrTolerance) ∷ l))
-      (map-each (fieldOf SecondPass f v) (angleCount f) (λ i. angle i ∷ logSine i ∷ difference i ∷ [])
-      ∙ ap (λ (k : ℕ). eachOf k (λ i. map (fieldOf SecondPass f v) (angle i ∷ logSine i ∷ difference i ∷ []))) (sym (e .angles)))
+      (map-append g (eachOf (sideCount f) (λ j. logSide j ∷ [])) (eachOf (angleCount f) row)
+      ∙ ap₂ (λ (a b : List Field). a ++ b) (as-many-fields g (v .logSides) (λ j. logSide j ∷ []) (e .logSides)) (as-many-fields g (v .angles) row (e .angles)))
 
 pub layout-fields : (kind : Kind) (f : Figure) (v : Values) → AsMany kind f v
     → map (fieldOf kind f v) (layout kind f)
@@ -65,7 +67,7 @@ pub body-fits : (kind : Kind) (f : Figure) (v : Values) → AsMany kind f v → 
 body-fits FirstPass f v e =
     omega (arith, angle-bound f, fixed-bound f, e .angles, e .fixed)
 body-fits SecondPass f v e =
-    (omega (arith, angle-bound f, e .angles), e .logSines ∙ sym (e .angles), e .differences ∙ sym (e .angles))
+    (omega (arith, angle-bound f, side-bound f, e .angles, e .logSides), e .logSines ∙ sym (e .angles), e .differences ∙ sym (e .angles))
 
 fields-narrow : (kind : Kind) (f : Figure) (v : Values) (ps : List Item) → Narrow (map (fieldOf kind f v) ps)
 fields-narrow kind f v [] = tt
@@ -82,7 +84,7 @@ body-after-head SecondPass s l v w e = ap (putAll (withField s 12 6 l) 18) e
 
 -- the body has no use for L or e
 same-body : (kind : Kind) (l m : ℕ) (v : Values)
-    → bodyFields kind (valuesFrom l (v .angles) (v .fixed) (v .logSines) (v .differences)) ≡ bodyFields kind (valuesFrom m (v .angles) (v .fixed) (v .logSines) (v .differences))
+    → bodyFields kind (valuesFrom l (v .angles) (v .fixed) (v .logSines) (v .differences) (v .logSides)) ≡ bodyFields kind (valuesFrom m (v .angles) (v .fixed) (v .logSines) (v .differences) (v .logSides))
 same-body FirstPass l m v = refl
 same-body SecondPass l m v = refl
 
@@ -111,11 +113,11 @@ module _ (kind : Kind) (f : Figure) (v : Values) (s : List ℕ) (bytes : AreByte
   pub packed-in-parts : {a b c d : List ℕ}
       → a ≡ putAll s 0 heading
       → b ≡ putAll a 12 (fieldFrom (widthOf (limitOrToleranceItem kind)) (v .limitOrTolerance) ∷ [])
-      → c ≡ putAll b (bodyStart kind) (bodyFields kind (valuesFrom 0 (v .angles) (v .fixed) (v .logSines) (v .differences)))
+      → c ≡ putAll b (bodyStart kind) (bodyFields kind (valuesFrom 0 (v .angles) (v .fixed) (v .logSines) (v .differences) (v .logSides)))
       → d ≡ withField c (bitCount kind f) (fillingWidth (bitCount kind f)) 0
       → d ≡ packedSheet kind f v
   packed-in-parts x y z w =
-      let w₀ : Values = valuesFrom 0 (v .angles) (v .fixed) (v .logSines) (v .differences) in
+      let w₀ : Values = valuesFrom 0 (v .angles) (v .fixed) (v .logSines) (v .differences) (v .logSides) in
       w ∙ ap (λ (c : List ℕ). withField c (bitCount kind f) (fillingWidth (bitCount kind f)) 0)
       (z ∙ ap (λ (b : List ℕ). putAll b (bodyStart kind) (bodyFields kind w₀))
       (y ∙ ap (λ (a : List ℕ). putAll a 12 (fieldFrom (widthOf (limitOrToleranceItem kind)) (v .limitOrTolerance) ∷ [])) x)

@@ -26,12 +26,13 @@ putAll sheet at (f ∷ later) = putAll (withField sheet at (f .width) (f .holds)
 abbrev pub fieldFrom : (width holds : ℕ) → Field
 fieldFrom w v = record { width = w; holds = v }
 
--- the fields of a sheet, part by part: the head; L or e; angles or fixed angles of kind 1; an angle, its log-sine and its difference, angle by angle
+-- the fields of a sheet, part by part: the head; L or e; angles or fixed angles of kind 1, or log sides of kind 2; an angle, its log-sine
+-- and its difference, angle by angle
 abbrev pub headFields : (kind code n : ℕ) → List Field
 headFields kind code n = fieldFrom (widthOf theKind) kind ∷ fieldFrom (widthOf theCode) code ∷ fieldFrom (widthOf theN) n ∷ []
 
-abbrev pub columnFields : List ℕ → List Field
-columnFields values = eachOf (length values) (λ i. fieldFrom 23 (numbered values i 0) ∷ [])
+abbrev pub columnFields : (width : ℕ) → List ℕ → List Field
+columnFields width values = eachOf (length values) (λ i. fieldFrom width (numbered values i 0) ∷ [])
 
 abbrev pub rowOf : ℕ → ℕ → ℤ → List Field
 rowOf angle logSine difference = fieldFrom 23 angle ∷ fieldFrom 27 logSine ∷ fieldFrom 15 (twosComplement 15 difference) ∷ []
@@ -41,8 +42,8 @@ rowFields angles logSines differences =
     eachOf (length angles) (λ i. rowOf (numbered angles i 0) (numbered logSines i 0) (numbered differences i (pos 0)))
 
 abbrev pub bodyFields : Kind → Values → List Field
-bodyFields FirstPass v = columnFields (v .angles) ++ columnFields (v .fixed)
-bodyFields SecondPass v = rowFields (v .angles) (v .logSines) (v .differences)
+bodyFields FirstPass v = columnFields 23 (v .angles) ++ columnFields 23 (v .fixed)
+bodyFields SecondPass v = columnFields 27 (v .logSides) ++ rowFields (v .angles) (v .logSines) (v .differences)
 
 -- where the body begins
 abbrev pub bodyStart : Kind → ℕ
@@ -53,7 +54,8 @@ bodyStart SecondPass = 18
 abbrev pub BodyFits : Kind → Values → Type 0
 BodyFits FirstPass v = 22 + 23 * length (v .angles) + 23 * length (v .fixed) ≤ mostBits
 BodyFits SecondPass v =
-    (18 + 65 * length (v .angles) ≤ mostBits) × (length (v .logSines) ≡ length (v .angles)) × (length (v .differences) ≡ length (v .angles))
+    (18 + 27 * length (v .logSides) + 65 * length (v .angles) ≤ mostBits)
+    × (length (v .logSines) ≡ length (v .angles)) × (length (v .differences) ≡ length (v .angles))
 
 -- what the writer promises once kind and figure are known
 abbrev pub GivenPromise : Kind → Figure → Values → (entry : List ℕ) → (answer : Verdict) → (exit : List ℕ) → Type 0

@@ -29,6 +29,8 @@ use sheet_layout::KIND_WIDTH;
 use sheet_layout::Kind;
 use sheet_layout::LIMIT_OR_TOLERANCE_AT;
 use sheet_layout::LIMIT_WIDTH;
+use sheet_layout::LOG_SIDE_STEP;
+use sheet_layout::LOG_SIDE_WIDTH;
 use sheet_layout::LOG_SINE_WIDTH;
 use sheet_layout::Look;
 use sheet_layout::N_AT;
@@ -52,7 +54,14 @@ fn given_lengths_verdict(given: &[usize], kind: Kind, figure: Figure) -> Verdict
     let size = sheet_size(kind, figure);
     lengths_verdict(
         given,
-        &[own.angles, own.fixed, own.log_sines, own.differences, size],
+        &[
+            own.angles,
+            own.fixed,
+            own.log_sines,
+            own.differences,
+            own.log_sides,
+            size,
+        ],
     )
 }
 
@@ -75,16 +84,16 @@ fn put_limit_or_tolerance(sheet: &mut [u8], kind: Kind, value: u32)
     }
 }
 
-// Angles or fixed angles of kind 1.
-fn put_column(sheet: &mut [u8], start: usize, values: &[u32])
-    requires { ⌜ start + 23 * length (now values) ≤ mostBits ⌝ }
-    ensures { λ _. ⌜ now (sheet .exit) ≡ putAll (now (sheet .entry)) start (columnFields (now (values .entry))) ⌝ }
+// Angles or fixed angles of kind 1, or log sides of kind 2: values of one width without gaps.
+fn put_column(sheet: &mut [u8], start: usize, width: u32, values: &[u32])
+    requires { ⌜ start + width * length (now values) ≤ mostBits ⌝ }
+    ensures { λ _. ⌜ now (sheet .exit) ≡ putAll (now (sheet .entry)) start (columnFields width (now (values .entry))) ⌝ }
 {
     let mut at = start;
     let mut put = 0;
     while put < values.len() {
-        put_field(sheet, at, ANGLE_WIDTH, values[put]);
-        at += FIRST_PASS_STEP;
+        put_field(sheet, at, width, values[put]);
+        at += width as usize;
         put += 1;
     }
 }
@@ -105,13 +114,13 @@ fn put_row(sheet: &mut [u8], at: usize, angle: u32, log_sine: u32, difference: i
     );
 }
 
-fn put_rows(sheet: &mut [u8], angles: &[u32], log_sines: &[u32], differences: &[i32])
-    requires { ⌜ 18 + 65 * length (now angles) ≤ mostBits ⌝ }
+fn put_rows(sheet: &mut [u8], start: usize, angles: &[u32], log_sines: &[u32], differences: &[i32])
+    requires { ⌜ start + 65 * length (now angles) ≤ mostBits ⌝ }
     requires { ⌜ (length (now «log_sines») ≡ length (now angles)) × (length (now differences) ≡ length (now angles)) ⌝ }
-    ensures { λ _. ⌜ now (sheet .exit) ≡ putAll (now (sheet .entry)) 18
+    ensures { λ _. ⌜ now (sheet .exit) ≡ putAll (now (sheet .entry)) start
         (rowFields (now (angles .entry)) (now («log_sines» .entry)) (now (differences .entry))) ⌝ }
 {
-    let mut at = SECOND_PASS_BODY_AT;
+    let mut at = start;
     let mut put = 0;
     while put < angles.len() {
         put_row(sheet, at, angles[put], log_sines[put], differences[put]);
@@ -127,21 +136,23 @@ fn put_body(
     fixed: &[u32],
     log_sines: &[u32],
     differences: &[i32],
+    log_sides: &[u32],
 )
-    requires { ⌜ BodyFits kind (valuesFrom 0 (now angles) (now fixed) (now «log_sines») (now differences)) ⌝ }
+    requires { ⌜ BodyFits kind (valuesFrom 0 (now angles) (now fixed) (now «log_sines») (now differences) (now «log_sides»)) ⌝ }
     ensures { λ _. ⌜ now (sheet .exit) ≡ putAll (now (sheet .entry)) (bodyStart kind) (bodyFields kind (valuesFrom 0
-        (now (angles .entry)) (now (fixed .entry)) (now («log_sines» .entry)) (now (differences .entry)))) ⌝ }
+        (now (angles .entry)) (now (fixed .entry)) (now («log_sines» .entry)) (now (differences .entry)) (now («log_sides» .entry)))) ⌝ }
 {
     match kind {
         Kind::FirstPass => {
-            put_column(sheet, FIRST_PASS_BODY_AT, angles);
-            put_column(
-                sheet,
-                FIRST_PASS_BODY_AT + FIRST_PASS_STEP * angles.len(),
-                fixed,
-            );
+            put_column(sheet, FIRST_PASS_BODY_AT, ANGLE_WIDTH, angles);
+            let fixed_at = FIRST_PASS_BODY_AT + FIRST_PASS_STEP * angles.len();
+            put_column(sheet, fixed_at, ANGLE_WIDTH, fixed);
         }
-        Kind::SecondPass => put_rows(sheet, angles, log_sines, differences),
+        Kind::SecondPass => {
+            put_column(sheet, SECOND_PASS_BODY_AT, LOG_SIDE_WIDTH, log_sides);
+            let rows_at = SECOND_PASS_BODY_AT + LOG_SIDE_STEP * log_sides.len();
+            put_rows(sheet, rows_at, angles, log_sines, differences);
+        }
     }
 }
 
@@ -163,16 +174,25 @@ fn pack(
     fixed: &[u32],
     log_sines: &[u32],
     differences: &[i32],
+    log_sides: &[u32],
 )
-    requires { ⌜ lengthsGiven (valuesFrom bound (now angles) (now fixed) (now «log_sines») (now differences))
+    requires { ⌜ lengthsGiven (valuesFrom bound (now angles) (now fixed) (now «log_sines») (now differences) (now «log_sides»))
         ≡ ownLengths kind figure ⌝ }
     requires { ⌜ length (now sheet) ≡ sheetSize kind figure ⌝ }
     ensures { λ _. ⌜ now (sheet .exit) ≡ packedSheet kind figure (valuesFrom bound
-        (now (angles .entry)) (now (fixed .entry)) (now («log_sines» .entry)) (now (differences .entry))) ⌝ }
+        (now (angles .entry)) (now (fixed .entry)) (now («log_sines» .entry)) (now (differences .entry)) (now («log_sides» .entry))) ⌝ }
 {
     put_head(sheet, kind, figure);
     put_limit_or_tolerance(sheet, kind, bound);
-    put_body(sheet, kind, angles, fixed, log_sines, differences);
+    put_body(
+        sheet,
+        kind,
+        angles,
+        fixed,
+        log_sines,
+        differences,
+        log_sides,
+    );
     put_filling(sheet, kind, figure);
 }
 
@@ -185,20 +205,31 @@ fn write_given(
     fixed: &[u32],
     log_sines: &[u32],
     differences: &[i32],
+    log_sides: &[u32],
     sheet: &mut [u8],
 ) -> Verdict
     ensures { λ verdict. ⌜ GivenPromise kind figure (valuesFrom bound (now (angles .entry)) (now (fixed .entry))
-        (now («log_sines» .entry)) (now (differences .entry))) (now (sheet .entry)) verdict (now (sheet .exit)) ⌝ }
+        (now («log_sines» .entry)) (now (differences .entry)) (now («log_sides» .entry)))
+        (now (sheet .entry)) verdict (now (sheet .exit)) ⌝ }
 {
     let given = [
         angles.len(),
         fixed.len(),
         log_sines.len(),
         differences.len(),
+        log_sides.len(),
         sheet.len(),
     ];
     let lengths = given_lengths_verdict(&given, kind, figure);
-    let values = values_verdict(kind, bound, angles, fixed, log_sines, differences);
+    let values = values_verdict(
+        kind,
+        bound,
+        angles,
+        fixed,
+        log_sines,
+        differences,
+        log_sides,
+    );
     if let Verdict::Failed(_) = lengths {
         return lengths;
     }
@@ -212,6 +243,7 @@ fn write_given(
             fixed,
             log_sines,
             differences,
+            log_sides,
         );
     }
     values
@@ -227,10 +259,11 @@ pub fn write_sheet(
     fixed: &[u32],
     log_sines: &[u32],
     differences: &[i32],
+    log_sides: &[u32],
     sheet: &mut [u8],
 ) -> Verdict
     ensures { λ verdict. ⌜ WriterPromise kind code n (valuesFrom «limit_or_tolerance»
-        (now (angles .entry)) (now (fixed .entry)) (now («log_sines» .entry)) (now (differences .entry)))
+        (now (angles .entry)) (now (fixed .entry)) (now («log_sines» .entry)) (now (differences .entry)) (now («log_sides» .entry)))
         (now (sheet .entry)) verdict (now (sheet .exit)) ⌝ }
 {
     match named_head(kind, code, n) {
@@ -243,6 +276,7 @@ pub fn write_sheet(
             fixed,
             log_sines,
             differences,
+            log_sides,
             sheet,
         ),
     }

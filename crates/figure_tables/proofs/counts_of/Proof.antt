@@ -9,7 +9,7 @@ pub counts-of-spec : {M : Type 1} → statement M
 counts-of-spec =
     tie.close
     (tie.spec
-    (λ c. search needs) (λ c κs. search needs) (λ c. search needs) (λ c κs. search needs) (λ c. search needs) (λ c κs. search needs) (λ c. search needs) (λ c κs. search needs) (λ c. search needs) (λ c κs. search needs) (λ c. search needs) (λ c κs. search needs) (λ c. search needs) (λ c κs. search needs) (λ c. search needs) (λ c κs. search needs)
+    (λ c. search needs) (λ c κs. search needs) (λ c. search needs) (λ c κs. search needs) (λ c. search needs) (λ c κs. search needs) (λ c. search needs) (λ c κs. search needs) (λ c. search needs) (λ c κs. search needs) (λ c. search needs) (λ c κs. search needs) (λ c. search needs) (λ c κs. search needs) (λ c. search needs) (λ c κs. search needs) (λ c. search needs) (λ c κs. search needs)
     (λ c. c .counts .ensures ∙ sym (ap countsOf (c .before .enum-told .given .1)))
     (λ c. c .counts2 .ensures ∙ sym (ap countsOf (c .before .enum-told2 .given .1)))
     (λ c. c .counts3 .ensures ∙ sym (ap countsOf (c .before .enum-told3 .given .1)))
@@ -17,4 +17,5 @@ counts-of-spec =
     (λ c. c .counts5 .ensures ∙ sym (ap countsOf (c .before .enum-told5 .given .1)))
     (λ c. c .counts6 .ensures ∙ sym (ap countsOf (c .before .enum-told6 .given .1)))
     (λ c. c .counts7 .ensures ∙ sym (ap countsOf (c .before .enum-told7 .given .1)))
-    (λ c. c .counts8 .ensures ∙ sym (ap countsOf (c .before .enum-told8 .given .1))))
+    (λ c. c .counts8 .ensures ∙ sym (ap countsOf (c .before .enum-told8 .given .1)))
+    (λ c. c .counts9 .ensures ∙ sym (ap countsOf (c .before .enum-told9 .given .1))))

@@ -9,18 +9,19 @@ use lib.ListN.{take}
 use types.Run.{OneOf, miss}
 use Rattle.figures.proofs.Figure.{the-type}
 use Rattle.figures.specs.declared.Figure.{Figure}
-use Rattle.figures.specs.declared.Figure.the-variants.{Quadrilateral, PointInTriangle, CentralTriangle, CentralQuadrilateral, CentralPentagon, CentralHexagon, CentralHeptagon, CentralOctagon}
+use Rattle.figures.specs.declared.Figure.the-variants.{Quadrilateral, PointInTriangle, PointInQuadrilateral, CentralTriangle, CentralQuadrilateral, CentralPentagon, CentralHexagon, CentralHeptagon, CentralOctagon}
 use Rattle.figures.specs.Figure.{angleCount, pole}
 use Rattle.figures.specs.Rows.{triangleSigns}
 use Rattle.figure_tables.proofs.signs_of.Statement.{statement}
 use Rattle.figure_tables.proofs.signs_of.Tie as tie
 
 abbrev others : List ℕ
-others = 1 ∷ 2 ∷ 3 ∷ 4 ∷ 5 ∷ 6 ∷ 7 ∷ []
+others = 1 ∷ 2 ∷ 3 ∷ 4 ∷ 5 ∷ 6 ∷ 7 ∷ 8 ∷ []
 
 of-triangles : (f : Figure) → OneOf others (tagOf the-type f) → take (angleCount f) (triangleSigns 8) ≡ pole f .signs
 of-triangles Quadrilateral key = absurd (miss others 0 tt key)
 of-triangles PointInTriangle key = refl
+of-triangles PointInQuadrilateral key = refl
 of-triangles CentralTriangle key = refl
 of-triangles CentralQuadrilateral key = refl
 of-triangles CentralPentagon key = refl

@@ -14,6 +14,7 @@ figure-of-spec =
     (λ c. sym (ap₂ figureOf (c .before .match .keys1) (c .match2 .keys1)))
     (λ c. rw (c .before .match .keys1, ne-eqb _ 0 (c .match2 .rest .1)))
     (λ c. sym (ap₂ figureOf (c .before .match .keys2) (c .match3 .keys1)))
-    (λ c. rw (c .before .match .keys2, ne-eqb _ 3 (c .match3 .rest .1)))
+    (λ c. sym (ap₂ figureOf (c .before .match .keys2) (c .match3 .keys2)))
+    (λ c. simp (c .before .match .keys2, ne-eqb _ 3 (c .match3 .rest .0 .1), ne-eqb _ 4 (c .match3 .rest .1)))
     (λ c. c .polygon-of .ensures ∙ sym (ap (λ code. figureOf code (c .before .before .args .n)) (c .before .match .keys3)))
     (λ c. simp (ne-eqb _ 1 (c .match .rest .0 .0 .1), ne-eqb _ 2 (c .match .rest .0 .1), ne-eqb _ 3 (c .match .rest .1))))

@@ -9,7 +9,7 @@ pub name-of-spec : {M : Type 1} → statement M
 name-of-spec =
     tie.close
     (tie.spec
-    (λ c. search needs) (λ c. search needs) (λ c. search needs) (λ c. search needs) (λ c. search needs) (λ c. search needs) (λ c. search needs) (λ c. search needs)
+    (λ c. search needs) (λ c. search needs) (λ c. search needs) (λ c. search needs) (λ c. search needs) (λ c. search needs) (λ c. search needs) (λ c. search needs) (λ c. search needs)
     (λ c. sym (ap nameOf (c .enum-told .given .1)))
     (λ c. sym (ap nameOf (c .enum-told2 .given .1)))
     (λ c. sym (ap nameOf (c .enum-told3 .given .1)))
@@ -17,4 +17,5 @@ name-of-spec =
     (λ c. sym (ap nameOf (c .enum-told5 .given .1)))
     (λ c. sym (ap nameOf (c .enum-told6 .given .1)))
     (λ c. sym (ap nameOf (c .enum-told7 .given .1)))
-    (λ c. sym (ap nameOf (c .enum-told8 .given .1))))
+    (λ c. sym (ap nameOf (c .enum-told8 .given .1)))
+    (λ c. sym (ap nameOf (c .enum-told9 .given .1))))

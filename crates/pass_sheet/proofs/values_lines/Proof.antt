@@ -6,48 +6,72 @@ use borrow.Author.Needs.{needs}
 use lib.ListN.{length, take}
 use lib.Seq.{length-take-le}
 use Rattle.text.specs.Holds.{Holds}
+use Rattle.figures.specs.declared.Figure.{Figure}
 use Rattle.sheet_layout.specs.declared.Kind.{Kind}
 use Rattle.sheet_layout.specs.declared.Lengths.{Lengths}
 use Rattle.sheet_rules.specs.declared.Reading.{Reading}
+use Rattle.pass_rules.specs.SecondPass.{sineEntries}
 use Rattle.pass_sheet.specs.declared.SheetValues.{SheetValues}
 use Rattle.pass_sheet.specs.Texts.{textOf}
 use Rattle.pass_sheet.specs.Worked.{WorkedSheet, workedReading, workedFrom}
-use Rattle.pass_sheet.proofs.SheetBounds.{angles-few, fixed-few, log-sines-few}
+use Rattle.pass_sheet.proofs.SheetBounds.{angles-few, fixed-few, log-sines-few, log-sides-few}
 use Rattle.pass_sheet.proofs.values_lines.Statement.{statement}
 use Rattle.pass_sheet.proofs.values_lines.Tie as tie
 
-module _ (c : tie.After-lengths-of) where
+module _ (c : tie.After-log-sides) where
+  abbrev call : tie.After-lengths-of
+  call = c .before .before .before .before .before
+
+  abbrev kind : Kind
+  kind = call .before .before .args .kind
+
+  abbrev figure : Figure
+  figure = call .before .before .args .figure
+
   abbrev values : SheetValues
-  values = c .before .before .args .values
+  values = call .before .before .args .values
 
   abbrev lengths : Lengths
-  lengths = c .lengths-of .result
+  lengths = call .lengths-of .result
 
   few-angles : lengths .angles ≤ length (values .angles)
-  few-angles = subst (λ (l : Lengths). l .angles ≤ length (values .angles)) (sym (c .lengths-of .ensures)) (rw (c .before .before .pre .angles-full) (angles-few (c .before .before .args .kind) (c .before .before .args .figure)))
+  few-angles =
+      subst (λ (l : Lengths). l .angles ≤ length (values .angles)) (sym (call .lengths-of .ensures))
+      (rw (call .before .before .pre .angles-full) (angles-few kind figure))
 
   few-fixed : lengths .fixed ≤ length (values .fixed)
-  few-fixed = subst (λ (l : Lengths). l .fixed ≤ length (values .fixed)) (sym (c .lengths-of .ensures)) (rw (c .before .before .pre .fixed-full) (fixed-few (c .before .before .args .kind) (c .before .before .args .figure)))
+  few-fixed =
+      subst (λ (l : Lengths). l .fixed ≤ length (values .fixed)) (sym (call .lengths-of .ensures))
+      (rw (call .before .before .pre .fixed-full) (fixed-few kind figure))
 
   few-log-sines : lengths .«log_sines» ≤ length (values .«log_sines»)
   few-log-sines =
-      subst (λ (l : Lengths). l .«log_sines» ≤ length (values .«log_sines»)) (sym (c .lengths-of .ensures)) (rw (c .before .before .pre .log-sines-full) (log-sines-few (c .before .before .args .kind) (c .before .before .args .figure)))
+      subst (λ (l : Lengths). l .«log_sines» ≤ length (values .«log_sines»)) (sym (call .lengths-of .ensures))
+      (rw (call .before .before .pre .log-sines-full) (log-sines-few kind figure))
 
   few-differences : lengths .«log_sines» ≤ length (values .differences)
   few-differences =
-      subst (λ (l : Lengths). l .«log_sines» ≤ length (values .differences)) (sym (c .lengths-of .ensures)) (rw (c .before .before .pre .differences-full) (log-sines-few (c .before .before .args .kind) (c .before .before .args .figure)))
+      subst (λ (l : Lengths). l .«log_sines» ≤ length (values .differences)) (sym (call .lengths-of .ensures))
+      (rw (call .before .before .pre .differences-full) (log-sines-few kind figure))
+
+  few-log-sides : lengths .«log_sides» ≤ length (values .«log_sides»)
+  few-log-sides =
+      subst (λ (l : Lengths). l .«log_sides» ≤ length (values .«log_sides»)) (sym (call .lengths-of .ensures))
+      (rw (call .before .before .pre .log-sides-full) (log-sides-few kind figure))
 
   -- the sheet worked from what was read, at the lengths that were lent
   abbrev workedAt : Reading → Lengths → WorkedSheet
   workedAt reading l =
-      workedReading reading (take (l .angles) (values .angles)) (take (l .fixed) (values .fixed)) (take (l .«log_sines») (values .«log_sines»)) (take (l .«log_sines») (values .differences))
+      workedReading reading (take (l .angles) (values .angles)) (take (l .fixed) (values .fixed))
+      (sineEntries (take (l .«log_sines») (values .«log_sines»)) (take (l .«log_sines») (values .differences))
+      (take (l .«log_sides») (values .«log_sides»)))
 
-  worked-at : workedAt (values .reading) lengths ≡ workedFrom (c .before .before .args .kind) (c .before .before .args .figure) values
-  worked-at = ap (workedAt (values .reading)) (c .lengths-of .ensures)
+  worked-at : workedAt (values .reading) lengths ≡ workedFrom kind figure values
+  worked-at = ap (workedAt (values .reading)) (call .lengths-of .ensures)
 
   -- the text of what was worked by the reading that is told
-  shown : (told : Reading) → values .reading ≡ told → {start buffer : List ℕ} {end : ℕ} → Holds start (textOf (workedAt told lengths)) buffer end
-      → Holds start (textOf (workedFrom (c .before .before .args .kind) (c .before .before .args .figure) values)) buffer end
+  shown : (told : Reading) → values .reading ≡ told → {start buffer : List ℕ} {end : ℕ}
+      → Holds start (textOf (workedAt told lengths)) buffer end → Holds start (textOf (workedFrom kind figure values)) buffer end
   shown told e {start} {buffer} {end} held =
       subst (λ (s : WorkedSheet). Holds start (textOf s) buffer end) (ap (λ (q : Reading). workedAt q lengths) (sym e) ∙ worked-at) held
 
@@ -55,24 +79,26 @@ returns : tie.Need-returns
 unfolding textOf
 returns c =
     let read = c .before .before .before .before .before in
-    shown (c .before .before .before .before .before .before .before .before .before .before .before) _ (read .reading .given .1) (c .before .before .refused-lines .ensures)
+    shown (read .before .before) _ (read .reading .given .1) (c .before .before .refused-lines .ensures)
 
 -- the reading that was told, with its kind
 returns-2 : tie.Need-returns-2
 returns-2 c =
     let told = c .before .before .before .before .before .before in
-    let read = c .before .before .before .before .before .before .before .before .before in
+    let read = told .before .before .before in
     let head = read .reading2 .given .0 in
-    shown (c .before .before .before .before .before .before .before .before .before .before .before .before .before .before .before) (Reading.Read Kind.FirstPass (head .1 .0) (head .1 .1 .0))
-    (read .reading2 .given .1 ∙ ap (λ (κ : Kind). Reading.Read κ (head .1 .0) (head .1 .1 .0)) (told .enum-told .given .1)) (c .before .before .first-sheet .ensures)
+    shown (read .before .before) (Reading.Read Kind.FirstPass (head .1 .0) (head .1 .1 .0))
+    (read .reading2 .given .1 ∙ ap (λ (κ : Kind). Reading.Read κ (head .1 .0) (head .1 .1 .0)) (told .enum-told .given .1))
+    (c .before .before .first-sheet .ensures)
 
 returns-3 : tie.Need-returns-3
 returns-3 c =
-    let told = c .before .before .before .before .before .before .before in
-    let read = c .before .before .before .before .before .before .before .before .before .before in
+    let told = c .before .before .before .before .before .before .before .before in
+    let read = told .before .before .before in
     let head = read .reading2 .given .0 in
-    shown (c .before .before .before .before .before .before .before .before .before .before .before .before .before .before .before .before) (Reading.Read Kind.SecondPass (head .1 .0) (head .1 .1 .0))
-    (read .reading2 .given .1 ∙ ap (λ (κ : Kind). Reading.Read κ (head .1 .0) (head .1 .1 .0)) (told .enum-told2 .given .1)) (c .before .before .second-sheet .ensures)
+    shown (read .before .before) (Reading.Read Kind.SecondPass (head .1 .0) (head .1 .1 .0))
+    (read .reading2 .given .1 ∙ ap (λ (κ : Kind). Reading.Read κ (head .1 .0) (head .1 .1 .0)) (told .enum-told2 .given .1))
+    (c .before .before .second-sheet .ensures)
 
 pub values-lines-spec : {M : Type 1} → statement M
 values-lines-spec =
@@ -83,18 +109,20 @@ values-lines-spec =
     (λ c κs. search needs)
     (λ c. search needs)
     (λ c. search needs)
-    (λ c. few-angles (c .before .before .before .before .before .before .before .before .before .before))
-    (λ c. sym (length-take-le _ _ (few-angles (c .before .before .before .before .before .before .before .before .before .before .before))))
-    (λ c. few-fixed (c .before .before .before .before .before .before .before .before .before .before .before))
-    (λ c. sym (length-take-le _ _ (few-fixed (c .before .before .before .before .before .before .before .before .before .before .before .before))))
+    (λ c. few-angles (c .before .before .before .before .before .before))
+    (λ c. sym (length-take-le _ _ (few-angles (c .before .before .before .before .before .before .before))))
+    (λ c. few-fixed (c .before .before .before .before .before .before .before))
+    (λ c. sym (length-take-le _ _ (few-fixed (c .before .before .before .before .before .before .before .before))))
     (λ c κs. search needs)
     (λ c. search needs)
-    (λ c. few-angles (c .before .before .before .before .before .before .before .before .before .before))
-    (λ c. sym (length-take-le _ _ (few-angles (c .before .before .before .before .before .before .before .before .before .before .before))))
-    (λ c. few-log-sines (c .before .before .before .before .before .before .before .before .before .before .before))
-    (λ c. sym (length-take-le _ _ (few-log-sines (c .before .before .before .before .before .before .before .before .before .before .before .before))))
-    (λ c. few-differences (c .before .before .before .before .before .before .before .before .before .before .before .before))
-    (λ c. sym (length-take-le _ _ (few-differences (c .before .before .before .before .before .before .before .before .before .before .before .before .before))))
+    (λ c. few-angles (c .before .before .before .before .before .before))
+    (λ c. sym (length-take-le _ _ (few-angles (c .before .before .before .before .before .before .before))))
+    (λ c. few-log-sines (c .before .before .before .before .before .before .before))
+    (λ c. sym (length-take-le _ _ (few-log-sines (c .before .before .before .before .before .before .before .before))))
+    (λ c. few-differences (c .before .before .before .before .before .before .before .before))
+    (λ c. sym (length-take-le _ _ (few-differences (c .before .before .before .before .before .before .before .before .before))))
+    (λ c. few-log-sides (c .before .before .before .before .before .before .before .before .before))
+    (λ c. sym (length-take-le _ _ (few-log-sides (c .before .before .before .before .before .before .before .before .before .before))))
     (λ c κs. search needs)
     (λ c. search needs)
     returns

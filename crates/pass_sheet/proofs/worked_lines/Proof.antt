@@ -14,12 +14,13 @@ use Rattle.refusals.specs.Order.{judged}
 use Rattle.sheet_layout.specs.declared.head.Look.{Look}
 use Rattle.sheet_layout.specs.declared.head.Look.the-variants.{Head}
 use Rattle.sheet_layout.specs.Head.{lookOf}
-use Rattle.sheet_layout.specs.Layout.{fixedIn, sineEntriesIn}
+use Rattle.sheet_layout.specs.Layout.{fixedIn, sineEntriesIn, sidesIn}
 use Rattle.sheet_rules.specs.declared.Reading.{Reading}
 use Rattle.sheet_rules.specs.declared.Reading.the-variants.{Read}
 use Rattle.sheet_rules.specs.Judging.{ownLengths, bodyRows, readingAfter, afterReading}
 use Rattle.sheet_rules.proofs.Accepted.{head-found}
 use Rattle.sheet_rules.specs.Sheet.{valuesRead}
+use Rattle.pass_rules.specs.SecondPass.{sineEntries}
 use Rattle.pass_sheet.specs.declared.SheetValues.{SheetValues}
 use Rattle.pass_sheet.specs.Texts.{textOf, workedText}
 use Rattle.pass_sheet.specs.Worked.{WorkedSheet, ReadInto, workedKind, workedReading, workedFrom, workedRead, workedLook, workedOf}
@@ -27,18 +28,23 @@ use Rattle.pass_sheet.proofs.worked_lines.Statement.{statement}
 use Rattle.pass_sheet.proofs.worked_lines.Tie as tie
 
 -- lists that hold what the reader gives, where it gives it, work as the reader's own
-from-read : (q : Reading) (sheet : List ℕ) (angles fixed logSines : List ℕ) (differences : List ℤ)
+from-read : (q : Reading) (sheet : List ℕ) (angles fixed logSines : List ℕ) (differences : List ℤ) (logSides : List ℕ)
     → angles ≡ afterReading q (λ k g. valuesRead k g sheet .angles) angles
     → fixed ≡ afterReading q (λ k g. valuesRead k g sheet .fixed) fixed
     → logSines ≡ afterReading q (λ k g. valuesRead k g sheet .logSines) logSines
     → differences ≡ afterReading q (λ k g. valuesRead k g sheet .differences) differences
-    → workedReading q angles fixed logSines differences ≡ workedRead q sheet
-from-read (Reading.Refused r) sheet angles fixed logSines differences a x l d = refl
-from-read (Read k g e) sheet angles fixed logSines differences a x l d = λ i. workedKind k g e (a i) (x i) (l i) (d i)
+    → logSides ≡ afterReading q (λ k g. valuesRead k g sheet .logSides) logSides
+    → workedReading q angles fixed (sineEntries logSines differences logSides) ≡ workedRead q sheet
+from-read (Reading.Refused r) sheet angles fixed logSines differences logSides a x l d s = refl
+from-read (Read k g e) sheet angles fixed logSines differences logSides a x l d s =
+    λ i. workedKind k g e (a i) (x i) (sineEntries (l i) (d i) (s i))
 
-read-into : (sheet : List ℕ) (kind : Kind) (f : Figure) (v : SheetValues) → ReadInto sheet kind f v → workedFrom kind f v ≡ workedRead (readingAfter (judged (bodyRows kind f sheet (ownLengths kind f))) kind f sheet) sheet
+read-into : (sheet : List ℕ) (kind : Kind) (f : Figure) (v : SheetValues) → ReadInto sheet kind f v
+    → workedFrom kind f v ≡ workedRead (readingAfter (judged (bodyRows kind f sheet (ownLengths kind f))) kind f sheet) sheet
 read-into sheet kind f v into =
-    from-read (v .reading) sheet (take (angleCount f) (v .angles)) (take (fixedIn kind f) (v .fixed)) (take (sineEntriesIn kind f) (v .«log_sines»)) (take (sineEntriesIn kind f) (v .differences)) (into .angles-are) (into .fixed-are) (into .log-sines-are) (into .differences-are)
+    from-read (v .reading) sheet (take (angleCount f) (v .angles)) (take (fixedIn kind f) (v .fixed))
+    (take (sineEntriesIn kind f) (v .«log_sines»)) (take (sineEntriesIn kind f) (v .differences)) (take (sidesIn kind f) (v .«log_sides»))
+    (into .angles-are) (into .fixed-are) (into .log-sines-are) (into .differences-are) (into .log-sides-are)
     ∙ ap (λ (q : Reading). workedRead q sheet) (into .reading-is)
 
 -- the text goes by the look
@@ -48,24 +54,28 @@ module _ (sheet : List ℕ) (found : Look) (told : lookOf sheet ≡ found) {star
   looked held = subst (λ (l : Look). Holds start (textOf (workedLook l sheet)) buffer end) (sym told) held
 
 -- and of a sheet whose head was found, by what was read of it
-read-out : (sheet : List ℕ) (kind : Kind) (f : Figure) (v : SheetValues) → lookOf sheet ≡ Head kind f → ReadInto sheet kind f v → {start buffer : List ℕ} {end : ℕ}
-    → Holds start (textOf (workedFrom kind f v)) buffer end → Holds start (workedText sheet) buffer end
+read-out : (sheet : List ℕ) (kind : Kind) (f : Figure) (v : SheetValues) → lookOf sheet ≡ Head kind f → ReadInto sheet kind f v
+    → {start buffer : List ℕ} {end : ℕ} → Holds start (textOf (workedFrom kind f v)) buffer end → Holds start (workedText sheet) buffer end
 read-out sheet kind f v found into {start} {buffer} {end} held =
     looked sheet (Head kind f) found
     (subst (λ (s : WorkedSheet). Holds start (textOf s) buffer end)
-    (read-into sheet kind f v into ∙ ap (λ (q : Reading). workedRead q sheet) (sym (head-found sheet (ownLengths kind f) kind f found))) held)
+    (read-into sheet kind f v into
+    ∙ ap (λ (q : Reading). workedRead q sheet) (sym (head-found sheet (ownLengths kind f) kind f found))) held)
 
 returns : tie.Need-returns
 unfolding textOf
 returns c =
     let look = c .before .before .before .before .before .before .before in
-    looked (now (c .before .before .before .before .before .before .before .before .before .before .args .sheet)) _ (sym (look .look-at .ensures) ∙ c .before .before .before .before .before .refusal .given .1) (c .before .before .refused-lines .ensures)
+    looked (now (look .before .before .before .args .sheet)) _
+    (sym (look .look-at .ensures) ∙ c .before .before .before .before .before .refusal .given .1)
+    (c .before .before .refused-lines .ensures)
 
 returns-2 : tie.Need-returns-2
 returns-2 c =
     let look = c .before .before .before .before .before .before .before .before in
     let head = c .before .before .before .before .before .before in
-    read-out (now (c .before .before .before .before .before .before .before .before .before .before .before .args .sheet)) _ _ _ (sym (look .look-at .ensures) ∙ head .kind .given .1) (c .before .before .before .values-of .ensures)
+    read-out (now (look .before .before .before .args .sheet)) _ _ _ (sym (look .look-at .ensures) ∙ head .kind .given .1)
+    (c .before .before .before .values-of .ensures)
     (c .before .before .values-lines .ensures)
 
 pub worked-lines-spec : {M : Type 1} → statement M

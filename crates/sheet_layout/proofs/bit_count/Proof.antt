@@ -6,7 +6,7 @@ use borrow.Author.Needs.{needs}
 use Rattle.figures.specs.declared.Counts.{Counts}
 use Rattle.sheet_layout.specs.declared.Kind.{Kind}
 use Rattle.sheet_layout.specs.Layout.{bitCount}
-use Rattle.sheet_layout.proofs.Sizes.{few-angles, few-fixed, first-pass-bits, second-pass-bits}
+use Rattle.sheet_layout.proofs.Sizes.{few-angles, few-fixed, few-sides, first-pass-bits, second-pass-bits}
 use Rattle.sheet_layout.proofs.bit_count.Statement.{statement}
 use Rattle.sheet_layout.proofs.bit_count.Tie as tie
 
@@ -35,10 +35,18 @@ enum-told-2 : tie.Need-enum-told-2
 enum-told-2 c = search needs
 
 mul-result-2 : tie.Need-mul-result-2
-mul-result-2 c = let at = c .before .before .before in omega (arith, few-angles (at .before .args .figure) (at .counts-of .ensures))
+mul-result-2 c = let at = c .before .before .before in omega (arith, few-sides (at .before .args .figure) (at .counts-of .ensures))
 
 add-result-3 : tie.Need-add-result-3
-add-result-3 c = let at = c .before .before .before in omega (arith, few-angles (at .before .args .figure) (at .counts-of .ensures))
+add-result-3 c = let at = c .before .before .before in omega (arith, few-sides (at .before .args .figure) (at .counts-of .ensures))
+
+mul-result-3 : tie.Need-mul-result-3
+mul-result-3 c = let at = c .before .before .before .before in omega (arith, few-angles (at .before .args .figure) (at .counts-of .ensures))
+
+add-result-4 : tie.Need-add-result-4
+add-result-4 c =
+    let at = c .before .before .before .before in
+    omega (arith, few-angles (at .before .args .figure) (at .counts-of .ensures), few-sides (at .before .args .figure) (at .counts-of .ensures))
 
 returns : tie.Need-returns
 returns c =
@@ -49,10 +57,10 @@ returns c =
 
 returns-2 : tie.Need-returns-2
 returns-2 c =
-    let at = c .before .before .before in
+    let at = c .before .before .before .before in
     let f = at .before .args .figure in
-    ap (λ (r : Counts). 18 + 65 * r .angles) (at .counts-of .ensures) ∙ sym (second-pass-bits f)
-    ∙ sym (ap (λ (kind : Kind). bitCount kind f) (c .before .enum-told2 .given .1))
+    ap (λ (r : Counts). 18 + 27 * r .sides + 65 * r .angles) (at .counts-of .ensures) ∙ sym (second-pass-bits f)
+    ∙ sym (ap (λ (kind : Kind). bitCount kind f) (c .before .before .enum-told2 .given .1))
 
 pub bit-count-spec : {M : Type 1} → statement M
 bit-count-spec =
@@ -66,5 +74,7 @@ bit-count-spec =
     enum-told-2
     mul-result-2
     add-result-3
+    mul-result-3
+    add-result-4
     returns
     returns-2)

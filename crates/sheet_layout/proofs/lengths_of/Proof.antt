@@ -19,13 +19,13 @@ enum-told-2 c = search needs
 returns : tie.Need-returns
 returns c =
     let a = c .before .before .before .args in
-    ap (λ (r : Counts). lengthsFrom (r .angles) (r .fixed) 0 0) (c .before .before .counts-of .ensures)
+    ap (λ (r : Counts). lengthsFrom (r .angles) (r .fixed) 0 0 0) (c .before .before .counts-of .ensures)
     ∙ sym (ap (λ (kind : Kind). lengthsOf kind (a .figure)) (c .enum-told .given .1))
 
 returns-2 : tie.Need-returns-2
 returns-2 c =
     let a = c .before .before .before .args in
-    ap (λ (r : Counts). lengthsFrom (r .angles) 0 (r .angles) (r .angles)) (c .before .before .counts-of .ensures)
+    ap (λ (r : Counts). lengthsFrom (r .angles) 0 (r .angles) (r .angles) (r .sides)) (c .before .before .counts-of .ensures)
     ∙ sym (ap (λ (kind : Kind). lengthsOf kind (a .figure)) (c .enum-told2 .given .1))
 
 pub lengths-of-spec : {M : Type 1} → statement M

@@ -42,7 +42,7 @@ returns : tie.Need-returns
 returns c =
     let limit = c .before .before .before .before .before .before in
     two-and-two
-    (limit .limit-or-tolerance-verdict .ensures ∙ ap (λ (most : ℕ). verdictOf (limitOrToleranceRow most (limit .before .before .before .before .before .args .limit-or-tolerance))) (limit .before .most-limit-or-tolerance .ensures))
+    (limit .limit-or-tolerance-verdict .ensures ∙ ap (λ (most : ℕ). verdictOf (limitOrToleranceRow most (limit .before .before .before .before .before .before .args .limit-or-tolerance))) (limit .before .most-limit-or-tolerance .ensures))
     (c .before .before .before .before .before .angles-verdict .ensures) (c .before .before .before .fixed-verdict .ensures) (c .before .before .sine-entries-verdict .ensures)
     (c .before .before .before .before .first-to-fail .ensures) (c .before .first-to-fail2 .ensures) (c .first-to-fail3 .ensures)
 

@@ -8,7 +8,7 @@ use Rattle.figures.specs.declared.Name.{Name}
 use Rattle.figures.specs.declared.Counts.{Counts}
 use Rattle.figures.proofs.Figures.{angle-bound, condition-bound}
 use Rattle.sheet_layout.specs.declared.Lengths.{Lengths}
-use Rattle.controller.proofs.PlaceBounds.{fixed-in-few, sines-in-few}
+use Rattle.controller.proofs.PlaceBounds.{fixed-in-few, sines-in-few, sides-in-few}
 use Rattle.controller.proofs.look.head_of.Statement.{statement}
 use Rattle.controller.proofs.look.head_of.Tie as tie
 
@@ -16,45 +16,43 @@ module _ (at : tie.After-counts-of) where
   abbrev start : tie.Start
   start = at .before .before .before .before
 
-  few-angles : at .before .lengths-of .result .angles ≤ 24
-  few-angles = omega (arith, ap (λ (l : Lengths). l .angles) (at .before .lengths-of .ensures), angle-bound (start .args .figure))
+  abbrev lengths : Lengths
+  lengths = at .before .lengths-of .result
 
-  few-fixed : at .before .lengths-of .result .fixed ≤ 24
-  few-fixed = omega (arith, ap (λ (l : Lengths). l .fixed) (at .before .lengths-of .ensures), fixed-in-few (start .args .kind) (start .args .figure))
-
-  few-log-sines : at .before .lengths-of .result .«log_sines» ≤ 24
-  few-log-sines = omega (arith, ap (λ (l : Lengths). l .«log_sines») (at .before .lengths-of .ensures), sines-in-few (start .args .kind) (start .args .figure))
-
-  few-conditions : at .counts-of .result .conditions ≤ 24
-  few-conditions = omega (arith, ap (λ (n : Counts). n .conditions) (at .counts-of .ensures), condition-bound (start .args .figure))
+  few : (lengths .angles ≤ 24) × (lengths .fixed ≤ 24) × (lengths .«log_sines» ≤ 24) × (at .counts-of .result .conditions ≤ 24) × (lengths .«log_sides» ≤ 24)
+  few =
+      let kind = start .args .kind in
+      let f = start .args .figure in
+      let own = at .before .lengths-of .ensures in (
+        omega (arith, ap (λ (l : Lengths). l .angles) own, angle-bound f),
+        omega (arith, ap (λ (l : Lengths). l .fixed) own, fixed-in-few kind f),
+        omega (arith, ap (λ (l : Lengths). l .«log_sines») own, sines-in-few kind f),
+        omega (arith, ap (λ (n : Counts). n .conditions) (at .counts-of .ensures), condition-bound f),
+        omega (arith, ap (λ (l : Lengths). l .«log_sides») own, sides-in-few kind f),
+      )
 
 cast-t7 : tie.Need-cast-t7
-cast-t7 c =
-    let at = c .before in
-    record { fits = omega (arith, few-angles at, few-fixed at, few-log-sines at, few-conditions at) }
+cast-t7 c = record { fits = omega (arith, few (c .before)) }
 
 cast-t8 : tie.Need-cast-t8
-cast-t8 c =
-    let at = c .before .before in
-    record { fits = omega (arith, few-angles at, few-fixed at, few-log-sines at, few-conditions at) }
+cast-t8 c = record { fits = omega (arith, few (c .before .before)) }
 
 cast-t9 : tie.Need-cast-t9
-cast-t9 c =
-    let at = c .before .before .before in
-    record { fits = omega (arith, few-angles at, few-fixed at, few-log-sines at, few-conditions at) }
+cast-t9 c = record { fits = omega (arith, few (c .before .before .before)) }
 
 cast-t10 : tie.Need-cast-t10
-cast-t10 c =
-    let at = c .before .before .before .before in
-    record { fits = omega (arith, few-angles at, few-fixed at, few-log-sines at, few-conditions at) }
+cast-t10 c = record { fits = omega (arith, few (c .before .before .before .before)) }
+
+cast-t11 : tie.Need-cast-t11
+cast-t11 c = record { fits = omega (arith, few (c .before .before .before .before .before)) }
 
 abbrev shown : (number : ℕ) → Name → Lengths → Counts → List ℕ
 shown number name lengths counts =
-    number ∷ name .code ∷ name .n ∷ lengths .angles ∷ lengths .fixed ∷ lengths .«log_sines» ∷ counts .conditions ∷ []
+    number ∷ name .code ∷ name .n ∷ lengths .angles ∷ lengths .fixed ∷ lengths .«log_sines» ∷ counts .conditions ∷ lengths .«log_sides» ∷ []
 
 returns : tie.Need-returns
 returns c =
-    let at = c .before .before .before .before in
+    let at = c .before .before .before .before .before in
     ap₂ (λ (number : ℕ) (name : Name). shown number name (at .before .lengths-of .result) (at .counts-of .result))
     (at .before .before .before .number-of-kind .ensures) (at .before .before .name-of .ensures)
     ∙ ap₂ (shown _ _) (at .before .lengths-of .ensures) (at .counts-of .ensures)
@@ -71,4 +69,5 @@ head-of-spec =
     cast-t8
     cast-t9
     cast-t10
+    cast-t11
     returns)

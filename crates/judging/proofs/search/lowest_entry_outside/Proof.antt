@@ -1,12 +1,11 @@
 -- `judging::search::lowest_entry_outside` meets its contract as `lowest_outside` does; a difference is read back from its bits.
 use Prim.Native.Nat.{ℕ, suc, _≤_, _-_}
 use mathlib.Core.Bool.{Bool}
-use mathlib.Core.List.{List}
-use mathlib.Core.Path.{_≡_, sym, ap, _∙_}
+use mathlib.Core.List.{List, _++_}
+use mathlib.Core.Path.{_≡_, sym, ap₂, _∙_}
 use native.Mathlib.Omega.{arith}
-use borrow.Author.Needs.{needs}
 use lib.IntN.{ℤ, pos}
-use lib.ListN.{length, getD}
+use lib.ListN.{length, length-append}
 use mir.Syntax.{w32}
 use mir.ValLaws.{toZ-ofZ}
 use Rattle.refusals.specs.declared.Lowest.the-variants.{Nowhere}
@@ -19,30 +18,30 @@ use Rattle.judging.proofs.search.lowest_entry_outside.Statement.{statem
 use Rattle.judging.proofs.search.lowest_entry_outside.Tie as tie
 
 abbrev fails : List ℕ → List ℤ → ℕ → Bool
-fails logSines differences place = asked (sineEntryOutside (numbered logSines place 0) (numbered differences place (pos 0)))
+fails entries differences place = asked (sineEntryOutside (numbered entries place 0) (numbered differences place (pos 0)))
 
 abbrev Inv-loop : tie.InvT-loop
-Inv-loop logSines differences passed₀ passed = (passed ≤ length logSines) × (lowestPlace (fails logSines differences) passed ≡ Nowhere)
+Inv-loop logSines logSides differences count passed₀ passed = (passed ≤ count) × (lowestPlace (fails (logSines ++ logSides) differences) passed ≡ Nowhere)
 
 abbrev μ-loop : tie.MeasureT-loop
-μ-loop logSines differences passed₀ passed = length logSines - passed
+μ-loop logSines logSides differences count passed₀ passed = count - passed
 
 -- the call has tested the next place
 tested : (c : tie.After-is-entry-outside Inv-loop μ-loop)
-    → let start = c .before .before .before .before .before .before in
-    fails (start .args .log-sines .now) (start .args .differences .now) (suc (c .before .before .before .before .loop .passed)) ≡ c .is-entry-outside .result
+    → let start = c .before .before .before .before .before .before .before in
+    fails (start .args .log-sines .now ++ start .args .log-sides .now) (start .args .differences .now) (suc (c .before .before .before .before .loop .passed))
+    ≡ c .is-entry-outside .result
 tested c =
-    let start = c .before .before .before .before .before .before in
-    let logSine = getD (start .args .log-sines .now) (c .before .before .before .before .loop .passed) 0 in
-    let difference = c .before .before .signed-at in
-    ap (λ (z : ℤ). asked (sineEntryOutside logSine z))
+    let difference = c .before .signed-at in
+    ap₂ (λ (n : ℕ) (z : ℤ). asked (sineEntryOutside n z)) (sym (c .before .before .value-at .ensures))
     (sym (toZ-ofZ w32 (difference .result) (record { sfits = difference .ok }) ∙ difference .ensures))
     ∙ sym (c .is-entry-outside .ensures)
 
 returns : tie.Need-returns Inv-loop μ-loop
 returns c =
+    let args = c .before .before .before .before .before .before .before .before .args in
     let at = c .before .before .before .before .before .loop in
-    one-fails _ (at .passed) _ (at .inv .1) (tested (c .before) ∙ c .if1 .taken) (omega arith)
+    one-fails _ (at .passed) _ (at .inv .1) (tested (c .before) ∙ c .if1 .taken) (omega (arith, length-append (args .log-sines .now) (args .log-sides .now)))
 
 loop-again : tie.Need-loop-again Inv-loop μ-loop
 loop-again c =
@@ -50,7 +49,10 @@ loop-again c =
     (omega arith, one-passes _ (at .passed) (at .inv .1) (tested (c .before) ∙ c .if1 .left))
 
 returns-2 : tie.Need-returns-2 Inv-loop μ-loop
-returns-2 c = all-asked _ (c .before .loop .passed) _ (c .before .loop .inv .1) (omega arith) (omega arith)
+returns-2 c =
+    let args = c .before .before .before .before .args in
+    let both = length-append (args .log-sines .now) (args .log-sides .now) in
+    all-asked _ (c .before .loop .passed) _ (c .before .loop .inv .1) (omega (arith, both)) (omega (arith, both))
 
 pub lowest-entry-outside-spec : {M : Type 1} → statement M
 lowest-entry-outside-spec =
@@ -58,10 +60,10 @@ lowest-entry-outside-spec =
     (tie.spec
     Inv-loop
     μ-loop
+    (λ c. omega arith)
     (λ c. (omega arith, none-asked _))
     (λ c κs. tt)
-    (λ c. search needs)
-    (λ c. omega arith)
+    (λ c κs. tt)
     (λ c κs. tt)
     (λ c. omega arith)
     returns

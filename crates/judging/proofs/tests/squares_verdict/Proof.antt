@@ -1,34 +1,29 @@
--- `judging::tests::squares_verdict` meets its contract: a number is 0 exactly if its magnitude is.
-use mathlib.Core.Path.{_≡_, sym, ap, _∙_}
+-- `judging::tests::squares_verdict` meets its contract: a number is 0 exactly if both words are.
+use mathlib.Core.Path.{_≡_, sym, ap}
 use mathlib.Core.Bool.{Bool}
+use Prim.Native.Nat.{_+_, _*_, _^_}
 use native.Mathlib.Omega.{arith}
 use borrow.Author.Tests.{eq-eqb, ne-eqb}
-use lib.IntN.{ℤ, pos, negsuc, natAbs}
-use mir.Syntax.{w64}
-use mir.Val.{SFits, toZ, ofZ}
-use mir.Facts.{toZ-ofZ}
 use Rattle.refusals.specs.declared.Refusal.{Refusal}
 use Rattle.refusals.specs.Order.{failsIf}
 use Rattle.judging.proofs.tests.squares_verdict.Statement.{statement}
 use Rattle.judging.proofs.tests.squares_verdict.Tie as tie
 
--- the bits are 0 exactly where the number is
-zero-bits : (z : ℤ) → SFits w64 z → ofZ w64 z ≡ 0 → natAbs z ≡ 0
-zero-bits z fits e = ap natAbs (sym (toZ-ofZ fits) ∙ ap (toZ w64) e)
-
-bits-zero : (z : ℤ) → natAbs z ≡ 0 → ofZ w64 z ≡ 0
-bits-zero (pos n) e = e
-bits-zero (negsuc n) e = absurd (omega arith)
-
 returns : tie.Need-returns
 returns c =
-    let start = c .before in
-    sym (ap (λ (b : Bool). failsIf b Refusal.SumOfSquaresIsZero) (eq-eqb (natAbs (start .args .squares)) 0 (zero-bits (start .args .squares) (start .fits .squares) (c .if1 .taken))))
+    let args = c .before .before .args in
+    let zero : args .high * 2 ^ 64 + args .low ≡ 0 = omega (arith, c .before .if1 .taken, c .if2 .taken) in
+    sym (ap (λ (b : Bool). failsIf b Refusal.SumOfSquaresIsZero) (eq-eqb (args .high * 2 ^ 64 + args .low) 0 zero))
 
 returns-2 : tie.Need-returns-2
 returns-2 c =
-    let start = c .before in
-    sym (ap (λ (b : Bool). failsIf b Refusal.SumOfSquaresIsZero) (ne-eqb (natAbs (start .args .squares)) 0 (λ e. c .if1 .left (bits-zero (start .args .squares) e))))
+    let args = c .before .before .args in
+    sym (ap (λ (b : Bool). failsIf b Refusal.SumOfSquaresIsZero) (ne-eqb (args .high * 2 ^ 64 + args .low) 0 (λ e. c .if2 .left (omega (arith, e)))))
+
+returns-3 : tie.Need-returns-3
+returns-3 c =
+    let args = c .before .args in
+    sym (ap (λ (b : Bool). failsIf b Refusal.SumOfSquaresIsZero) (ne-eqb (args .high * 2 ^ 64 + args .low) 0 (λ e. c .if1 .left (omega (arith, e)))))
 
 pub squares-verdict-spec : {M : Type 1} → statement M
-squares-verdict-spec = tie.close (tie.spec returns returns-2)
+squares-verdict-spec = tie.close (tie.spec returns returns-2 returns-3)

@@ -1,18 +1,20 @@
 -- `lines::first::put_angle` meets its contract: its numbers are the angle's own number and what the slices have for it.
-use mathlib.Core.Path.{refl, ap}
+use mathlib.Core.Path.{ap}
 use native.Mathlib.Omega.{arith}
+use mathlib.Core.List.{List}
 use borrow.Author.Needs.{needs}
-use lib.IntN.{pos}
+use lib.IntN.{ℤ}
 use mir.Syntax.{w64}
 use mir.Facts.{toZ-pos}
 use Rattle.whole.specs.Lists.{listed}
-use Rattle.lines.specs.Lays.{numbersLine}
-use Rattle.lines.proofs.Laid.{lays-as, answered, six-same}
+use Rattle.text.specs.Text.{lineFeed, line}
+use Rattle.lines.specs.Lays.{numbersEnded}
+use Rattle.lines.proofs.Laid.{lays-as, answered, five-same}
 use Rattle.lines.proofs.first.put_angle.Statement.{statement}
 use Rattle.lines.proofs.first.put_angle.Tie as tie
 
 returns : tie.Need-returns
-unfolding numbersLine listed
+unfolding numbersEnded line listed
 returns c =
     let called = c .before .before .before .before in
     let given = called .before .before .before .natural-at in
@@ -20,8 +22,9 @@ returns c =
     let rounded = called .before .signed-at2 in
     let results = called .natural-at2 in
     lays-as
-    (ap (numbersLine 5)
-    (six-same {f = pos 0} (toZ-pos w64 (omega arith)) (answered (given .ok) (given .ensures)) (answered (numerators .ok) (numerators .ensures)) (answered (rounded .ok) (rounded .ensures)) (answered (results .ok) (results .ensures)) refl))
+    (ap (λ (values : List ℤ). numbersEnded 5 values lineFeed)
+    (five-same (toZ-pos w64 (omega arith)) (answered (given .ok) (given .ensures))
+    (answered (numerators .ok) (numerators .ensures)) (answered (rounded .ok) (rounded .ensures)) (answered (results .ok) (results .ensures))))
     (c .before .before .put-numbers .ensures)
 
 pub put-angle-spec : {M : Type 1} → statement M

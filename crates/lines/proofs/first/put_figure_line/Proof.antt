@@ -1,4 +1,4 @@
--- `lines::first::put_figure_line` meets its contract: the pieces make the figure's line (`first-figure`).
+-- `lines::first::put_figure_line` meets its contract: the denominator's word and number are laid after the figure's name.
 use mathlib.Core.Path.{ap, _∙_}
 use mathlib.Core.List.{[], _∷_, _++_}
 use native.Mathlib.Omega.{arith}
@@ -6,23 +6,31 @@ use borrow.Author.Needs.{needs}
 use lib.IntN.{ℤ, pos}
 use mir.Syntax.{w64}
 use mir.Facts.{toZ-pos}
+use Rattle.whole.specs.Lists.{listed}
 use Rattle.figures.specs.declared.Counts.{Counts}
-use Rattle.text.specs.Text.{space}
-use Rattle.lines.specs.Lays.{numbersLine}
-use Rattle.lines.specs.Lines.{denominatorWord}
-use Rattle.lines.proofs.Laid.{lays-then, lays-as}
-use Rattle.lines.proofs.Texts.{first-figure, zeros}
+use Rattle.figures.specs.Figure.{denominator}
+use Rattle.text.specs.Text.{space, lineFeed, decimal, line}
+use Rattle.lines.specs.Lays.{numbersEnded}
+use Rattle.lines.specs.Lines.{denominatorWord, figureNamed}
+use Rattle.lines.proofs.Laid.{lays-as, lays-line, part-line}
+use Rattle.lines.proofs.Texts.{zeros}
 use Rattle.lines.proofs.first.put_figure_line.Statement.{statement}
 use Rattle.lines.proofs.first.put_figure_line.Tie as tie
 
 returns : tie.Need-returns
-unfolding denominatorWord
+unfolding denominatorWord numbersEnded line listed
 returns c =
-    let f = c .before .before .before .before .before .before .before .before .before .before .before .before .args .figure in
-    lays-as (first-figure f zeros) (lays-then (c .before .before .before .before .before .before .before .put-figure-start .ensures)
+    let put = c .before .before in
+    let first = put .before .before .before .before .before in
+    let counts = first .before .before .before in
+    let f = counts .before .before .args .figure in
+    let denominated = decimal (pos (denominator f)) in
+    lays-line (figureNamed f []) denominatorWord (denominated ∷ []) (first .put-figure-start .ensures)
     (lays-as
-    (ap (λ (z : ℤ). (denominatorWord ++ (space ∷ [])) ++ numbersLine 1 (z ∷ zeros)) (toZ-pos w64 (omega arith) ∙ ap (λ (r : Counts). pos (r .denominator)) (c .before .before .before .before .before .before .before .before .before .before .counts-of .ensures)))
-    (c .before .before .put-line .ensures)))
+    (ap (λ (z : ℤ). (denominatorWord ++ (space ∷ [])) ++ numbersEnded 1 (z ∷ zeros) lineFeed)
+    (toZ-pos w64 (omega arith) ∙ ap (λ (r : Counts). pos (r .denominator)) (counts .counts-of .ensures))
+    ∙ part-line denominatorWord denominated [])
+    (put .put-line .ensures))
 
 pub put-figure-line-spec : {M : Type 1} → statement M
 put-figure-line-spec =

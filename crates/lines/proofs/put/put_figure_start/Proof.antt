@@ -1,26 +1,28 @@
 -- `lines::put::put_figure_start` meets its contract: the word, the code and n, each with the space after it.
 use mathlib.Core.Path.{ap}
-use mathlib.Core.List.{[], _∷_, _++_}
+use mathlib.Core.List.{[], _∷_}
 use borrow.Author.Needs.{needs}
 use lib.IntN.{pos}
-use Rattle.text.specs.Text.{space, decimal}
+use Rattle.text.specs.Text.{decimal}
 use Rattle.figures.specs.declared.Name.{Name}
-use Rattle.lines.specs.Lays.{figureStart}
+use Rattle.lines.specs.Lays.{lineStart}
 use Rattle.lines.specs.Lines.{figureWord}
-use Rattle.lines.proofs.Laid.{lays-then, lays-as}
+use Rattle.lines.proofs.Laid.{lays-as, lays-parts, part-start}
 use Rattle.lines.proofs.put.put_figure_start.Statement.{statement}
 use Rattle.lines.proofs.put.put_figure_start.Tie as tie
 
 returns : tie.Need-returns
-unfolding figureStart figureWord
+unfolding figureWord
 returns c =
     let second = c .before .before .put-natural2 in
     let first = c .before .before .before .before .before .before .before .put-natural in
     let word = c .before .before .before .before .before .before .before .before .before .before .before .before .put-word in
     let name = c .before .before .before .before .before .before .before .before .before .before .before .before .before .before .before .name-of in
-    lays-as
-    (ap (λ (r : Name). (figureWord ++ (space ∷ [])) ++ ((decimal (pos (r .code)) ++ (space ∷ [])) ++ (decimal (pos (r .n)) ++ (space ∷ [])))) (name .ensures))
-    (lays-then (word .ensures) (lays-then (first .ensures) (second .ensures)))
+    let code = decimal (pos (name .result .code)) in
+    let n = decimal (pos (name .result .n)) in
+    lays-as (ap (λ (r : Name). lineStart (figureWord ∷ decimal (pos (r .code)) ∷ decimal (pos (r .n)) ∷ [])) (name .ensures))
+    (lays-parts (figureWord ∷ []) (code ∷ n ∷ []) (part-start figureWord (word .ensures))
+    (lays-parts (code ∷ []) (n ∷ []) (part-start code (first .ensures)) (part-start n (second .ensures))))
 
 pub put-figure-start-spec : {M : Type 1} → statement M
 put-figure-start-spec =

@@ -1,4 +1,5 @@
--- `lines::put::put_numbers` meets its contract: each turn lays one number more with a space after it, and the last has the line feed (`numbers-laid`).
+-- `lines::put::put_numbers` meets its contract: each turn lays one number more with a space after it (`number-started`), and the last has
+-- the byte that ends them (`number-ended`).
 use mathlib.Core.Path.{_≡_, ap, _∙_}
 use mathlib.Core.List.{List, [], _∷_, _++_}
 use Prim.Native.Nat.{ℕ, _+_, _-_, _≤_}
@@ -7,24 +8,28 @@ use borrow.Author.Needs.{needs}
 use lib.IntN.{ℤ}
 use lib.ListN.{length}
 use mir.Facts.{toZ-ofZ}
+use Rattle.whole.specs.Lists.{listed}
 use Rattle.whole.specs.Sums.{vector}
-use Rattle.text.specs.Text.{space, lineFeed, decimal}
-use Rattle.lines.specs.Lays.{Lays, numbersLine}
-use Rattle.lines.proofs.Laid.{lays-none, lays-then, lays-as, joined, joined-more, numbers-laid}
+use Rattle.text.specs.Text.{space, decimal}
+use Rattle.lines.specs.Lays.{Lays, lineStart, numbersEnded}
+use Rattle.lines.specs.Lines.{numbers}
+use Rattle.lines.proofs.Laid.{lays-none, lays-then, lays-as, number-started, number-ended}
 use Rattle.lines.proofs.put.put_numbers.Statement.{statement}
 use Rattle.lines.proofs.put.put_numbers.Tie as tie
 
-abbrev withSpace : List ℤ → ℕ → List ℕ
-withSpace values i = decimal (vector values i) ++ (space ∷ [])
+-- the first numbers, each with the space after it
+abbrev begun : List ℤ → ℕ → List ℕ
+begun values done = lineStart (numbers (listed done (vector values)))
 
 abbrev Inv-loop : tie.InvT-loop
-Inv-loop buffer₀ at count values position₀ done₀ buffer position done = (done + 1 ≤ count) × (length buffer ≡ length buffer₀) × Lays (joined done (withSpace values)) buffer₀ at buffer position
+Inv-loop buffer₀ at count end values position₀ done₀ buffer position done =
+    (done + 1 ≤ count) × (length buffer ≡ length buffer₀) × Lays (begun values done) buffer₀ at buffer position
 
 abbrev μ-loop : tie.MeasureT-loop
-μ-loop buffer₀ at count values position₀ done₀ buffer position done = count - done
+μ-loop buffer₀ at count end values position₀ done₀ buffer position done = count - done
 
 loop-holds : tie.Need-loop-holds Inv-loop μ-loop
-unfolding joined
+unfolding lineStart listed
 loop-holds c = (search needs, search needs, lays-none _ _)
 
 loop-again : tie.Need-loop-again Inv-loop μ-loop
@@ -34,19 +39,22 @@ loop-again c =
       search needs,
       search needs,
       lays-as
-          (ap (λ (z : ℤ). joined (loop .done) (withSpace values) ++ (decimal z ++ (space ∷ []))) (toZ-ofZ (record { sfits = c .before .before .before .put-part-arg2 .given }))
-          ∙ joined-more (loop .done) (withSpace values))
+          (ap (λ (z : ℤ). begun values (loop .done) ++ (decimal z ++ (space ∷ [])))
+          (toZ-ofZ (record { sfits = c .before .before .before .put-part-arg2 .given }))
+          ∙ number-started (loop .done) (vector values))
           (lays-then (loop .inv .2) (c .before .before .put-part .ensures)),
     )
 
 returns : tie.Need-returns Inv-loop μ-loop
+unfolding numbersEnded
 returns c =
     let loop = c .before .before .before .before .before .before .loop in
-    let values = c .before .before .before .before .before .before .before .before .args .t3 in
-    let all : loop .done + 1 ≡ c .before .before .before .before .before .before .before .before .args .count = omega arith in
+    let a = c .before .before .before .before .before .before .before .before .args in
+    let all : loop .done + 1 ≡ a .count = omega arith in
     lays-as
-    (ap (λ (z : ℤ). joined (loop .done) (withSpace values) ++ (decimal z ++ (lineFeed ∷ []))) (toZ-ofZ (record { sfits = c .before .before .before .put-part-arg4 .given }))
-    ∙ numbers-laid (loop .done) values ∙ ap (λ (k : ℕ). numbersLine k values) all)
+    (ap (λ (z : ℤ). begun (a .t3) (loop .done) ++ (decimal z ++ (a .end ∷ [])))
+    (toZ-ofZ (record { sfits = c .before .before .before .put-part-arg4 .given }))
+    ∙ number-ended (loop .done) (vector (a .t3)) (a .end) ∙ ap (λ (k : ℕ). numbersEnded k (a .t3) (a .end)) all)
     (lays-then (loop .inv .2) (c .before .before .put-part2 .ensures))
 
 pub put-numbers-spec : {M : Type 1} → statement M

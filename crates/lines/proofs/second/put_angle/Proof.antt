@@ -1,30 +1,47 @@
--- `lines::second::put_angle` meets its contract: its numbers are the angle's own number and what the slices have for it.
-use mathlib.Core.Path.{ap}
-use native.Mathlib.Omega.{arith}
+-- `lines::second::put_angle` meets its contract: numerator, rounded correction and result are laid after the angle's other numbers.
+use mathlib.Core.Path.{refl, sym, ap}
+use mathlib.Core.List.{List, [], _∷_, _++_, map-append}
+use Prim.Native.Nat.{ℕ, _+_}
 use borrow.Author.Needs.{needs}
-use mir.Syntax.{w64}
-use mir.Facts.{toZ-pos}
+use denote.Ref.{now}
+use lib.IntN.{ℤ, pos}
 use Rattle.whole.specs.Lists.{listed}
-use Rattle.lines.specs.Lays.{numbersLine}
-use Rattle.lines.proofs.Laid.{lays-as, answered, six-same}
+use Rattle.whole.specs.Sums.{naturals, vector}
+use Rattle.figures.specs.Figure.{hasSide}
+use Rattle.text.specs.Text.{space, lineFeed, decimal, line}
+use Rattle.lines.specs.Lays.{numbersEnded}
+use Rattle.lines.specs.Lines.{numbers, coefficients, wideNumbers}
+use Rattle.lines.proofs.Laid.{lays-as, lays-line, part-start, answered, five-same}
 use Rattle.lines.proofs.second.put_angle.Statement.{statement}
 use Rattle.lines.proofs.second.put_angle.Tie as tie
 
 returns : tie.Need-returns
-unfolding numbersLine listed
+unfolding numbersEnded line listed
 returns c =
     let called = c .before .before .before .before in
-    let given = called .before .before .before .before .natural-at in
-    let reduced = called .before .before .before .wide-at in
-    let numerators = called .before .before .wide-at2 in
-    let rounded = called .before .signed-at in
-    let results = called .natural-at2 in
-    lays-as
-    (ap (numbersLine 6)
-    (six-same (toZ-pos w64 (omega arith)) (answered (given .ok) (given .ensures)) (answered (reduced .ok) (reduced .ensures)) (answered (numerators .ok) (numerators .ensures)) (answered (rounded .ok) (rounded .ensures)) (answered (results .ok) (results .ensures))))
-    (c .before .before .put-numbers .ensures)
+    let last = called .natural-at in
+    let rounding = called .before .signed-at in
+    let wide = called .before .before .before .before in
+    let first = wide .before .before .before .before .before in
+    let a = first .before .before .before .before .before .before .args in
+    let i = a .i in
+    let coefficient = coefficients (hasSide (a .figure)) (vector (now (a .reduced)) i) (vector (now (a .side-reduced)) i) in
+    let before = pos (i + 1) ∷ naturals (now (a .given)) i ∷ coefficient in
+    let numerator = wideNumbers (now (a .numerators-high)) (now (a .numerators-low)) i in
+    let rounded = vector (now (a .rounded)) i in
+    let result = naturals (now (a .results)) i in
+    lays-as (ap line (sym (map-append decimal before (numerator ∷ rounded ∷ result ∷ []))))
+    (lays-line (numbers before) (decimal numerator) (decimal rounded ∷ decimal result ∷ []) (first .put-reduced .ensures)
+    (lays-line (decimal numerator ∷ []) (decimal rounded) (decimal result ∷ [])
+    (part-start (decimal numerator)
+    (lays-as (ap (λ (z : ℤ). decimal z ++ (space ∷ [])) (wide .before .before .wide-at .ensures)) (wide .put-wide .ensures)))
+    (lays-as
+    (ap (λ (values : List ℤ). numbersEnded 2 values lineFeed)
+    (five-same {c = pos 0} {d = pos 0} {e = pos 0} (answered (rounding .ok) (rounding .ensures))
+    (answered (last .ok) (last .ensures)) refl refl refl))
+    (c .before .before .put-numbers .ensures))))
 
 pub put-angle-spec : {M : Type 1} → statement M
 put-angle-spec =
     tie.close
-    (tie.spec (λ c. search needs) (λ c. search needs) (λ c κs. search needs) (λ c κs. search needs) (λ c κs. search needs) (λ c κs. search needs) (λ c κs. search needs) (λ c κs. search needs) (λ c. search needs) returns)
+    (tie.spec (λ c κs. search needs) (λ c κs. search needs) (λ c κs. search needs) (λ c κs. search needs) (λ c κs. search needs) (λ c κs. search needs) (λ c. search needs) returns)

@@ -2,8 +2,9 @@
 use mathlib.Core.Path.{ap₂}
 use Prim.Native.Nat.{_≤_}
 use borrow.Author.Needs.{needs}
-use lib.IntN.{ℤ}
+use lib.IntN.{ℤ, pos}
 use mir.Facts.{toZ-ofZ}
+use Rattle.wide_words.specs.Words.{joined}
 use Rattle.text.specs.Text.{line}
 use Rattle.lines.specs.Lines.{secondFigure, secondLines, secondText}
 use Rattle.lines.proofs.Laid.{lays-as}
@@ -12,16 +13,23 @@ use Rattle.lines.proofs.second.second_lines.Statement.{statement}
 use Rattle.lines.proofs.second.second_lines.Tie as tie
 
 few : (c : tie.After-counts-of) → (c .counts-of .result .angles ≤ 24) × (c .counts-of .result .conditions ≤ 24)
-few c = few-lines (c .before .before .before .before .args .figure) (c .counts-of .ensures)
+few c = few-lines (c .before .before .before .before .before .args .figure) (c .counts-of .ensures)
 
 returns : tie.Need-returns
 unfolding secondText secondLines
 returns c =
-    let counted = c .before .before .before .before .before .before .before .before .before .before .before .before in
-    let start = counted .before .before .before .before in
-    text-laid (start .args .figure) _ _ _ (counted .counts-of .ensures)
-    (lays-as (ap₂ (λ (w s : ℤ). line (secondFigure (start .args .figure) w s)) (toZ-ofZ (start .fits .w)) (toZ-ofZ (start .fits .s))) (c .before .before .before .before .before .before .before .before .before .before .put-figure-line .ensures))
-    (c .before .before .before .before .before .before .put-angles .ensures) (c .before .before .put-conditions .ensures)
+    let conditions = c .before .before in
+    let angles = conditions .before .before .before .before in
+    let first = angles .before .before .before .before in
+    let counted = first .before .before in
+    let start = counted .before .before .before .before .before in
+    let a = start .args in
+    let divisor = joined (pos (a .divisor-high)) (a .divisor-low) in
+    text-laid (a .figure) _ _ _ (counted .counts-of .ensures)
+    (lays-as
+    (ap₂ (λ (w side : ℤ). line (secondFigure (a .figure) w side divisor)) (toZ-ofZ (start .fits .w)) (toZ-ofZ (start .fits .side-w)))
+    (first .put-figure-line .ensures))
+    (angles .put-angles .ensures) (conditions .put-conditions .ensures)
 
 pub second-lines-spec : {M : Type 1} → statement M
 second-lines-spec =

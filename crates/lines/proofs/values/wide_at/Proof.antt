@@ -1,13 +1,16 @@
--- `lines::values::wide_at` meets its contract: past the end the definition reads 0.
-use mathlib.Core.Path.{sym}
+-- `lines::values::wide_at` meets its contract: the two words are what the slices have.
+use mathlib.Core.Path.{ap₂, _∙_}
 use borrow.Author.Needs.{needs}
-use lib.IntN.{pos}
-use lib.ListN.{List·getD-eq-default}
+use Rattle.wide_words.specs.Words.{joined}
+use Rattle.lines.proofs.Laid.{answered}
 use Rattle.lines.proofs.values.wide_at.Statement.{statement}
 use Rattle.lines.proofs.values.wide_at.Tie as tie
 
-returns-2 : tie.Need-returns-2
-returns-2 c = sym (List·getD-eq-default (c .before .args .values .now) (pos 0) (c .if1 .left))
+returns : tie.Need-returns
+returns c =
+    let low = c .before .word-at in
+    let high = c .before .before .signed-word-at in
+    c .wide-from .ensures ∙ ap₂ joined (answered (high .ok) (high .ensures)) (low .ensures)
 
 pub wide-at-spec : {M : Type 1} → statement M
-wide-at-spec = tie.close (tie.spec (λ c. search needs) (λ c. search needs) (λ c. search needs) returns-2)
+wide-at-spec = tie.close (tie.spec (λ c κs. search needs) (λ c κs. search needs) (λ c κs. search needs) returns)

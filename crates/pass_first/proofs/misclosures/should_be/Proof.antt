@@ -4,17 +4,19 @@ use mathlib.Core.List.{List}
 use Prim.Native.Nat.{ℕ, suc, _+_, _-_, _≤_, _<_}
 use native.Mathlib.Omega.{arith}
 use borrow.Author.Needs.{needs}
+use denote.Ref.{now}
 use lib.Dec.{T}
+use lib.ListN.{length}
 use mir.Syntax.{w32}
 use mir.Facts.{toZ-pos}
 use Rattle.figures.specs.declared.Figure.{Figure}
-use Rattle.figures.specs.declared.Figure.the-variants.{Quadrilateral, PointInTriangle}
+use Rattle.figures.specs.declared.Figure.the-variants.{Quadrilateral}
 use Rattle.figures.specs.declared.Target.{Target}
 use Rattle.figures.specs.declared.Target.the-variants.{HalfTurn, FullTurn, FixedAngle}
 use Rattle.figures.specs.Figure.{description, targetOf, conditionCount, fixedCount}
-use Rattle.figures.proofs.Families.{isPolygon, polygon, quadrilateral-target, triangle-target, corner-target}
+use Rattle.figures.proofs.Families.{isPointInside, isPolygon, point-inside, polygon, quadrilateral-target, triangle-target}
 use Rattle.pass_rules.specs.FirstPass.{shouldBe}
-use Rattle.pass_steps.proofs.Polygons.{is-polygon}
+use Rattle.pass_steps.proofs.Polygons.{is-point-inside, is-polygon}
 use Rattle.pass_first.proofs.misclosures.should_be.Statement.{statement}
 use Rattle.pass_first.proofs.misclosures.should_be.Tie as tie
 
@@ -23,13 +25,20 @@ use Rattle.pass_first.proofs.misclosures.should_be.Tie as tie
 quadrilateral : (f : Figure) → f ≡ Quadrilateral → (j : ℕ) → j < conditionCount f → targetOf f (suc j) ≡ HalfTurn
 quadrilateral f e j = subst (λ (g : Figure). j < conditionCount g → targetOf g (suc j) ≡ HalfTurn) (sym e) (quadrilateral-target j)
 
-point-triangle : (f : Figure) → f ≡ PointInTriangle → (j : ℕ) → j < 3 → targetOf f (suc j) ≡ HalfTurn
-point-triangle f e j = subst (λ (g : Figure). j < 3 → targetOf g (suc j) ≡ HalfTurn) (sym e) (triangle-target PointInTriangle j)
+module _ (f : Figure) (p : T (isPointInside f)) (fixed : ℕ) (own : fixed ≡ fixedCount f) (j : ℕ) where
+  as-many : fixed ≡ description f .n
+  as-many = own ∙ point-inside f p .fixed
 
-point-corner : (f : Figure) → f ≡ PointInTriangle → (j : ℕ) → 3 ≤ j → j < conditionCount f → targetOf f (suc j) ≡ FixedAngle (suc (j - 3))
-point-corner f e j past =
-    subst (λ (g : Figure). j < conditionCount g → targetOf g (suc j) ≡ FixedAngle (suc (j - 3))) (sym e)
-    (λ h. let same : j ≡ 3 + (j - 3) = omega arith in ap (λ (k : ℕ). targetOf PointInTriangle (suc k)) same ∙ corner-target (j - 3) (omega arith))
+  point-triangle : j < fixed → targetOf f (suc j) ≡ HalfTurn
+  point-triangle h = triangle-target f j (omega (arith, as-many))
+
+  fixed-few : j < conditionCount f → j - fixed < fixed
+  fixed-few h = omega (arith, as-many, point-inside f p .conditions)
+
+  point-corner : fixed ≤ j → j < conditionCount f → targetOf f (suc j) ≡ FixedAngle (suc (j - fixed))
+  point-corner past h =
+      let same : j ≡ description f .n + (j - fixed) = omega (arith, as-many) in
+      ap (λ (k : ℕ). targetOf f (suc k)) same ∙ point-inside f p .corner-target (j - fixed) (omega (arith, as-many, fixed-few h))
 
 polygon-triangle : (f : Figure) → T (isPolygon f) → (j : ℕ) → j + 1 < conditionCount f → targetOf f (suc j) ≡ HalfTurn
 polygon-triangle f p j h = triangle-target f j (omega (arith, polygon f p .conditions))
@@ -45,23 +54,19 @@ told f j fixed t e = ap (λ (u : Target). shouldBe u fixed) (sym e)
 
 -- ---- the needs
 
--- of code 2 there are six conditions and three fixed angles
-six : (f : Figure) → f ≡ PointInTriangle → conditionCount f ≡ 6
-six f e = ap conditionCount e
+-- what is told of code 2
+inside : (c : tie.At-match-keys2) → T (isPointInside (c .before .args .figure))
+inside c = is-point-inside (c .before .args .figure) (c .match .keys2)
 
-three : (f : Figure) → f ≡ PointInTriangle → fixedCount f ≡ 3
-three f e = ap fixedCount e
-
-mul-result : tie.Need-mul-result
-mul-result c = omega (arith, six _ (c .before .enum-told2 .given .1))
-
-shared-slice-read-result : tie.Need-shared-slice-read-result
-shared-slice-read-result c = omega (arith, six _ (c .before .before .enum-told2 .given .1), three _ (c .before .before .enum-told2 .given .1))
+few : (c : tie.Else1) → (let args = c .before .before .args in args .j - length (now (args .fixed)) < length (now (args .fixed)))
+few c =
+    let start = c .before .before in
+    fixed-few (start .args .figure) (inside (c .before)) _ (start .pre .0) (start .args .j) (omega arith)
 
 cast-result : tie.Need-cast-result
 cast-result c =
-    let start = c .before .before .before .before in
-    record { sfits = omega (arith, start .pre .1 .1 .1 (start .args .j - 3)) }
+    let start = c .before .before .before in
+    record { sfits = omega (arith, start .pre .1 .1 .1 (start .args .j - length (now (start .args .fixed)))) }
 
 returns : tie.Need-returns
 returns c =
@@ -70,15 +75,18 @@ returns c =
 
 returns-2 : tie.Need-returns-2
 returns-2 c =
-    let start = c .before .before .before in
-    told (start .args .figure) (start .args .j) _ HalfTurn (point-triangle (start .args .figure) (c .before .enum-told2 .given .1) (start .args .j) (omega arith))
+    let start = c .before .before in
+    let f = start .args .figure in
+    told f (start .args .j) _ HalfTurn (point-triangle f (inside (c .before)) _ (start .pre .0) (start .args .j) (omega arith))
 
 returns-3 : tie.Need-returns-3
 returns-3 c =
-    let start = c .before .before .before .before in
+    let start = c .before .before .before in
+    let f = start .args .figure in
     let j = start .args .j in
-    toZ-pos w32 (omega (arith, start .pre .1 .1 .1 (j - 3)))
-    ∙ told (start .args .figure) j _ (FixedAngle (suc (j - 3))) (point-corner (start .args .figure) (c .before .before .enum-told2 .given .1) j (omega arith) (omega arith))
+    let fixed = length (now (start .args .fixed)) in
+    toZ-pos w32 (omega (arith, start .pre .1 .1 .1 (j - fixed)))
+    ∙ told f j _ (FixedAngle (suc (j - fixed))) (point-corner f (inside (c .before .before)) fixed (start .pre .0) j (omega arith) (omega arith))
 
 returns-4 : tie.Need-returns-4
 returns-4 c =
@@ -97,9 +105,9 @@ should-be-spec =
     tie.close
     (tie.spec
     (λ c. search needs)
-    (λ c. search needs)
-    mul-result
-    shared-slice-read-result
+    (λ c. omega arith)
+    (λ c. omega (arith, few c))
+    (λ c. few (c .before))
     cast-result
     (λ c. search needs)
     returns

@@ -1,5 +1,5 @@
 -- `pass_rules::second::second_given_verdict` meets its contract: the rows in their order, each by its own promise.
-use mathlib.Core.List.{List, _∷_}
+use mathlib.Core.List.{List, _∷_, _++_}
 use mathlib.Core.Path.{_≡_, ap₂, _∙_}
 use Prim.Native.Nat.{ℕ}
 use borrow.Author.Needs.{needs}
@@ -14,10 +14,10 @@ use Rattle.pass_rules.specs.SecondPass.{secondLengths}
 use Rattle.pass_rules.proofs.second.second_given_verdict.Statement.{statement}
 use Rattle.pass_rules.proofs.second.second_given_verdict.Tie as tie
 
-own : (c : tie.After-second-lengths2) → c .second-lengths2 .result ≡ secondLengths (c .before .before .before .before .before .before .args .figure)
+own : (c : tie.After-second-lengths2) → c .second-lengths2 .result ≡ secondLengths (c .before .before .before .before .before .before .before .args .figure)
 own c =
     c .second-lengths2 .ensures
-    ∙ ap₂ (λ (n : Counts) (l : List ℕ). n .angles ∷ n .angles ∷ n .angles ∷ l) (c .before .before .before .counts-of .ensures) (c .before .second-result-lengths .ensures)
+    ∙ ap₂ (λ (n : Counts) (l : List ℕ). n .angles ∷ n .angles ∷ n .angles ∷ n .sides ∷ l) (c .before .before .before .counts-of .ensures) (c .before .second-result-lengths .ensures)
 
 returns : tie.Need-returns
 returns c =
@@ -25,13 +25,14 @@ returns c =
     let lengths = entries .before .before .before in
     let made = lengths .before .before .before in
     let lent = made .before .before in
-    let args = lent .before .before .before .before .args in
-    let lent-are = length (now (args .angles)) ∷ length (now (args .log-sines)) ∷ length (now (args .differences)) ∷ args .results in
+    let args = lent .before .before .before .before .before .args in
+    let lent-are =
+    length (now (args .angles)) ∷ length (now (args .log-sines)) ∷ length (now (args .differences)) ∷ length (now (args .log-sides)) ∷ args .results in
     next-row (lengthsRow lent-are (secondLengths (args .figure)))
     (lengths .lengths-verdict .ensures ∙ ap₂ (λ (l o : List ℕ). verdictOf (lengthsRow l o)) (lent .second-lengths .ensures) (own made)) (c .first-to-fail3 .ensures)
     (next-row (limitOrToleranceRow mostTolerance (args .tolerance)) (entries .before .before .limit-or-tolerance-verdict .ensures) (c .before .first-to-fail2 .ensures)
     (next-row (anglesRow (now (args .angles))) (entries .before .angles-verdict .ensures) (c .before .before .first-to-fail .ensures)
-    (last-row (sineEntriesRow (now (args .log-sines)) (now (args .differences))) (entries .sine-entries-verdict .ensures))))
+    (last-row (sineEntriesRow (now (args .log-sines) ++ now (args .log-sides)) (now (args .differences))) (entries .sine-entries-verdict .ensures))))
     .is
 
 pub second-given-verdict-spec : {M : Type 1} → statement M

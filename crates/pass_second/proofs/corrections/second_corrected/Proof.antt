@@ -1,5 +1,6 @@
 -- `pass_second::corrections::second_corrected` meets its contract: number 7 is asked of the results, and everything is stored where it passes.
-use mathlib.Core.Path.{_≡_, sym, ap, ap₂, _∙_}
+use mathlib.Core.Bool.{Bool, true, cond}
+use mathlib.Core.Path.{_≡_, sym, ap, _∙_, subst}
 use mathlib.Core.List.{List, [], _∷_, _++_}
 use Prim.Native.Nat.{ℕ, _≤_}
 use native.Mathlib.Omega.{arith}
@@ -7,105 +8,141 @@ use borrow.Author.Needs.{needs}
 use denote.Ref.{now}
 use lib.IntN.{ℤ, pos}
 use lib.ListN.{length, getD, take, drop, replicate}
-use mir.Syntax.{w64}
-use mir.Val.{toZ, ofZ}
-use mir.ValLaws.{toZ-ofZ}
 use Rattle.whole.specs.Lists.{listed}
 use Rattle.whole.specs.Sums.{vector}
+use Rattle.whole.proofs.Lists.{length-listed}
 use Rattle.refusals.specs.declared.Verdict.{Verdict}
 use Rattle.refusals.specs.declared.Verdict.the-variants.{Passed}
 use Rattle.refusals.specs.Order.{verdictOf, judged}
 use Rattle.refusals.specs.Table.{lengthsRow, resultsRow}
 use Rattle.judging.specs.Searches.{resultsOf}
-use Rattle.figures.specs.Figure.{angleCount, conditionCount}
+use Rattle.figures.specs.declared.Counts.{Counts}
+use Rattle.figures.specs.declared.Figure.{Figure}
+use Rattle.figures.specs.Figure.{denominator, angleCount, conditionCount, hasSide, sideCount}
 use Rattle.figures.specs.Numerators.{conditionSum}
-use Rattle.figures.proofs.Figures.{angle-bound}
+use Rattle.figures.proofs.Figures.{angle-bound, side-some}
 use Rattle.pass_rules.specs.SecondPass.{secondResultLengths}
-use Rattle.pass_rules.specs.Promises.{secondLent, secondResultsLent}
+use Rattle.pass_rules.specs.Promises.{SecondLent, secondLent, secondResultsLent}
 use Rattle.pass_steps.specs.Steps.{resultsRows, resultsFrom}
 use Rattle.pass_steps.proofs.Judged.{lengths-pass, first-passes, kept, written, taken}
 use Rattle.pass_steps.proofs.Lending.{lent-length, part-again, still-few, again-length}
-use Rattle.pass_steps.proofs.StepLaws.{length-of}
-use Rattle.pass_second.specs.Steps.{exactFrom, secondTenthsOf, secondFrom}
-use Rattle.pass_second.proofs.SecondSteps.{tenths-summed}
+use Rattle.pass_second.specs.Steps.{highsFrom, lowsFrom, tenthsFrom, secondFrom}
+use Rattle.pass_second.proofs.Passed.{passed-small}
+use Rattle.pass_second.proofs.SineBounds.{denominator-bound}
 use Rattle.pass_second.proofs.corrections.second_corrected.Statement.{statement}
 use Rattle.pass_second.proofs.corrections.second_corrected.Tie as tie
 
-few : (s : tie.Start) → length (now (s .args .angles)) ≤ 24
-few s = omega (arith, s .pre .0, angle-bound (s .args .figure))
+abbrev entry : tie.Start → SecondLent
+entry s =
+    secondLent (now (s .args .reduced)) (now (s .args .side-reduced)) (now (s .args .numerators-high)) (now (s .args .numerators-low))
+    (now (s .args .rounded)) (now (s .args .adjusted)) (now (s .args .rests))
 
-lent : (s : tie.Start) → length (now (s .args .angles)) ≡ length (take (length (now (s .args .angles))) (replicate 24 (pos 0)))
-lent s = lent-length _ (replicate 24 (pos 0)) (few s)
+-- an array of words
+abbrev noWords : List ℕ
+noWords = replicate 24 0
+
+few : (s : tie.Start) → length (now (s .args .angles)) ≤ 24
+few s = omega (arith, s .pre .1 .0, angle-bound (s .args .figure))
 
 -- the slices for the results, by their places in the list of lengths
-room : (s : tie.Start) (k : ℕ)
-    → getD (secondResultsLent (secondLent (now (s .args .reduced)) (now (s .args .numerators)) (now (s .args .rounded)) (now (s .args .adjusted)) (now (s .args .rests)))) k 0
-    ≡ getD (secondResultLengths (s .args .figure)) k 0
-room s k = ap (λ (l : List ℕ). getD l k 0) (s .pre .1 .1 .0)
-
--- W and S, read back from their bits
-module _ (s : tie.Start) where
-  w-is : toZ w64 (ofZ w64 (s .args .misclosure)) ≡ s .args .misclosure
-  w-is = toZ-ofZ w64 (s .args .misclosure) (s .fits .misclosure)
-
-  s-is : toZ w64 (ofZ w64 (s .args .squares)) ≡ s .args .squares
-  s-is = toZ-ofZ w64 (s .args .squares) (s .fits .squares)
+room : (s : tie.Start) (k : ℕ) → getD (secondResultsLent (entry s)) k 0 ≡ getD (secondResultLengths (s .args .figure)) k 0
+room s k = ap (λ (l : List ℕ). getD l k 0) (s .pre .1 .1 .1 .1 .0)
 
 corrections-into-requires : tie.Need-corrections-into-requires
 corrections-into-requires c κs =
-    let s = c .before .before .before .before in
-    let n = sym (lent s) ∙ s .pre .0 in
+    let s = c .before .before .before .before .before .before .before in
+    let f = s .args .figure in
     let pre = s .pre in
-    (pre .1 .0, (n, (n, (rw (w-is s) (pre .1 .1 .1 .1 .0), (pre .1 .1 .1 .1 .1 .0, λ i. rw (w-is s, s-is s) (pre .1 .1 .1 .1 .1 .1 i))))))
+    let n = sym (lent-length _ (replicate 24 (pos 0)) (few s)) ∙ pre .1 .0 ∙ sym (pre .1 .1 .0) in
+    let words = sym (lent-length _ noWords (few s)) ∙ pre .1 .0 ∙ sym (pre .1 .1 .0) in
+    let beside : (s .args .sides ≡ 0 → ⊥) → length (now (s .args .b)) ≡ length (now (s .args .a)) =
+    λ some. pre .1 .1 .1 .0 ∙ ap (λ (b : Bool). cond b (angleCount f) 0) (side-some f (λ e. some (pre .0 ∙ e))) ∙ sym (pre .1 .1 .0) in (
+      rw (c .before .before .before .counts-of .ensures) (denominator-bound f),
+      (
+        pre .1 .1 .1 .1 .1 .1 .0,
+        (
+          pre .1 .1 .1 .1 .1 .1 .1 .0,
+          (pre .1 .1 .1 .1 .1 .1 .1 .1 .0, (pre .1 .1 .1 .1 .1 .1 .1 .1 .1, (beside, (n, (words, n))))),
+        ),
+      ),
+    )
 
 -- what the corrections left, each at the start of its array
-module _ (c : tie.After-corrections-into) where
+module _ (k : tie.After-corrections-into) where
   abbrev start : tie.Start
-  start = c .before .before .before .before .before
+  start = k .before .before .before .before .before .before .before .before
 
   abbrev n : ℕ
   n = length (now (start .args .angles))
 
+  abbrev f : Figure
+  f = start .args .figure
+
   abbrev again : (part : List ℤ) → List ℤ
   again part = take n (part ++ drop n (replicate 24 (pos 0)))
 
-  module _ (part : List ℤ) (kept : length part ≡ length (take n (replicate 24 (pos 0)))) where
-    pub share : n ≤ length (part ++ drop n (replicate 24 (pos 0)))
-    share = still-few n (replicate 24 (pos 0)) (few start) part kept
+  abbrev againWords : (part : List ℕ) → List ℕ
+  againWords part = take n (part ++ drop n noWords)
 
-    pub aggregate : n ≡ length (again part)
-    aggregate = again-length n (replicate 24 (pos 0)) (few start) part kept
+  abbrev highPart : List ℤ
+  highPart = k .corrections-into .last .1 .1 .1 .1 .1 .1 .0
 
-    pub is-part : again part ≡ part
-    is-part = part-again n (replicate 24 (pos 0)) (few start) part kept
-
-  abbrev exactPart : List ℤ
-  exactPart = c .corrections-into .last .1 .1 .1 .1 .0
-
-  exact-kept : length exactPart ≡ length (take n (replicate 24 (pos 0)))
-  exact-kept = c .corrections-into .kept .1 .1 .1 .1 .0
+  abbrev lowPart : List ℕ
+  lowPart = k .corrections-into .last .1 .1 .1 .1 .1 .1 .1 .0
 
   abbrev tenthsPart : List ℤ
-  tenthsPart = c .corrections-into .last .1 .1 .1 .1 .1 .0
+  tenthsPart = k .corrections-into .last .1 .1 .1 .1 .1 .1 .1 .1 .0
+
+  high-kept : length highPart ≡ length (take n (replicate 24 (pos 0)))
+  high-kept = k .corrections-into .kept .1 .1 .1 .1 .1 .1 .0
+
+  low-kept : length lowPart ≡ length (take n noWords)
+  low-kept = k .corrections-into .kept .1 .1 .1 .1 .1 .1 .1 .0
 
   tenths-kept : length tenthsPart ≡ length (take n (replicate 24 (pos 0)))
-  tenths-kept = c .corrections-into .kept .1 .1 .1 .1 .1 .0
+  tenths-kept = k .corrections-into .kept .1 .1 .1 .1 .1 .1 .1 .1 .0
 
-  abbrev given : ℕ → ℤ
-  given = exactFrom (start .args .figure) (start .args .misclosure) (now (start .args .a))
+  share : (part : List ℤ) → length part ≡ length (take n (replicate 24 (pos 0))) → n ≤ length (part ++ drop n (replicate 24 (pos 0)))
+  share part same = still-few n (replicate 24 (pos 0)) (few start) part same
+
+  aggregate : (part : List ℤ) → length part ≡ length (take n (replicate 24 (pos 0))) → n ≡ length (again part)
+  aggregate part same = again-length n (replicate 24 (pos 0)) (few start) part same
+
+  share-words : n ≤ length (lowPart ++ drop n noWords)
+  share-words = still-few n noWords (few start) lowPart low-kept
+
+  aggregate-words : n ≡ length (againWords lowPart)
+  aggregate-words = again-length n noWords (few start) lowPart low-kept
+
+  whole : k .before .before .before .before .counts-of .result .denominator ≡ denominator f
+  whole = ap (λ (m : Counts). m .denominator) (k .before .before .before .before .counts-of .ensures)
+
+  abbrev a : List ℤ
+  a = now (start .args .a)
+
+  abbrev b : List ℤ
+  b = now (start .args .b)
+
+  highs : again highPart ≡ highsFrom (denominator f) (start .args .sides) (start .args .pair) a b
+  highs =
+      part-again n (replicate 24 (pos 0)) (few start) highPart high-kept ∙ k .corrections-into .ensures .0
+      ∙ ap (λ (d : ℕ). highsFrom d (start .args .sides) (start .args .pair) a b) whole
+
+  lows : againWords lowPart ≡ lowsFrom (denominator f) (start .args .sides) (start .args .pair) a b
+  lows =
+      part-again n noWords (few start) lowPart low-kept ∙ k .corrections-into .ensures .1 .0
+      ∙ ap (λ (d : ℕ). lowsFrom d (start .args .sides) (start .args .pair) a b) whole
 
   abbrev rounded : List ℤ
-  rounded = secondTenthsOf (start .args .figure) (start .args .misclosure) (start .args .squares) (now (start .args .a))
-
-  exact : again exactPart ≡ listed (angleCount (start .args .figure)) given
-  exact =
-      is-part exactPart exact-kept ∙ c .corrections-into .ensures .0
-      ∙ ap (λ (z : ℤ). listed (angleCount (start .args .figure)) (exactFrom (start .args .figure) z (now (start .args .a)))) (w-is start)
+  rounded = tenthsFrom (denominator f) (start .args .sides) (start .args .pair) a b
 
   tenths : again tenthsPart ≡ rounded
   tenths =
-      is-part tenthsPart tenths-kept ∙ c .corrections-into .ensures .1
-      ∙ ap₂ (λ (z y : ℤ). secondTenthsOf (start .args .figure) z y (now (start .args .a))) (w-is start) (s-is start)
+      part-again n (replicate 24 (pos 0)) (few start) tenthsPart tenths-kept ∙ k .corrections-into .ensures .1 .1
+      ∙ ap (λ (d : ℕ). tenthsFrom d (start .args .sides) (start .args .pair) a b) whole
+
+  abbrev new : SecondLent
+  new = secondFrom f (now (start .args .angles)) (start .args .sides) (start .args .pair) a b
 
   abbrev verdict : Verdict
   verdict = verdictOf (resultsRow (resultsOf (now (start .args .angles)) rounded))
@@ -115,32 +152,42 @@ module _ (c : tie.After-corrections-into) where
   decided =
       let own = n ∷ n ∷ [] in
       let same : length (again tenthsPart) ∷ length (now (start .args .adjusted)) ∷ [] ≡ own =
-      λ i. sym (aggregate tenthsPart tenths-kept) i ∷ (room start 3 ∙ sym (start .pre .0)) i ∷ [] in
+      λ i. sym (aggregate tenthsPart tenths-kept) i ∷ (room start 5 ∙ sym (start .pre .1 .0)) i ∷ [] in
       first-passes (lengthsRow (length (again tenthsPart) ∷ length (now (start .args .adjusted)) ∷ []) own) (resultsRow (resultsOf (now (start .args .angles)) (again tenthsPart)))
       (lengths-pass _ own same)
       ∙ ap (λ (l : List ℤ). verdictOf (resultsRow (resultsOf (now (start .args .angles)) l))) tenths
 
+-- where the results were asked
+module _ (asked : tie.After-results-into) where
+  abbrev made : tie.After-corrections-into
+  made = asked .before .before .before .before .before .before
+
+  answered : asked .results-into .result ≡ verdict made
+  answered = asked .results-into .ensures .answered ∙ decided made
+
 store-second-requires : tie.Need-store-second-requires
 store-second-requires c κs =
-    let told = c .before .before .before .before .before .before in
+    let told = c .before .before .before .before .before .before .before .before .before in
     let asked = told .before .before .before .before in
-    let k = asked .before .before .before .before .before in
+    let k = made asked in
     let s = start k in
-    let passed = sym (asked .results-into .ensures .answered ∙ decided k) ∙ told .enum-told .given .1 in (
-      s .pre .1 .0,
+    let passed = sym (answered asked) ∙ told .enum-told .given .1 in
+    let many = sym (aggregate k (tenthsPart k) (tenths-kept k)) in (
+      room s 0 ∙ sym (s .pre .1 .1 .0),
       (
-        length-of _ _ (exact k),
+        room s 1 ∙ sym (s .pre .1 .1 .1 .0),
         (
-          length-of _ _ (tenths k),
+          room s 2 ∙ sym (s .pre .1 .0) ∙ aggregate k (highPart k) (high-kept k),
           (
-            room s 0,
+            room s 3 ∙ sym (s .pre .1 .0) ∙ aggregate-words k,
             (
-              room s 1,
+              many ∙ s .pre .1 .0,
               (
-                room s 2,
+                room s 4,
                 (
-                  room s 4,
-                  λ i. rw (tenths k) (tenths-summed (s .args .figure) (now (s .args .angles)) (s .args .misclosure) (s .args .squares) (now (s .args .a)) (s .pre .0) (s .pre .1 .1 .1 .0) passed i),
+                  room s 6,
+                  λ i. passed-small (now (s .args .angles)) (again k (tenthsPart k)) many (s .pre .1 .1 .1 .1 .1 .0)
+                      (ap (λ (l : List ℤ). verdictOf (resultsRow (resultsOf (now (s .args .angles)) l))) (tenths k) ∙ passed) i,
                 ),
               ),
             ),
@@ -151,58 +198,65 @@ store-second-requires c κs =
 
 returns : tie.Need-returns
 returns c =
-    let told = c .before .before .before .before .before .before .before .before .before .before .before in
+    let stores = c .before .before .before .before .before .before .before in
+    let told = stores .before .before .before .before .before .before .before .before .before .before in
     let asked = told .before .before .before .before in
-    let k = asked .before .before .before .before .before in
+    let k = made asked in
     let s = start k in
-    let f = s .args .figure in
-    let held = c .before .before .before .before .store-second .ensures in
-    let answered = asked .results-into .ensures .answered ∙ decided k in
-    let passed = sym answered ∙ told .enum-told .given .1 in
-    let numerators = held .numerators-are ∙ exact k in
+    let held = stores .store-second .ensures in
+    let passed = sym (answered asked) ∙ told .enum-told .given .1 in
+    let high = held .highs-are ∙ highs k in
+    let low = held .lows-are ∙ lows k in
     let tenth = held .rounded-are ∙ tenths k in
     let adjusted = asked .results-into .ensures .leaves ∙ taken _ _ _ (decided k ∙ passed) ∙ ap (resultsFrom (now (s .args .angles))) (tenths k) in
-    let rests = held .rests-are ∙ ap (λ (l : List ℤ). listed (conditionCount f) (conditionSum f (vector l))) (tenths k) in
+    let rests = held .rests-are ∙ ap (λ (l : List ℤ). listed (conditionCount (f k)) (conditionSum (f k) (vector l))) (tenths k) in
     record {
-      answered = answered;
+      answered = answered asked;
       leaves =
-          written (verdict k) (secondFrom f (now (s .args .angles)) (s .args .misclosure) (s .args .squares) (now (s .args .a))) _ passed
-          (λ i. secondLent (held .reduced-are i) (numerators i) (tenth i) (adjusted i) (rests i));
+          written (verdict k) (new k) _ passed
+          (λ i. secondLent (held .reduced-are i) (held .side-reduced-are i) (high i) (low i) (tenth i) (adjusted i) (rests i));
     }
 
 returns-2 : tie.Need-returns-2
 returns-2 c =
     let asked = c .before .before .before .before in
-    let k = asked .before .before .before .before .before in
+    let k = made asked in
     let s = start k in
-    let answered = asked .results-into .ensures .answered ∙ decided k in
-    let failed = sym answered ∙ c .enum-told2 .given .1 in
+    let failed = sym (answered asked) ∙ c .enum-told2 .given .1 in
     let untouched = asked .results-into .ensures .leaves ∙ sym (kept _ _ _ _ (decided k ∙ failed)) in
     record {
-      answered = answered;
+      answered = answered asked;
       leaves =
-          (λ i. secondLent (now (s .args .reduced)) (now (s .args .numerators)) (now (s .args .rounded)) (untouched i) (now (s .args .rests)))
-          ∙ kept (verdict k) (secondFrom (s .args .figure) (now (s .args .angles)) (s .args .misclosure) (s .args .squares) (now (s .args .a))) _ _ failed;
+          (λ i. secondLent (now (s .args .reduced)) (now (s .args .side-reduced)) (now (s .args .numerators-high)) (now (s .args .numerators-low))
+          (now (s .args .rounded)) (untouched i) (now (s .args .rests)))
+          ∙ kept (verdict k) (new k) _ _ failed;
     }
 
 pub second-corrected-spec : {M : Type 1} → statement M
 second-corrected-spec =
     tie.close
     (tie.spec
-    (λ c. few (c .before .before))
-    (λ c. lent (c .before .before .before))
-    (λ c. few (c .before .before .before))
-    (λ c. lent (c .before .before .before .before))
+    (λ c κs. search needs)
+    (λ c. few (c .before .before .before .before))
+    (λ c. lent-length _ (replicate 24 (pos 0)) (few (c .before .before .before .before .before)))
+    (λ c. few (c .before .before .before .before .before))
+    (λ c. lent-length _ noWords (few (c .before .before .before .before .before .before)))
+    (λ c. few (c .before .before .before .before .before .before))
+    (λ c. lent-length _ (replicate 24 (pos 0)) (few (c .before .before .before .before .before .before .before)))
     corrections-into-requires
-    (λ c. let k = c .before .before in share k (tenthsPart k) (tenths-kept k))
-    (λ c. let k = c .before .before .before in aggregate k (tenthsPart k) (tenths-kept k))
+    (λ c. let k = c .before .before .before in share k (tenthsPart k) (tenths-kept k))
+    (λ c. let k = c .before .before .before .before in aggregate k (tenthsPart k) (tenths-kept k))
     (λ c κs. tt)
     (λ c. search needs)
-    (λ c. let k = c .before .before .before .before .before .before .before .before .before in share k (exactPart k) (exact-kept k))
-    (λ c. let k = c .before .before .before .before .before .before .before .before .before .before in aggregate k (exactPart k) (exact-kept k))
-    (λ c. let k = c .before .before .before .before .before .before .before .before .before .before in share k (tenthsPart k) (tenths-kept k))
-    (λ c. let k = c .before .before .before .before .before .before .before .before .before .before .before in aggregate k (tenthsPart k) (tenths-kept k))
+    (λ c. let k = c .before .before .before .before .before .before .before .before .before .before in share k (highPart k) (high-kept k))
+    (λ c. let k = c .before .before .before .before .before .before .before .before .before .before .before in aggregate k (highPart k) (high-kept k))
+    (λ c. share-words (c .before .before .before .before .before .before .before .before .before .before .before))
+    (λ c. aggregate-words (c .before .before .before .before .before .before .before .before .before .before .before .before))
+    (λ c. let k = c .before .before .before .before .before .before .before .before .before .before .before .before in share k (tenthsPart k) (tenths-kept k))
+    (λ c. let k = c .before .before .before .before .before .before .before .before .before .before .before .before .before in aggregate k (tenthsPart k) (tenths-kept k))
     store-second-requires
+    (λ c. search needs)
+    (λ c. search needs)
     (λ c. search needs)
     (λ c. search needs)
     (λ c. search needs)

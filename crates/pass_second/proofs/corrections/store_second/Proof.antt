@@ -9,29 +9,36 @@ use Rattle.pass_second.proofs.corrections.store_second.Tie as tie
 
 returns : tie.Need-returns
 returns c =
-    let fourth = c .before in
+    let sixth = c .before in
+    let fifth = sixth .before .before .before in
+    let fourth = fifth .before .before .before .before in
     let third = fourth .before .before .before in
     let second = third .before .before .before in
     let first = second .before .before .before in
-    let s = first .before .before in
-    let pre = s .pre in
+    let s = first .before .before .before .before in
+    let pre = s .pre .1 .1 .1 .1 in
     record {
       reduced-are = first .store-wide .ensures;
-      numerators-are = second .store-wide2 .ensures;
-      rounded-are = third .store-signed .ensures ∙ copied (now (s .args .tenths)) (now (s .args .rounded)) (pre .1 .1 .0 ∙ sym (pre .1 .1 .1 .1 .1 .0));
+      side-reduced-are = second .store-wide2 .ensures;
+      highs-are = third .store-wide3 .ensures;
+      lows-are = fourth .store-words .ensures;
+      rounded-are = fifth .store-signed .ensures ∙ copied (now (s .args .tenths)) (now (s .args .rounded)) (pre .0 ∙ sym (pre .1 .0));
       rests-are =
-          sums-are (s .args .figure) (now (s .args .tenths)) (pre .1 .1 .1 .1 .1 .1 .1) _ (now (s .args .rests)) refl (pre .1 .1 .0) (pre .1 .1 .1 .1 .1 .1 .0)
-          (fourth .condition-sums .ensures);
+          sums-are (s .args .figure) (now (s .args .tenths)) (pre .1 .1 .1) _ (now (s .args .rests)) refl (pre .0) (pre .1 .1 .0) (sixth .condition-sums .ensures);
     }
 
 pub store-second-spec : {M : Type 1} → statement M
 store-second-spec =
     tie.close
     (tie.spec
-    (λ c κs. let pre = c .before .pre in pre .1 .1 .1 .0 ∙ sym (pre .0))
-    (λ c κs. let pre = c .before .before .before .before .pre in pre .1 .1 .1 .1 .0 ∙ sym (pre .1 .0))
-    (λ c κs. tt)
-    (λ c κs. tt)
+    (λ c κs. search needs)
+    (λ c κs. search needs)
+    (λ c κs. search needs)
+    (λ c κs. search needs)
+    (λ c κs. search needs)
+    (λ c κs. search needs)
+    (λ c. search needs)
+    (λ c. search needs)
     (λ c. search needs)
     (λ c. search needs)
     (λ c. search needs)

@@ -1,7 +1,8 @@
 -- `pass_second::second::second_pass_of` meets its contract: each row in its order, and a refusal before any store.
-use mathlib.Core.Path.{_≡_, refl, sym, ap, _∙_, subst}
+use mathlib.Core.Bool.{Bool, true, false, cond}
+use mathlib.Core.Path.{_≡_, refl, sym, ap, ap₂, _∙_, subst}
 use mathlib.Core.List.{List, [], _∷_, _++_}
-use Prim.Native.Nat.{ℕ, _≤_, _<_, _^_}
+use Prim.Native.Nat.{ℕ, _≤_, _<_, _^_, zero-le}
 use native.Mathlib.Omega.{arith}
 use borrow.Author.Needs.{needs}
 use denote.Ref.{now}
@@ -9,36 +10,53 @@ use lib.IntN.{ℤ, pos, natAbs}
 use lib.ListN.{length, take, drop, replicate}
 use lib.Signed.{_≤ℤ_}
 use mir.Syntax.{w64}
-use mir.Val.{SFits, toZ, ofZ}
 use mir.ValLaws.{toZ-ofZ}
+use Rattle.wide.specs.declared.Size.{Size}
+use Rattle.wide.specs.Wide.{sizeOf}
 use Rattle.refusals.specs.declared.Verdict.the-variants.{Passed}
 use Rattle.refusals.specs.Order.{judged}
 use Rattle.figures.specs.declared.Figure.{Figure}
-use Rattle.figures.specs.Figure.{angleCount}
+use Rattle.figures.specs.Figure.{angleCount, hasSide, sideCount, pole, side}
 use Rattle.figures.proofs.Figures.{angle-bound}
-use Rattle.pass_rules.specs.SecondPass.{sineMisclosure, sumOfSquares, differenceSquares, reducedOf, secondResultLengths, entryRows, sineRows}
-use Rattle.pass_second.specs.declared.sines.Sines.{Sines}
+use Rattle.pass_pair.specs.declared.Pair.{Pair}
+use Rattle.pass_rules.specs.SecondPass.{SineEntries, sineEntries, reducedOf, sideReducedOf, sideReducedCount, secondResultLengths, entryRows, sineRowsOf}
 use Rattle.pass_rules.specs.Promises.{SecondLent, secondLent, secondResultsLent, secondSlices}
 use Rattle.pass_steps.proofs.Lending.{lent-length, part-again, still-few, again-length}
+use Rattle.pass_second.specs.declared.sums.Sums.{Sums}
+use Rattle.pass_second.specs.Sines.{pairOf, sumsOf}
+use Rattle.pass_second.specs.Steps.{SmallPair, divisorFrom, answerBy}
 use Rattle.pass_second.proofs.SecondPromised as promised
-use Rattle.pass_second.proofs.SineBounds.{misclosure-magnitude, squares-natural, squares-magnitude}
+use Rattle.pass_second.proofs.SecondSteps.{divisor-from-natural}
 use Rattle.pass_second.proofs.second.second_pass_of.Statement.{statement}
 use Rattle.pass_second.proofs.second.second_pass_of.Tie as tie
 
 abbrev entry : tie.Start → SecondLent
-entry s = secondLent (now (s .args .reduced)) (now (s .args .numerators)) (now (s .args .rounded)) (now (s .args .adjusted)) (now (s .args .rests))
+entry s =
+    secondLent (now (s .args .reduced)) (now (s .args .side-reduced)) (now (s .args .numerators-high)) (now (s .args .numerators-low))
+    (now (s .args .rounded)) (now (s .args .adjusted)) (now (s .args .rests))
+
+abbrev entries : tie.Start → SineEntries
+entries s = sineEntries (now (s .args .log-sines)) (now (s .args .differences)) (now (s .args .log-sides))
 
 returns : tie.Need-returns
 returns c =
-    let s = c .before .before .before .before .before .before .before in
-    promised.refused-before (s .args .figure) (s .args .tolerance) (now (s .args .angles)) (now (s .args .log-sines)) (now (s .args .differences)) (entry s) _
+    let s = c .before .before .before .before .before .before .before .before .before in
+    promised.refused-before (s .args .figure) (s .args .tolerance) (now (s .args .angles)) (entries s) (entry s) _
     (sym (c .before .before .before .second-given-verdict .ensures) ∙ c .before .before2 .given .1)
+
+-- no more coefficients of the side condition than angles
+side-bound : (f : Figure) → sideReducedCount f ≤ 24
+side-bound f = go (hasSide f)
+  where
+    go : (t : Bool) → cond t (angleCount f) 0 ≤ 24
+    go true = angle-bound f
+    go false = zero-le
 
 -- ---- the rows before the work have passed
 
 module _ (t : tie.After-enum-told) where
   abbrev start : tie.Start
-  start = t .before .before .before .before .before .before
+  start = t .before .before .before .before .before .before .before .before
 
   abbrev f : Figure
   f = start .args .figure
@@ -49,115 +67,150 @@ module _ (t : tie.After-enum-told) where
   abbrev angles : List ℕ
   angles = now (start .args .angles)
 
-  abbrev logSines : List ℕ
-  logSines = now (start .args .log-sines)
+  abbrev e : SineEntries
+  e = entries start
 
-  abbrev differences : List ℤ
-  differences = now (start .args .differences)
-
-  passed : judged (entryRows f tolerance angles logSines differences (secondSlices angles logSines differences (entry start))) ≡ Passed
+  passed : judged (entryRows f tolerance angles e (secondSlices angles e (entry start))) ≡ Passed
   passed = sym (t .before .before .second-given-verdict .ensures) ∙ t .enum-told .given .1
 
   abbrev n : ℕ
   n = length angles
 
+  abbrev m : ℕ
+  m = length (now (start .args .side-reduced))
+
   count : n ≡ angleCount f
-  count = promised.length-at f tolerance angles logSines differences (entry start) passed 0
+  count = promised.length-at f tolerance angles e (entry start) passed 0
+
+  side-many : m ≡ sideReducedCount f
+  side-many = promised.length-at f tolerance angles e (entry start) passed 5
+
+  sides : length (now (start .args .log-sides)) ≡ sideCount f
+  sides = promised.length-at f tolerance angles e (entry start) passed 3
 
   few : n ≤ 24
   few = omega (arith, count, angle-bound f)
 
-  lent : n ≡ length (take n (replicate 24 (pos 0)))
-  lent = lent-length n (replicate 24 (pos 0)) few
+  side-few : m ≤ 24
+  side-few = omega (arith, side-many, side-bound f)
 
-sines-into-requires : tie.Need-sines-into-requires
-sines-into-requires c κs =
-    let t = c .before in
-    let at = promised.length-at (f t) (tolerance t) (angles t) (logSines t) (differences t) (entry (start t)) (passed t) in (
+sums-into-requires : tie.Need-sums-into-requires
+sums-into-requires c κs =
+    let t = c .before .before in
+    let at = promised.length-at (f t) (tolerance t) (angles t) (e t) (entry (start t)) (passed t) in (
       at 1,
       (
         at 2,
         (
-          sym (lent t) ∙ count t,
+          at 3,
           (
-            promised.small-log-sines (f t) (tolerance t) (angles t) (logSines t) (differences t) (entry (start t)) (passed t),
-            promised.small-differences (f t) (tolerance t) (angles t) (logSines t) (differences t) (entry (start t)) (passed t),
+            sym (lent-length (n t) (replicate 24 (pos 0)) (few t)) ∙ count t,
+            (
+              sym (lent-length (m t) (replicate 24 (pos 0)) (side-few t)) ∙ side-many t,
+              (
+                promised.small-log-sines (f t) (tolerance t) (angles t) (e t) (entry (start t)) (passed t),
+                (
+                  promised.small-log-sides (f t) (tolerance t) (angles t) (e t) (entry (start t)) (passed t),
+                  promised.small-differences (f t) (tolerance t) (angles t) (e t) (entry (start t)) (passed t),
+                ),
+              ),
+            ),
           ),
         ),
       ),
     )
 
--- ---- W, S and the sum of d², and the reduced coefficients where they were lent
+-- ---- the sums, and the reduced coefficients where they were lent
 
-module _ (k : tie.After-sines-into) where
+module _ (k : tie.After-sums-into) where
   abbrev told : tie.After-enum-told
-  told = k .before .before
+  told = k .before .before .before
 
-  abbrev sines : Sines
-  sines = k .sines-into .result
+  abbrev sums : Sums
+  sums = k .sums-into .result
 
-  misclosure : sines .misclosure ≡ sineMisclosure (f told) (logSines told)
-  misclosure = ap (λ (s : Sines). s .misclosure) (k .sines-into .ensures .0)
+  sums-are : sums ≡ sumsOf (f told) (e told)
+  sums-are = k .sums-into .ensures .0
 
-  squares : sines .squares ≡ sumOfSquares (f told) (differences told)
-  squares = ap (λ (s : Sines). s .squares) (k .sines-into .ensures .0)
+  pair-is : sums .pair ≡ pairOf (f told) (e told)
+  pair-is = ap (λ (s : Sums). s .pair) sums-are
 
-  difference-squares : sines .«difference_squares» ≡ differenceSquares (f told) (differences told)
-  difference-squares = ap (λ (s : Sines). s .«difference_squares») (k .sines-into .ensures .0)
+  abbrev aPart : List ℤ
+  aPart = k .sums-into .last .1 .1 .1 .1 .0
 
-  abbrev part : List ℤ
-  part = k .sines-into .last .1 .1 .1 .0
+  abbrev bPart : List ℤ
+  bPart = k .sums-into .last .1 .1 .1 .1 .1 .0
 
-  kept : length part ≡ length (take (n told) (replicate 24 (pos 0)))
-  kept = k .sines-into .kept .1 .1 .1 .0
+  a-kept : length aPart ≡ length (take (n told) (replicate 24 (pos 0)))
+  a-kept = k .sums-into .kept .1 .1 .1 .1 .0
 
-  abbrev again : List ℤ
-  again = take (n told) (part ++ drop (n told) (replicate 24 (pos 0)))
+  b-kept : length bPart ≡ length (take (m told) (replicate 24 (pos 0)))
+  b-kept = k .sums-into .kept .1 .1 .1 .1 .1 .0
 
-  share : n told ≤ length (part ++ drop (n told) (replicate 24 (pos 0)))
-  share = still-few (n told) (replicate 24 (pos 0)) (few told) part kept
+  abbrev a : List ℤ
+  a = take (n told) (aPart ++ drop (n told) (replicate 24 (pos 0)))
 
-  aggregate : n told ≡ length again
-  aggregate = again-length (n told) (replicate 24 (pos 0)) (few told) part kept
+  abbrev b : List ℤ
+  b = take (m told) (bPart ++ drop (m told) (replicate 24 (pos 0)))
 
-  are : again ≡ reducedOf (f told) (differences told)
-  are = part-again (n told) (replicate 24 (pos 0)) (few told) part kept ∙ k .sines-into .ensures .1
+  a-are : a ≡ reducedOf (f told) (e told)
+  a-are = part-again (n told) (replicate 24 (pos 0)) (few told) aPart a-kept ∙ k .sums-into .ensures .1 .0
+
+  b-are : b ≡ sideReducedOf (f told) (e told)
+  b-are = part-again (m told) (replicate 24 (pos 0)) (side-few told) bPart b-kept ∙ k .sums-into .ensures .1 .1
+
+divisor-of-requires : tie.Need-divisor-of-requires
+divisor-of-requires c κs =
+    let k = c .before .before .before in
+    let t = told k in
+    let same : divisorFrom (length (now (start t .args .log-sides))) (sums k .pair) ≡ divisorFrom (sideCount (f t)) (pairOf (f t) (e t)) =
+    λ i. divisorFrom (sides t i) (pair-is k i) in
+    subst (λ (z : ℤ). pos 0 ≤ℤ z) (sym same) (divisor-from-natural (f t) (e t))
 
 sine-verdict-requires : tie.Need-sine-verdict-requires
 sine-verdict-requires c κs =
-    let k = c .before in
-    let t = told k in
-    let log-sines = promised.small-log-sines (f t) (tolerance t) (angles t) (logSines t) (differences t) (entry (start t)) (passed t) in
-    let small = promised.small-differences (f t) (tolerance t) (angles t) (logSines t) (differences t) (entry (start t)) (passed t) in (
-      subst (λ (z : ℤ). natAbs z < 2 ^ 32) (sym (misclosure k)) (omega (arith, misclosure-magnitude (f t) (logSines t) log-sines)),
+    let k = c .before .before .before .before in
+    let t = told k in (
+      subst (λ (s : Sums). natAbs (s .pair .wa) < 2 ^ 32) (sym (sums-are k)) (promised.small-pole-misclosure (f t) (tolerance t) (angles t) (e t) (entry (start t)) (passed t)),
       (
-        promised.small-tolerance (f t) (tolerance t) (angles t) (logSines t) (differences t) (entry (start t)) (passed t),
+        subst (λ (s : Sums). natAbs (s .pair .wb) < 2 ^ 32) (sym (sums-are k)) (promised.small-side-misclosure (f t) (tolerance t) (angles t) (e t) (entry (start t)) (passed t)),
         (
-          subst (λ (z : ℤ). pos 0 ≤ℤ z) (sym (difference-squares k)) (squares-natural (f t) (differences t)),
-          subst (λ (z : ℤ). natAbs z < 2 ^ 32) (sym (difference-squares k)) (omega (arith, squares-magnitude (f t) (differences t) small)),
+          promised.small-tolerance (f t) (tolerance t) (angles t) (e t) (entry (start t)) (passed t),
+          (
+            subst (λ (s : Sums). (pos 0 ≤ℤ s .«difference_squares») × (natAbs (s .«difference_squares») < 2 ^ 32)) (sym (sums-are k))
+                (promised.small-pole-squares (f t) (tolerance t) (angles t) (e t) (entry (start t)) (passed t)),
+            subst (λ (s : Sums). (pos 0 ≤ℤ s .«side_difference_squares») × (natAbs (s .«side_difference_squares») < 2 ^ 32)) (sym (sums-are k))
+                (promised.small-side-squares (f t) (tolerance t) (angles t) (e t) (entry (start t)) (passed t)),
+          ),
         ),
       ),
     )
 
 -- numbers 10 and 9
 module _ (v : tie.After-sine-verdict) where
-  abbrev known : tie.After-sines-into
-  known = v .before .before
+  abbrev known : tie.After-sums-into
+  known = v .before .before .before .before .before
 
   abbrev whole : tie.After-enum-told
   whole = told known
 
-  asked : v .sine-verdict .result
-      ≡ judged (sineRows (tolerance whole) (sineMisclosure (f whole) (logSines whole)) (sumOfSquares (f whole) (differences whole)) (differenceSquares (f whole) (differences whole)))
+  abbrev d : Size
+  d = v .before .divisor-of .result
+
+  d-is : pos (sizeOf d) ≡ divisorFrom (length (now (start whole .args .log-sides))) (sums known .pair)
+  d-is = v .before .divisor-of .ensures
+
+  asked : v .sine-verdict .result ≡ judged (sineRowsOf (f whole) (tolerance whole) (e whole))
   asked =
       v .sine-verdict .ensures
-      ∙ λ i. judged (sineRows (tolerance whole) (misclosure known i) (squares known i) (difference-squares known i))
+      ∙ promised.sines-judged (f whole) (tolerance whole) (angles whole) (e whole) (entry (start whole)) (length (now (start whole .args .log-sides))) (sums known) d
+      (sides whole) (sums-are known) d-is
 
 returns-2 : tie.Need-returns-2
 returns-2 c =
     let v = c .before .before .before in
     let t = whole v in
-    promised.refused-sines (f t) (tolerance t) (angles t) (logSines t) (differences t) (entry (start t)) (passed t) _ (sym (asked v) ∙ c .before .beyond .given .1)
+    promised.refused-sines (f t) (tolerance t) (angles t) (e t) (entry (start t)) (passed t) _ (sym (asked v) ∙ c .before .beyond .given .1)
 
 -- ---- they have passed
 
@@ -168,59 +221,58 @@ module _ (u : tie.After-enum-told2) where
   abbrev first : tie.After-enum-told
   first = whole verdict
 
-  within : judged (sineRows (tolerance first) (sineMisclosure (f first) (logSines first)) (sumOfSquares (f first) (differences first))
-      (differenceSquares (f first) (differences first))) ≡ Passed
+  within : judged (sineRowsOf (f first) (tolerance first) (e first)) ≡ Passed
   within = sym (asked verdict) ∙ u .enum-told2 .given .1
-
-  -- W and S as they are read
-  w-is : SFits w64 (sines (known verdict) .misclosure) → toZ w64 (ofZ w64 (sines (known verdict) .misclosure)) ≡ sineMisclosure (f first) (logSines first)
-  w-is fits = toZ-ofZ w64 _ fits ∙ misclosure (known verdict)
-
-  s-is : SFits w64 (sines (known verdict) .squares) → toZ w64 (ofZ w64 (sines (known verdict) .squares)) ≡ sumOfSquares (f first) (differences first)
-  s-is fits = toZ-ofZ w64 _ fits ∙ squares (known verdict)
 
 second-corrected-requires : tie.Need-second-corrected-requires
 second-corrected-requires c κs =
-    let u = c .before .before .before .before .before .before .before .before in
+    let u = c .before .before .before .before .before .before .before .before .before in
     let k = known (verdict u) in
     let t = first u in
-    let at = promised.length-at (f t) (tolerance t) (angles t) (logSines t) (differences t) (entry (start t)) (passed t) in
-    let lengths : secondResultsLent (entry (start t)) ≡ secondResultLengths (f t) = λ i. at 3 i ∷ at 4 i ∷ at 5 i ∷ at 6 i ∷ at 7 i ∷ [] in
-    let w = w-is u (record { sfits = c .struct-told2 .given .0 .1 }) in
-    let s = s-is u (record { sfits = c .struct-told2 .given .1 .0 .1 }) in
-    let reduced = promised.small-reduced (f t) (tolerance t) (angles t) (logSines t) (differences t) (entry (start t)) (passed t) (within u) in
-    let tenths = promised.small-tenths (f t) (tolerance t) (angles t) (logSines t) (differences t) (entry (start t)) (passed t) (within u) in (
-      at 0,
+    let at = promised.length-at (f t) (tolerance t) (angles t) (e t) (entry (start t)) (passed t) in
+    let lengths : secondResultsLent (entry (start t)) ≡ secondResultLengths (f t) =
+    λ i. at 4 i ∷ at 5 i ∷ at 6 i ∷ at 7 i ∷ at 8 i ∷ at 9 i ∷ at 10 i ∷ [] in
+    let reduced = promised.small-reduced (f t) (tolerance t) (angles t) (e t) (entry (start t)) (passed t) in
+    let side-reduced = promised.small-side-reduced (f t) (tolerance t) (angles t) (e t) (entry (start t)) (passed t) in (
+      at 3,
       (
-        sym (aggregate k) ∙ count t,
+        at 0,
         (
-          lengths,
+          sym (again-length (n t) (replicate 24 (pos 0)) (few t) (aPart k) (a-kept k)) ∙ count t,
           (
-            promised.small-angles (f t) (tolerance t) (angles t) (logSines t) (differences t) (entry (start t)) (passed t),
+            sym (again-length (m t) (replicate 24 (pos 0)) (side-few t) (bPart k) (b-kept k)) ∙ side-many t,
             (
-              rw w (promised.small-misclosure (f t) (tolerance t) (angles t) (logSines t) (differences t) (entry (start t)) (passed t) (within u)),
-              (λ i. rw (are k) (reduced i), λ i. rw (w, s, are k) (tenths i)),
+              lengths,
+              (
+                promised.small-angles (f t) (tolerance t) (angles t) (e t) (entry (start t)) (passed t),
+                (
+                  subst SmallPair (sym (pair-is k)) (promised.small-pair (f t) (tolerance t) (angles t) (e t) (entry (start t)) (passed t) (within u)),
+                  (d-is (verdict u), (λ i. rw (a-are k) (reduced i), λ i. rw (b-are k) (side-reduced i))),
+                ),
+              ),
             ),
           ),
         ),
       ),
     )
 
-module _ (p : tie.After-second-corrected) where
-  abbrev ready : tie.After-enum-told2
-  ready = p .before .before .before .before .before .before .before .before .before
-
 returns-3 : tie.Need-returns-3
 returns-3 c =
-    let p = c .before .before .before .before .before .before .before .before .before in
-    let u = ready p in
+    let p = c .before .before .before .before .before .before .before .before .before .before .before .before in
+    let u = p .before .before .before .before .before .before .before .before .before .before in
+    let v = verdict u in
+    let k = known v in
     let t = first u in
-    let held = p .before .struct-told2 .given in
+    let pair = sums k .pair in
+    let wa = toZ-ofZ w64 (pair .wa) (record { sfits = c .before .before .struct-told .given .1 .1 .1 .0 .1 }) in
+    let wb = toZ-ofZ w64 (pair .wb) (record { sfits = c .before .before .struct-told .given .1 .1 .1 .1 .0 .1 }) in
     let kept =
-    promised.by-results (f t) (tolerance t) (angles t) (logSines t) (differences t) (entry (start t)) (passed t) (within u) _ _ (again (known (verdict u)))
-    (w-is u (record { sfits = held .0 .1 })) (s-is u (record { sfits = held .1 .0 .1 })) (are (known (verdict u)))
-    (p .second-corrected .ensures) (p .second-corrected .result) refl in
-    record { answered = c .answer-of .ensures ∙ kept .answered; leaves = kept .leaves }
+    promised.by-results (f t) (tolerance t) (angles t) (e t) (entry (start t)) (passed t) (within u) (length (now (start t .args .log-sides))) pair (a k) (b k)
+    (sides t) (pair-is k) (a-are k) (b-are k) (d v) (omega (arith, v .before .divisor-of .ok)) (d-is v) (p .second-corrected .ensures) (p .second-corrected .result) refl in
+    record {
+      answered = c .answer-of .ensures ∙ (λ i. answerBy (p .second-corrected .result) (wa i) (wb i) (d v .high) (d v .low)) ∙ kept .answered;
+      leaves = kept .leaves;
+    }
 
 pub second-pass-of-spec : {M : Type 1} → statement M
 second-pass-of-spec =
@@ -231,15 +283,22 @@ second-pass-of-spec =
     returns
     (λ c. search needs)
     few
-    (λ c. lent (c .before))
-    sines-into-requires
+    (λ c. lent-length (n (c .before)) (replicate 24 (pos 0)) (few (c .before)))
+    (λ c. side-few (c .before))
+    (λ c. lent-length (m (c .before .before)) (replicate 24 (pos 0)) (side-few (c .before .before)))
+    sums-into-requires
+    divisor-of-requires
     sine-verdict-requires
     (λ c. search needs)
     returns-2
     (λ c. search needs)
-    (λ c. share (known (verdict c)))
-    (λ c. aggregate (known (verdict (c .before))))
+    (λ c. let k = known (verdict c) in let t = told k in still-few (n t) (replicate 24 (pos 0)) (few t) (aPart k) (a-kept k))
+    (λ c. let k = known (verdict (c .before)) in let t = told k in again-length (n t) (replicate 24 (pos 0)) (few t) (aPart k) (a-kept k))
+    (λ c. let k = known (verdict (c .before)) in let t = told k in still-few (m t) (replicate 24 (pos 0)) (side-few t) (bPart k) (b-kept k))
+    (λ c. let k = known (verdict (c .before .before)) in let t = told k in again-length (m t) (replicate 24 (pos 0)) (side-few t) (bPart k) (b-kept k))
     second-corrected-requires
+    (λ c κs. search needs)
+    (λ c. search needs)
     (λ c. search needs)
     (λ c. search needs)
     (λ c. search needs)

@@ -1,9 +1,11 @@
 -- `pass_second::sines::sine_verdict` meets its contract: numbers 10 and 9, in their order.
-use mathlib.Core.Path.{ap, ap₂, _∙_}
+use mathlib.Core.Path.{_≡_, refl, ap, ap₂, _∙_}
 use borrow.Author.Needs.{needs}
-use lib.IntN.{ℤ}
+use lib.IntN.{ℤ, pos}
+use Prim.Native.Nat.{ℕ, _+_, _*_, _^_}
 use mir.Syntax.{w64}
 use mir.Facts.{toZ-ofZ}
+use Rattle.wide.specs.Wide.{sizeOf, radix}
 use Rattle.refusals.specs.Order.{verdictOf}
 use Rattle.refusals.specs.Table.{sineMisclosureRow, sumOfSquaresRow}
 use Rattle.refusals.proofs.InSteps.{last-row, next-row}
@@ -12,26 +14,29 @@ use Rattle.pass_second.proofs.sines.sine_verdict.Statement.{statement}
 use Rattle.pass_second.proofs.sines.sine_verdict.Tie as tie
 
 returns : tie.Need-returns
+unfolding sizeOf radix
 returns c =
-    let told = c .before .before .before .before .before in
-    let sines = told .before .args .sines in
-    let held = told .struct-told .given in
-    let misclosure = toZ-ofZ {w = w64} {z = sines .misclosure} (record { sfits = held .0 .1 }) in
-    let squares = toZ-ofZ {w = w64} {z = sines .squares} (record { sfits = held .1 .0 .1 }) in
-    let differences = toZ-ofZ {w = w64} {z = sines .«difference_squares»} (record { sfits = held .1 .1 .0 .1 }) in
-    let e = toleranceOf (told .before .args .tolerance) in
-    next-row (sumOfSquaresRow (sines .squares))
-    (c .before .before .before .before .squares-verdict .ensures ∙ ap (λ (s : ℤ). verdictOf (sumOfSquaresRow s)) squares)
-    (c .first-to-fail .ensures)
-    (last-row (sineMisclosureRow e (sines .misclosure) (sines .«difference_squares»))
-    (c .before .tolerance-verdict .ensures ∙ ap₂ (λ (w q : ℤ). verdictOf (sineMisclosureRow e w q)) misclosure differences))
+    let second = c .before .before in
+    let first = second .before .before .before in
+    let zero = first .before .before .before in
+    let args = zero .before .before .args in
+    let sums = args .sums in
+    let e = toleranceOf (args .tolerance) in
+    let side-pair = second .before .before .struct-told3 .given in
+    let side-sums = second .before .struct-told4 .given in
+    let pole-pair = first .before .before .struct-told .given in
+    let pole-sums = first .before .struct-told2 .given in
+    let wb = toZ-ofZ {w = w64} {z = sums .pair .wb} (record { sfits = side-pair .1 .1 .1 .1 .0 .1 }) in
+    let wa = toZ-ofZ {w = w64} {z = sums .pair .wa} (record { sfits = pole-pair .1 .1 .1 .0 .1 }) in
+    let differences = toZ-ofZ {w = w64} {z = sums .«difference_squares»} (record { sfits = pole-sums .1 .0 .1 }) in
+    let side-differences = toZ-ofZ {w = w64} {z = sums .«side_difference_squares»} (record { sfits = side-sums .1 .1 .0 .1 }) in
+    next-row (sumOfSquaresRow (pos (sizeOf (args .divisor)))) (zero .squares-verdict .ensures) (c .first-to-fail2 .ensures)
+    (next-row (sineMisclosureRow e (sums .pair .wa) (sums .«difference_squares»))
+    (first .tolerance-verdict .ensures ∙ ap₂ (λ (w q : ℤ). verdictOf (sineMisclosureRow e w q)) wa differences) (c .before .first-to-fail .ensures)
+    (last-row (sineMisclosureRow e (sums .pair .wb) (sums .«side_difference_squares»))
+    (second .tolerance-verdict2 .ensures ∙ ap₂ (λ (w q : ℤ). verdictOf (sineMisclosureRow e w q)) wb side-differences)))
     .is
 
 pub sine-verdict-spec : {M : Type 1} → statement M
 sine-verdict-spec =
-    tie.close
-    (tie.spec
-    (λ c κs. search needs)
-    (λ c κs. search needs)
-    (λ c κs. search needs)
-    returns)
+    tie.close (tie.spec (λ c κs. search needs) (λ c κs. search needs) (λ c κs. search needs) (λ c κs. search needs) (λ c κs. search needs) returns)

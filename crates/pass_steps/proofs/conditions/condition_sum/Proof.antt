@@ -1,10 +1,12 @@
 -- `pass_steps::conditions::condition_sum` meets its contract: the conditions of each family.
-use mathlib.Core.Path.{_≡_, sym, ap, _∙_, subst}
-use Prim.Native.Nat.{ℕ, _+_, _*_, _<_}
+use mathlib.Core.Path.{_≡_, sym, ap, ap₂, _∙_}
+use Prim.Native.Nat.{ℕ, _+_, _-_, _*_}
 use native.Mathlib.Omega.{arith}
 use borrow.Author.Needs.{needs}
 use denote.Ref.{now}
 use lib.Dec.{lit≤}
+use lib.IntN.{_+ℤ_}
+use lib.ListN.{length}
 use mir.Syntax.{w64}
 use mir.ValLaws.{toZ-ofZ}
 use Rattle.whole.specs.Sums.{sum, vector}
@@ -13,8 +15,8 @@ use Rattle.figures.specs.declared.Figure.the-variants.{Quadrilateral}
 use Rattle.figures.specs.Figure.{description, angleCount, conditionCount}
 use Rattle.figures.specs.Numerators.{conditionSum}
 use Rattle.figures.proofs.Figures.{condition-bound}
-use Rattle.figures.proofs.Families.{Polygon, polygon, quadrilateral-sum, triangle-sum}
-use Rattle.pass_steps.proofs.Polygons.{is-polygon}
+use Rattle.figures.proofs.Families.{PointInside, Polygon, lastBefore, point-inside, polygon, quadrilateral-sum, triangle-sum}
+use Rattle.pass_steps.proofs.Polygons.{is-point-inside, is-polygon}
 use Rattle.pass_steps.proofs.conditions.condition_sum.Statement.{statement}
 use Rattle.pass_steps.proofs.conditions.condition_sum.Tie as tie
 
@@ -32,17 +34,11 @@ run-sum-requires : tie.Need-run-sum-requires
 run-sum-requires c κs =
     let start = c .before .before in
     let e = c .enum-told .given .1 in
-    (λ k h. omega (arith, three _ e, eight _ e, start .pre .0), (lit≤ tt, lit≤ tt))
+    (λ k h. omega (arith, three _ e, eight _ e, start .pre .0), lit≤ tt)
 
-point-sum-requires : tie.Need-point-sum-requires
-point-sum-requires c κs =
-    let start = c .before .before in
-    let e = c .enum-told2 .given .1 in
-    (start .pre .0 ∙ ap angleCount e, subst (λ (g : Figure). start .args .j < conditionCount g) e (start .pre .1))
-
--- what is told of a polygon
-told : (c : tie.At-match-keys3) → Polygon (c .before .args .figure)
-told c = polygon (c .before .args .figure) (is-polygon (c .before .args .figure) (c .match .keys3))
+-- what is told of a point inside its corners
+inside : (c : tie.At-match-keys2) → PointInside (c .before .args .figure)
+inside c = point-inside (c .before .args .figure) (is-point-inside (c .before .args .figure) (c .match .keys2))
 
 mul-if1 : tie.Need-mul-if1
 mul-if1 c = omega (arith, condition-bound (c .before .args .figure))
@@ -50,15 +46,37 @@ mul-if1 c = omega (arith, condition-bound (c .before .args .figure))
 run-sum-requires-2 : tie.Need-run-sum-requires-2
 run-sum-requires-2 c κs =
     let start = c .before .before in
-    let p = told (c .before) in
-    (λ k h. omega (arith, p .angles, start .pre .0), (lit≤ tt, lit≤ tt))
+    let p = inside (c .before) in
+    (λ k h. omega (arith, p .angles, start .pre .0), lit≤ tt)
+
+mul-corner-sum : tie.Need-mul-corner-sum
+mul-corner-sum c = omega (arith, condition-bound (c .before .before .args .figure))
+
+corner-sum-requires : tie.Need-corner-sum-requires
+corner-sum-requires c κs =
+    let start = c .before .before in
+    let p = inside (c .before) in
+    omega (arith, p .angles, p .conditions, start .pre .0, start .pre .1)
+
+-- and of a polygon
+told : (c : tie.At-match-keys3) → Polygon (c .before .args .figure)
+told c = polygon (c .before .args .figure) (is-polygon (c .before .args .figure) (c .match .keys3))
+
+mul-if2 : tie.Need-mul-if2
+mul-if2 c = omega (arith, condition-bound (c .before .args .figure))
 
 run-sum-requires-3 : tie.Need-run-sum-requires-3
 run-sum-requires-3 c κs =
     let start = c .before .before in
+    let p = told (c .before) in
+    (λ k h. omega (arith, p .angles, start .pre .0), lit≤ tt)
+
+run-sum-requires-4 : tie.Need-run-sum-requires-4
+run-sum-requires-4 c κs =
+    let start = c .before .before in
     let p = told (c .before) in (
       λ k h. omega (arith, p .angles, p .conditions, start .pre .0, start .pre .1),
-      (omega (arith, condition-bound (start .args .figure), start .pre .1), lit≤ tt),
+      omega (arith, condition-bound (start .args .figure), start .pre .1),
     )
 
 returns : tie.Need-returns
@@ -72,22 +90,39 @@ returns c =
 returns-2 : tie.Need-returns-2
 returns-2 c =
     let start = c .before .before .before in
-    toZ-ofZ w64 _ (record { sfits = c .point-sum .ok }) ∙ c .point-sum .ensures ∙ ap (λ (g : Figure). conditionSum g (vector (now (start .args .x))) (start .args .j)) (sym (c .before .enum-told2 .given .1))
+    let p = inside (c .before .before) in
+    toZ-ofZ w64 _ (record { sfits = c .run-sum2 .ok }) ∙ c .run-sum2 .ensures
+    ∙ sym (triangle-sum (start .args .figure) (vector (now (start .args .x))) (start .args .j) (omega (arith, p .angles, start .pre .0)))
 
 returns-3 : tie.Need-returns-3
 returns-3 c =
     let start = c .before .before .before in
-    let p = told (c .before .before) in
-    toZ-ofZ w64 _ (record { sfits = c .run-sum2 .ok }) ∙ c .run-sum2 .ensures ∙ sym (triangle-sum (start .args .figure) (vector (now (start .args .x))) (start .args .j) (omega (arith, p .angles, start .pre .0)))
+    let f = start .args .figure in
+    let p = inside (c .before .before) in
+    let x = vector (now (start .args .x)) in
+    let j = start .args .j in
+    let corner : ℕ = j - description f .n in
+    let angles : length (now (start .args .x)) ≡ 3 * description f .n = start .pre .0 ∙ p .angles in
+    let first : 3 * j - length (now (start .args .x)) ≡ 3 * corner = omega (arith, angles) in
+    let own : description f .n + corner ≡ j = omega (arith, angles) in
+    toZ-ofZ w64 _ (record { sfits = c .corner-sum .ok }) ∙ c .corner-sum .ensures
+    ∙ ap₂ (λ (n k : ℕ). x (lastBefore n k) +ℤ x (k + 1)) angles first
+    ∙ sym (p .corner-sum x corner (omega (arith, angles, p .conditions, start .pre .1))) ∙ ap (conditionSum f x) own
 
 returns-4 : tie.Need-returns-4
 returns-4 c =
+    let start = c .before .before .before in
+    let p = told (c .before .before) in
+    toZ-ofZ w64 _ (record { sfits = c .run-sum3 .ok }) ∙ c .run-sum3 .ensures ∙ sym (triangle-sum (start .args .figure) (vector (now (start .args .x))) (start .args .j) (omega (arith, p .angles, start .pre .0)))
+
+returns-5 : tie.Need-returns-5
+returns-5 c =
     let start = c .before .before .before in
     let f = start .args .figure in
     let p = told (c .before .before) in
     let x = vector (now (start .args .x)) in
     let last : start .args .j ≡ description f .n = omega (arith, p .angles, p .conditions, start .pre .0, start .pre .1) in
-    toZ-ofZ w64 _ (record { sfits = c .run-sum3 .ok }) ∙ c .run-sum3 .ensures ∙ ap (λ (n : ℕ). sum n (λ k. x (0 + 3 * k))) last ∙ sym (p .horizon-sum x) ∙ ap (conditionSum f x) (sym last)
+    toZ-ofZ w64 _ (record { sfits = c .run-sum4 .ok }) ∙ c .run-sum4 .ensures ∙ ap (λ (n : ℕ). sum n (λ k. x (0 + 3 * k))) last ∙ sym (p .horizon-sum x) ∙ ap (conditionSum f x) (sym last)
 
 pub condition-sum-spec : {M : Type 1} → statement M
 condition-sum-spec =
@@ -96,13 +131,18 @@ condition-sum-spec =
     (λ c. search needs)
     mul-run-sum
     run-sum-requires
-    (λ c. search needs)
-    point-sum-requires
     mul-if1
     (λ c. omega arith)
     run-sum-requires-2
+    mul-corner-sum
+    (λ c. omega arith)
+    corner-sum-requires
+    mul-if2
+    (λ c. omega arith)
     run-sum-requires-3
+    run-sum-requires-4
     returns
     returns-2
     returns-3
-    returns-4)
+    returns-4
+    returns-5)

@@ -51,7 +51,7 @@ turn c =
     let value = vector (now (start .args .x)) (start .args .first + start .args .step * at .k) in
     let fits : SFits w32 value = record { sfits = c .total .given } in
     let read = widened w32 w64 value tt fits in
-    more w64 (2 ^ 31) _ (at .k) _ _ (omega (arith, start .pre .1 .0)) (at .inv .1) (at .inv .2) read (rw read (fits-magnitude w32 value fits))
+    more w64 (2 ^ 31) _ (at .k) _ _ (omega (arith, start .pre .1)) (at .inv .1) (at .inv .2) read (rw read (fits-magnitude w32 value fits))
 
 loop-again : tie.Need-loop-again Inv-loop μ-loop
 loop-again c = (omega arith, turn c .total-is, turn c .within)

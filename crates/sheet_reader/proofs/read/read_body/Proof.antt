@@ -5,54 +5,58 @@ use Rattle.sheet_reader.proofs.BodyLaws.{TakenOff, shape-refused, short
 use Rattle.sheet_reader.proofs.read.read_body.Statement.{statement}
 use Rattle.sheet_reader.proofs.read.read_body.Tie as tie
 
-taken : (c : tie.After-differences-in)
-    → (let told = c .before .before .before .before .before in
-    let a = told .before .before .before .before .before .before .before .before .args in
-    TakenOff (a .kind) (a .figure) (a .sheet .now) (c .before .before .before .before .limit-or-tolerance-in .result)
-    (c .before .before .before .angles-in .result) (c .before .before .fixed-in .result) (c .before .log-sines-in .result) (c .differences-in .result))
+taken : (c : tie.After-log-sides-in)
+    → (let told = c .before .before .before .before .before .before in
+    let a = told .before .before .before .before .before .before .before .before .before .args in
+    TakenOff (a .kind) (a .figure) (a .sheet .now) (c .before .before .before .before .before .limit-or-tolerance-in .result) (c .before .before .before .before .angles-in .result)
+    (c .before .before .before .fixed-in .result) (c .before .before .log-sines-in .result) (c .before .differences-in .result) (c .log-sides-in .result))
 taken c = record {
-  limit = c .before .before .before .before .limit-or-tolerance-in .ensures _;
-  each-angle = c .before .before .before .angles-in .ensures;
-  each-fixed = c .before .before .fixed-in .ensures;
-  each-log-sine = c .before .log-sines-in .ensures;
-  each-difference = c .differences-in .ensures;
+  limit = c .before .before .before .before .before .limit-or-tolerance-in .ensures _;
+  each-angle = c .before .before .before .before .angles-in .ensures;
+  each-fixed = c .before .before .before .fixed-in .ensures;
+  each-log-sine = c .before .before .log-sines-in .ensures;
+  each-difference = c .before .differences-in .ensures;
+  each-log-side = c .log-sides-in .ensures;
 }
 
 returns : tie.Need-returns
 returns c =
     let found = c .before .before .before in
-    let a = found .before .before .before .before .before .before .args in
-    shape-refused (a .kind) (a .figure) (a .sheet .now) (slices (a .angles .now) (a .fixed .now) (a .log-sines .now) (a .differences .now)) _ (found .shape-verdict .ensures) (c .before .shape .given .1)
+    let a = found .before .before .before .before .before .before .before .args in
+    shape-refused (a .kind) (a .figure) (a .sheet .now) (slices (a .angles .now) (a .fixed .now) (a .log-sines .now) (a .differences .now) (a .log-sides .now)) _ (found .shape-verdict .ensures)
+    (c .before .shape .given .1)
 
 store-requires : tie.Need-store-requires
 store-requires c κs =
-    let off = c .before .before .before .before .before .before .before .before in
-    let told = off .before .before .before .before .before in
+    let off = c .before .before .before .before .before .before .before .before .before in
+    let told = off .before .before .before .before .before .before in
     let found = told .before .before in
-    let a = found .before .before .before .before .before .before .args in
-    short-enough (a .kind) (a .figure) (a .sheet .now) (slices (a .angles .now) (a .fixed .now) (a .log-sines .now) (a .differences .now)) (found .shape-verdict .ensures) (told .enum-told .given .1)
+    let a = found .before .before .before .before .before .before .before .args in
+    short-enough (a .kind) (a .figure) (a .sheet .now) (slices (a .angles .now) (a .fixed .now) (a .log-sines .now) (a .differences .now) (a .log-sides .now)) (found .shape-verdict .ensures)
+    (told .enum-told .given .1)
 
 returns-2 : tie.Need-returns-2
 returns-2 c =
-    let stored = c .before .before .before .before .before .before .before in
-    let passed = stored .before .before .before .before .before in
+    let stored = c .before .before .before .before .before .before .before .before .before in
+    let passed = stored .before .before .before .before .before .before in
     let judged = passed .before .before in
     let off = judged .before .before in
-    let told = off .before .before .before .before .before in
+    let told = off .before .before .before .before .before .before in
     let found = told .before .before in
-    let a = found .before .before .before .before .before .before .args in
-    values-read (a .kind) (a .figure) (a .sheet .now) (slices (a .angles .now) (a .fixed .now) (a .log-sines .now) (a .differences .now)) (found .shape-verdict .ensures) (told .enum-told .given .1)
-    (taken off) (judged .before .taken-verdict .ensures) (judged .reading-after .ensures) (passed .enum-told2 .given .1) (stored .store .ensures)
+    let a = found .before .before .before .before .before .before .before .args in
+    values-read (a .kind) (a .figure) (a .sheet .now) (slices (a .angles .now) (a .fixed .now) (a .log-sines .now) (a .differences .now) (a .log-sides .now)) (found .shape-verdict .ensures)
+    (told .enum-told .given .1) (taken off) (judged .before .taken-verdict .ensures) (judged .reading-after .ensures) (passed .enum-told2 .given .1)
+    (stored .store .ensures)
 
 returns-3 : tie.Need-returns-3
 returns-3 c =
     let judged = c .before .before in
     let off = judged .before .before in
-    let told = off .before .before .before .before .before in
+    let told = off .before .before .before .before .before .before in
     let found = told .before .before in
-    let a = found .before .before .before .before .before .before .args in
-    values-refused (a .kind) (a .figure) (a .sheet .now) (slices (a .angles .now) (a .fixed .now) (a .log-sines .now) (a .differences .now)) (found .shape-verdict .ensures) (told .enum-told .given .1)
-    (taken off) (judged .before .taken-verdict .ensures) _ (judged .reading-after .ensures) (c .enum-told3 .given .1)
+    let a = found .before .before .before .before .before .before .before .args in
+    values-refused (a .kind) (a .figure) (a .sheet .now) (slices (a .angles .now) (a .fixed .now) (a .log-sines .now) (a .differences .now) (a .log-sides .now)) (found .shape-verdict .ensures)
+    (told .enum-told .given .1) (taken off) (judged .before .taken-verdict .ensures) _ (judged .reading-after .ensures) (c .enum-told3 .given .1)
 
 pub read-body-spec : {M : Type 1} → statement M
 read-body-spec =
@@ -70,12 +74,14 @@ read-body-spec =
     (λ c κs. tt)
     (λ c κs. tt)
     (λ c κs. tt)
+    (λ c κs. tt)
     (λ c. c .match2 .keys1)
     store-requires
     (λ c. c .match2 .keys2)
-    (λ c. c .before .before .before .before .before .before .before .store .kept .1 .1 .1 .1 .0)
-    (λ c. c .before .before .before .before .before .before .before .store .kept .1 .1 .1 .1 .1 .0)
-    (λ c. c .before .before .before .before .before .before .before .store .kept .1 .1 .1 .1 .1 .1 .0)
-    (λ c. c .before .before .before .before .before .before .before .store .kept .1 .1 .1 .1 .1 .1 .1 .0)
+    (λ c. c .before .before .before .before .before .before .before .before .before .store .kept .1 .1 .1 .1 .1 .0)
+    (λ c. c .before .before .before .before .before .before .before .before .before .store .kept .1 .1 .1 .1 .1 .1 .0)
+    (λ c. c .before .before .before .before .before .before .before .before .before .store .kept .1 .1 .1 .1 .1 .1 .1 .0)
+    (λ c. c .before .before .before .before .before .before .before .before .before .store .kept .1 .1 .1 .1 .1 .1 .1 .1 .0)
+    (λ c. c .before .before .before .before .before .before .before .before .before .store .kept .1 .1 .1 .1 .1 .1 .1 .1 .1 .0)
     returns-2
     returns-3)

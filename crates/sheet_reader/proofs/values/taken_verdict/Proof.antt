@@ -39,15 +39,21 @@ array-share-prefix-differences c = let a = c .before .before .before .before .ar
 slice-aggregate-values-verdict-4 : tie.Need-slice-aggregate-values-verdict-4
 slice-aggregate-values-verdict-4 c = sym (length-take-le _ _ (array-share-prefix-differences (c .before)))
 
+array-share-prefix-log-sides : tie.Need-array-share-prefix-log-sides
+array-share-prefix-log-sides c = let a = c .before .before .before .before .before .args in omega (arith, few-of-each (a .kind) (a .figure) (c .before .before .before .before .lengths-of .ensures))
+
+slice-aggregate-values-verdict-5 : tie.Need-slice-aggregate-values-verdict-5
+slice-aggregate-values-verdict-5 c = sym (length-take-le _ _ (array-share-prefix-log-sides (c .before)))
+
 values-verdict-requires : tie.Need-values-verdict-requires
 values-verdict-requires c κs = search needs
 
 returns : tie.Need-returns
 returns c =
-    let at = c .before .before .before .before .before in
+    let at = c .before .before .before .before .before .before in
     let a = at .before .args in
     c .values-verdict .ensures
-    ∙ ap (λ (l : Lengths). judged (valueRows (a .kind) (valuesFrom (a .limit-or-tolerance) (take (l .angles) (a .t4)) (take (l .fixed) (a .t5)) (take (l .«log_sines») (a .t6)) (take (l .differences) (a .t7)))))
+    ∙ ap (λ (l : Lengths). judged (valueRows (a .kind) (valuesFrom (a .limit-or-tolerance) (take (l .angles) (a .t4)) (take (l .fixed) (a .t5)) (take (l .«log_sines») (a .t6)) (take (l .differences) (a .t7)) (take (l .«log_sides») (a .t8)))))
     (at .lengths-of .ensures)
 
 pub taken-verdict-spec : {M : Type 1} → statement M
@@ -63,5 +69,7 @@ taken-verdict-spec =
     slice-aggregate-values-verdict-3
     array-share-prefix-differences
     slice-aggregate-values-verdict-4
+    array-share-prefix-log-sides
+    slice-aggregate-values-verdict-5
     values-verdict-requires
     returns)

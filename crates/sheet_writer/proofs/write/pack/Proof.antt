@@ -14,9 +14,9 @@ put-limit-or-tolerance-requires c κs = search needs
 
 put-body-requires : tie.Need-put-body-requires
 put-body-requires c κs =
-    let start = c .before .before .before .before .before .before .before .before .before .before .before .before .before in
+    let start = c .before .before .before .before .before .before .before .before .before .before .before .before .before .before in
     let a = start .args in
-    let v = valuesFrom 0 (a .angles .now) (a .fixed .now) (a .log-sines .now) (a .differences .now) in
+    let v = valuesFrom 0 (a .angles .now) (a .fixed .now) (a .log-sines .now) (a .differences .now) (a .log-sides .now) in
     body-fits (a .kind) (a .figure) v (as-many (a .kind) (a .figure) v (start .pre .0))
 
 put-filling-requires : tie.Need-put-filling-requires
@@ -31,10 +31,10 @@ returns c =
     let body = filled .before .before .before .before in
     let limit = body .before .before .before .before in
     let head = limit .before .before .before .before in
-    let known = head .before .before .before .before in
+    let known = head .before .before .before .before .before in
     let start = known .before .before in
     let a = start .args in
-    let v = valuesFrom (a .bound) (a .angles .now) (a .fixed .now) (a .log-sines .now) (a .differences .now) in
+    let v = valuesFrom (a .bound) (a .angles .now) (a .fixed .now) (a .log-sines .now) (a .differences .now) (a .log-sides .now) in
     packed-in-parts (a .kind) (a .figure) v (a .sheet .now) (λ i. known .before .slice-known .given i .fits) (start .pre .1) (as-many (a .kind) (a .figure) v (start .pre .0))
     (head .put-head .ensures) (limit .put-limit-or-tolerance .ensures) (body .put-body .ensures) (filled .put-filling .ensures)
 

@@ -29,10 +29,10 @@ read-back : (s : List ℕ) (at angle log-sine : ℕ) {difference : ℤ} → SFit
 read-back s at angle log-sine {difference} fits e = e ∙ ap (λ (d : ℤ). putAll s at (rowOf angle log-sine d)) (toZ-ofZ w32 difference fits)
 
 abbrev Inv-loop : tie.InvT-loop
-Inv-loop sheet₀ angles log-sines differences at₀ put₀ sheet at put = Written sheet₀ 18 65 (row angles log-sines differences) (length angles) put at sheet
+Inv-loop sheet₀ start angles log-sines differences at₀ put₀ sheet at put = Written sheet₀ start 65 (row angles log-sines differences) (length angles) put at sheet
 
 abbrev μ-loop : tie.MeasureT-loop
-μ-loop sheet₀ angles log-sines differences at₀ put₀ sheet at put = length angles - put
+μ-loop sheet₀ start angles log-sines differences at₀ put₀ sheet at put = length angles - put
 
 loop-holds : tie.Need-loop-holds Inv-loop μ-loop
 loop-holds c = written-none _ _ _ _ _
@@ -71,7 +71,7 @@ loop-again : tie.Need-loop-again Inv-loop μ-loop
 loop-again c =
     let at-loop = c .before .before .before .before .before .before .before .before in
     let a = at-loop .before .before .before .before .args in
-    written-more (a .sheet .now) 18 65 (row (a .angles .now) (a .log-sines .now) (a .differences .now)) (length (a .angles .now)) (at-loop .loop .inv)
+    written-more (a .sheet .now) (a .start) 65 (row (a .angles .now) (a .log-sines .now) (a .differences .now)) (length (a .angles .now)) (at-loop .loop .inv)
     (row-width (a .angles .now) (a .log-sines .now) (a .differences .now)) (omega arith)
     (c .before .before .put-row .last .0) (read-back (at-loop .loop .sheet) (at-loop .loop .at) _ _ (record { sfits = c .before .before .before .put-row-arg2 .given }) (c .before .before .put-row .ensures))
 

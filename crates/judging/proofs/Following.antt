@@ -1,0 +1,12 @@
+-- The value at an index of one list and then another, by where the index lies.
+use Prim.Native.Nat.{ℕ, _+_, _-_, _≤_}
+use mathlib.Core.List.{List, _++_}
+use mathlib.Core.Path.{_≡_, ap, _∙_}
+use native.Mathlib.Omega.{arith}
+use lib.ListN.{length, getD}
+use lib.Seq.{getD-append-add}
+
+pub getD-later : {A : Type 0} (first second : List A) (d : A) (i : ℕ) → length first ≤ i → getD (first ++ second) i d ≡ getD second (i - length first) d
+getD-later first second d i l =
+    let split : i ≡ length first + (i - length first) = omega arith in
+    ap (λ (n : ℕ). getD (first ++ second) n d) split ∙ getD-append-add first second (i - length first) d

@@ -8,7 +8,7 @@ leastAngle = 1
 abbrev pub mostAngle : ℕ
 mostAngle = 6_479_999
 
--- log-sine plus 10, in units of the seventh decimal
+-- log-sine plus 10, in units of the seventh decimal; the log of a known side, in the same units, has the same range (M-100)
 abbrev pub leastLogSine : ℕ
 leastLogSine = 1
 

@@ -1,6 +1,6 @@
-/* The operations of the library in plain C, from document 01 and M-100 of document 02: figures by table, the central polygon by its
- * formula, two sine conditions in the compiler's 128-bit numbers, sheets by four bytes at a time through a 64-bit register, every loop
- * over the figure's own count, results held back until every test has passed. */
+/* The operations of the library in plain C, from document 01, and from M-100 and M-101 of document 02: figures by table, the central
+ * polygon by its formula, two sine conditions in the compiler's 128-bit numbers, sheets by four bytes at a time through a 64-bit
+ * register, every loop over the figure's own count, results held back until every test has passed. */
 #include "peer.h"
 
 #include <stdbool.h>
@@ -42,7 +42,8 @@ enum refusal_number {
     SUM_OF_SQUARES_IS_ZERO,
     NO_KIND,
     SHEET_LENGTH,
-    FILLING
+    FILLING,
+    FIXED_SUM
 };
 
 struct figure {
@@ -154,9 +155,18 @@ static uint32_t lowest_bad_sine(const uint32_t *log_sines, const int32_t *differ
     return 0;
 }
 
-/* Numbers 3, 4, 5, 8, which reader, writer and passes share; a pass or kind without fixed angles, log-sines or log sides has counts
- * of 0. */
-static uint32_t judge_ranges(uint32_t limit, uint32_t most_limit, const uint32_t *angles, uint32_t angle_count, const uint32_t *fixed,
+/* As the corners of a triangle or a quadrilateral do; each angle is known to lie in its range. */
+static bool fixed_angles_sum(const uint32_t *fixed, uint32_t count)
+{
+    uint32_t sum = 0;
+    for (uint32_t i = 0; i < count; i++)
+        sum += fixed[i];
+    return count == 0 || sum == (count - 2) * HALF_CIRCLE;
+}
+
+/* Numbers 3, 4, 5, 14, 8, which reader, writer and passes share; a pass or kind without fixed angles, log-sines or log sides has
+ * counts of 0. */
+static uint32_t judge_given(uint32_t limit, uint32_t most_limit, const uint32_t *angles, uint32_t angle_count, const uint32_t *fixed,
     uint32_t fixed_count, const uint32_t *log_sines, const int32_t *differences, uint32_t sine_count, const uint32_t *log_sides,
     uint32_t side_count)
 {
@@ -168,6 +178,8 @@ static uint32_t judge_ranges(uint32_t limit, uint32_t most_limit, const uint32_t
     place = lowest_outside(fixed, fixed_count, 1, HALF_CIRCLE - 1);
     if (place)
         return refused(FIXED_RANGE, place);
+    if (!fixed_angles_sum(fixed, fixed_count))
+        return refused(FIXED_SUM, 0);
     place = lowest_bad_sine(log_sines, differences, sine_count);
     if (place)
         return refused(SINE_RANGE, place);
@@ -481,7 +493,7 @@ uint32_t peer_first_pass(uint32_t code, uint32_t n, uint32_t limit, const uint32
         || corrected_count != a || rest_count != c)
         return refused(WRONG_LENGTH, 0);
     struct first_work work;
-    uint32_t answer = judge_ranges(limit, MOST_LIMIT, angles, f->angles, fixed, f->fixed, NULL, NULL, 0, NULL, 0);
+    uint32_t answer = judge_given(limit, MOST_LIMIT, angles, f->angles, fixed, f->fixed, NULL, NULL, 0, NULL, 0);
     if (!answer)
         answer = work_first(f, limit, angles, fixed, &work);
     if (answer)
@@ -510,7 +522,7 @@ uint32_t peer_second_pass(uint32_t code, uint32_t n, uint32_t tolerance, const u
         || rounded_count != a || adjusted_count != a || rest_count != f->conditions)
         return refused(WRONG_LENGTH, 0);
     struct second_work work;
-    uint32_t answer = judge_ranges(tolerance, MOST_TOLERANCE, angles, f->angles, NULL, 0, log_sines, differences, f->angles, log_sides,
+    uint32_t answer = judge_given(tolerance, MOST_TOLERANCE, angles, f->angles, NULL, 0, log_sines, differences, f->angles, log_sides,
         f->sides);
     if (!answer)
         answer = work_second(f, tolerance, angles, log_sines, differences, log_sides, &work);
@@ -641,8 +653,8 @@ static uint32_t judge_values(const struct values *v)
 {
     const struct figure *f = v->figure;
     if (v->kind == 1)
-        return judge_ranges(v->limit, MOST_LIMIT, v->angles, f->angles, v->fixed, f->fixed, NULL, NULL, 0, NULL, 0);
-    return judge_ranges(v->limit, MOST_TOLERANCE, v->angles, f->angles, NULL, 0, v->log_sines, v->differences, f->angles, v->log_sides,
+        return judge_given(v->limit, MOST_LIMIT, v->angles, f->angles, v->fixed, f->fixed, NULL, NULL, 0, NULL, 0);
+    return judge_given(v->limit, MOST_TOLERANCE, v->angles, f->angles, NULL, 0, v->log_sines, v->differences, f->angles, v->log_sides,
         f->sides);
 }
 
@@ -729,7 +741,7 @@ static uint32_t judge_written(uint32_t kind, const struct figure *f, uint32_t li
     if (angle_count != f->angles || fixed_count != fixed_here || log_sine_count != sines_here || difference_count != sines_here
         || log_side_count != sides_here || size != sheet_size(kind, f))
         return refused(WRONG_LENGTH, 0);
-    return judge_ranges(limit, kind == 1 ? MOST_LIMIT : MOST_TOLERANCE, angles, f->angles, fixed, fixed_here, log_sines, differences,
+    return judge_given(limit, kind == 1 ? MOST_LIMIT : MOST_TOLERANCE, angles, f->angles, fixed, fixed_here, log_sines, differences,
         sines_here, log_sides, sides_here);
 }
 

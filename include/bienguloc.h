@@ -32,7 +32,7 @@ extern "C" {
 #define BIENGULOC_NUMBER(answer) ((uint32_t)(answer) / 256u)
 #define BIENGULOC_PLACE(answer) ((uint32_t)(answer) % 256u)
 
-/* The numbers of document 01's table. */
+/* The numbers of document 01's table, and of document 02. */
 #define BIENGULOC_NO_SUCH_FIGURE 1u
 #define BIENGULOC_WRONG_LENGTH 2u
 #define BIENGULOC_LIMIT_OR_TOLERANCE_OUT_OF_RANGE 3u
@@ -46,6 +46,7 @@ extern "C" {
 #define BIENGULOC_NO_SUCH_KIND 11u
 #define BIENGULOC_WRONG_SHEET_LENGTH 12u
 #define BIENGULOC_FILLING_BIT_SET 13u
+#define BIENGULOC_FIXED_ANGLES_DO_NOT_SUM 14u /* to 6480000 where there are three, 12960000 where there are four */
 
 /* Room that is enough for every figure and kind. */
 #define BIENGULOC_MOST_ANGLES 24
@@ -80,18 +81,18 @@ BIENGULOC_NOT_NULL uint32_t bienguloc_look(const uint8_t *sheet, size_t,
     uint32_t *head, size_t /* 8: kind, code, n, angles, fixed, log-sines, conditions, log sides */);
 
 /* The values of a packed sheet. L or e is given as packed, so that 0 stays 0. In order: 12 if under two bytes, 11, 1, 12, 2, 13,
- * 3, 4, 5, 8. */
+ * 3, 4, 5, 14, 8. */
 BIENGULOC_NOT_NULL uint32_t bienguloc_read(const uint8_t *sheet, size_t, uint32_t *head, size_t /* 4: kind, code, n, L or e */,
     uint32_t *angles, size_t, uint32_t *fixed, size_t, uint32_t *log_sines, size_t, int32_t *differences, size_t,
     uint32_t *log_sides, size_t);
 
-/* The packed sheet of these values, into a slice of exactly its size. In order: 11, 1, 2, 3, 4, 5, 8. */
+/* The packed sheet of these values, into a slice of exactly its size. In order: 11, 1, 2, 3, 4, 5, 14, 8. */
 BIENGULOC_NOT_NULL uint32_t bienguloc_write(uint32_t kind, uint32_t code, uint32_t n, uint32_t limit_or_tolerance,
     const uint32_t *angles, size_t, const uint32_t *fixed, size_t, const uint32_t *log_sines, size_t, const int32_t *differences, size_t,
     const uint32_t *log_sides, size_t, uint8_t *sheet, size_t);
 
 /* The first corrections. By condition: misclosures and rests; by angle: the numerators of the exact corrections (over D), the
- * rounded corrections and the corrected angles. A limit of 0 stands for the default. In order: 1, 2, 3, 4, 5, 6, 7. */
+ * rounded corrections and the corrected angles. A limit of 0 stands for the default. In order: 1, 2, 3, 4, 5, 14, 6, 7. */
 BIENGULOC_NOT_NULL uint32_t bienguloc_first_pass(uint32_t code, uint32_t n, uint32_t limit, const uint32_t *angles, size_t, const uint32_t *fixed, size_t,
     int32_t *misclosures, size_t, int32_t *numerators, size_t, int32_t *rounded, size_t, uint32_t *corrected, size_t, int32_t *rests, size_t);
 

@@ -639,6 +639,23 @@ REFUSED = {
         10,
         0,
     ),
+    "refused-14-fixed-angles-a-tenth-over": (
+        POINT_IN_TRIANGLE._replace(
+            angles="""
+                120 00 00.0,  30 00 00.0,  30 00 00.0
+                119 59 59.9,  30 00 00.0,  30 00 00.1
+                120 00 00.0,  30 00 00.0,  30 00 00.0
+            """,
+            fixed="60 00 00.0, 60 00 00.0, 60 00 00.1",
+        ),
+        14,
+        0,
+    ),
+    "refused-14-fixed-angles-a-tenth-under": (
+        POINT_IN_QUADRILATERAL._replace(fixed="87 27 52.9, 94 27 03.7, 89 30 08.3, 88 34 55.0"),
+        14,
+        0,
+    ),
 }
 
 # Sheets that no values make: another sheet's bytes, changed. Each with what is done and the number it is refused with.

@@ -3,7 +3,7 @@
 `choose(low, high)` picks each value that is free, so that the same builder gives ordinary figures and needles.
 """
 
-from figures import FULL_CIRCLE, HALF_CIRCLE
+from figures import FULL_CIRCLE, HALF_CIRCLE, fixed_sum
 from packed import LARGEST_ANGLE
 
 
@@ -34,10 +34,11 @@ def with_sum(total, largest, choose, smallest=1):
     return angles
 
 
-def inner_point_angles(n, misclosures, choose):
-    """Code 2: the angles, and the fixed angles, which sum to those of a polygon of n corners."""
+def inner_point_angles(figure, misclosures, choose, over):
+    """Code 2: the angles, and the fixed angles, which sum to so much over what they must."""
+    n = figure.n
     room = 700  # so that every corner can be split and no inner angle is lost to a misclosure
-    fixed = tuple(with_sum((n - 2) * HALF_CIRCLE, [HALF_CIRCLE - room] * n, choose, room))
+    fixed = tuple(with_sum(fixed_sum(figure) + over, [HALF_CIRCLE - room] * n, choose, room))
     at_corners = [split(angle + f, choose) for angle, f in zip(fixed, misclosures[n:])]
     angles = []
     for i in range(n):
@@ -55,14 +56,15 @@ def central_polygon_angles(misclosures, choose):
     return angles
 
 
-def closing_angles(figure, misclosures, choose):
-    """Angles and fixed angles with exactly these misclosures, or None where the figure cannot have them."""
+def closing_angles(figure, misclosures, choose, over=0):
+    """Angles and fixed angles with exactly these misclosures, or None where the figure cannot have them. The fixed angles sum to
+    so much over what they must."""
     try:
         fixed = ()
         if figure.code == 1:
             angles = quadrilateral_angles(misclosures, choose)
         elif figure.code == 2:
-            angles, fixed = inner_point_angles(figure.n, misclosures, choose)
+            angles, fixed = inner_point_angles(figure, misclosures, choose, over)
         else:
             angles = central_polygon_angles(misclosures, choose)
     except ValueError:  # nothing to choose from

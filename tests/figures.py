@@ -122,6 +122,11 @@ def should_sum_to(figure, fixed_angles):
     return (HALF_CIRCLE,) * figure.n + (FULL_CIRCLE,)
 
 
+def fixed_sum(figure):
+    """What the fixed angles of code 2 must sum to: document 02, M-101."""
+    return {3: HALF_CIRCLE, 4: FULL_CIRCLE}[figure.n]
+
+
 def condition_sums(figure, values):
     """The sum of the values in each condition."""
     return [sum(values[angle - 1] for angle in condition) for condition in figure.conditions]

@@ -3,9 +3,9 @@
 
 The same sheets come out every time. Run as a program it tells how many there are and which refusal numbers they reach.
 
-Every number of document 01's table is reached but one. Number 2 is about a slice that a caller lends: the program lends
-slices of exactly the sheet's counts, which it has from the sheet's own head, so no sheet can bring it about. The ones
-that need care:
+Every number of document 01's table, and 14 of M-101, is reached but one. Number 2 is about a slice that a caller lends: the
+program lends slices of exactly the sheet's counts, which it has from the sheet's own head, so no sheet can bring it about.
+The ones that need care:
 - 1 comes after 11 and before 12, so it shows on sheets of any length from two bytes.
 - 7 of kind 1 needs an angle within a few tenths of an end of its range in a figure that still closes: needles.
 - 10 needs every reduced coefficient to be 0: no differences at all, differences at inner angles only (their sine sign
@@ -13,14 +13,15 @@ that need care:
   enough that one's reduced coefficients are a multiple of the other's.
 - 9 comes after 10, so it needs a difference that counts.
 - 12 of a sheet longer than the 199 bytes that the program holds looks like 12 of 199 bytes.
+- 14 needs fixed angles within their range. Elsewhere they sum as they must, or 6 and 7 of code 2 would not be seen.
 """
 
 import random
 from itertools import combinations_with_replacement, islice, product
 from math import isqrt
 
-from closing import closing_angles, move_that_keeps_conditions
-from figures import FIGURES, figure_of, first_numerators, reduced_coefficients, second_corrections
+from closing import closing_angles, move_that_keeps_conditions, with_sum
+from figures import FIGURES, HALF_CIRCLE, figure_of, first_numerators, fixed_sum, reduced_coefficients, second_corrections
 from independent import (
     DEFAULT_LIMIT,
     DEFAULT_TOLERANCE,
@@ -95,12 +96,13 @@ def needle_choice(rng):
     return choose
 
 
-def first_sheet(figure, rng, limit=0, misclosures=None, needle=False):
-    """A sheet of kind 1 that closes within its limit, unless given misclosures go beyond it."""
+def first_sheet(figure, rng, limit=0, misclosures=None, needle=False, over=0):
+    """A sheet of kind 1 that closes within its limit, unless given misclosures go beyond it, and whose fixed angles sum to so
+    much over what they must."""
     choose = needle_choice(rng) if needle else rng.randint
     while True:
         wanted = misclosures or misclosures_within(figure, limit or DEFAULT_LIMIT, rng)
-        found = closing_angles(figure, wanted, choose)
+        found = closing_angles(figure, wanted, choose, over)
         if found:
             return Sheet(1, figure, limit, found[0], fixed=found[1])
 
@@ -241,15 +243,62 @@ def angles_at_the_edge(rng):
                 )
 
 
+def figures_with_fixed_angles():
+    return [figure for figure in FIGURES if figure.fixed_count]
+
+
 def fixed_angles_at_the_edge(rng):
-    """Number 5."""
-    for figure in FIGURES:
+    """Number 5; an angle at the edge is within its range, so 14 follows."""
+    for figure in figures_with_fixed_angles():
         for place in range(1, figure.fixed_count + 1):
             for angle in OUTSIDE_ANGLES + (1, LARGEST_ANGLE):
                 sheet = first_sheet(figure, rng)
                 yield f"fixed angle {place} of {angle} {label(1, figure)}", sheet._replace(
                     fixed=with_value(sheet.fixed, place, angle)
                 )
+
+
+def edge_fixed_angles_that_sum(rng):
+    """Number 5 though the others make up the sum; an angle at the edge passes 5 and 14, and 6 follows."""
+    for figure in figures_with_fixed_angles():
+        for place in range(1, figure.fixed_count + 1):
+            for angle in OUTSIDE_ANGLES + (1, LARGEST_ANGLE):
+                if angle > fixed_sum(figure):
+                    continue
+                others = with_sum(fixed_sum(figure) - angle, [LARGEST_ANGLE] * (figure.fixed_count - 1), rng.randint, 0)
+                fixed = (*others[: place - 1], angle, *others[place - 1 :])
+                yield f"fixed angle {place} of {angle} in the right sum {label(1, figure)}", first_sheet(figure, rng)._replace(
+                    fixed=fixed
+                )
+
+
+def fixed_angles_that_do_not_sum(rng):
+    """Number 14 where all listed conditions close, and before 6 and 7."""
+    for figure in figures_with_fixed_angles():
+        closed = (0,) * len(figure.conditions)
+        sum_of_the_other = HALF_CIRCLE if figure.n == 3 else -HALF_CIRCLE
+        for over in (-600, -2, -1, 1, 2, 600, sum_of_the_other):
+            name = f"fixed angles {over} over {label(1, figure)}"
+            yield f"closed, {name}", first_sheet(figure, rng, misclosures=closed, over=over)
+            yield name, first_sheet(figure, rng, over=over)
+            yield f"needle, {name}", first_sheet(figure, rng, needle=True, over=over)
+            beyond = with_value(closed, rng.randint(1, len(closed)), rng.choice((-1, 1)) * (DEFAULT_LIMIT + 1))
+            yield f"misclosure beyond, {name}", first_sheet(figure, rng, misclosures=beyond, over=over)
+        for fixed in ((1,) * figure.n, (LARGEST_ANGLE,) * figure.n):
+            yield f"fixed angles {fixed} {label(1, figure)}", first_sheet(figure, rng)._replace(fixed=fixed)
+
+
+def fixed_angles_moved(rng):
+    """Number 14 by a tenth at every place of a sheet that closes; accepted again when the next one is moved against it."""
+    for figure in figures_with_fixed_angles():
+        for place in range(1, figure.fixed_count + 1):
+            following = place % figure.fixed_count + 1
+            for step in (-1, 1):
+                sheet = first_sheet(figure, rng, misclosures=(0,) * len(figure.conditions))
+                moved = with_value(sheet.fixed, place, sheet.fixed[place - 1] + step)
+                back = with_value(moved, following, moved[following - 1] - step)
+                yield f"fixed angle {place} moved by {step} {label(1, figure)}", sheet._replace(fixed=moved)
+                yield f"fixed angles {place} and {following} moved by {step} {label(1, figure)}", sheet._replace(fixed=back)
 
 
 def log_sines_at_the_edge(rng):
@@ -624,7 +673,7 @@ def filling_bits_set(rng):
     for kind, figure in each_kind_and_figure():
         filling = (1 << -used_bits(kind, figure) % 8) - 1
         sheet = ordinary_sheet(kind, figure, rng)
-        for values in (sheet, spoil_angle(sheet, rng), spoil_limit(sheet, rng)):
+        for values in (sheet, *(spoil(sheet, rng) for spoil in spoilers(kind, figure))):
             plain = packed_values(values)
             yield f"filling bits set {label(kind, figure)}", plain[:-1] + bytes([plain[-1] | filling])
 
@@ -690,6 +739,12 @@ def spoil_angle(sheet, rng):
     return sheet._replace(angles=spoiled(sheet.angles, OUTSIDE_ANGLES, rng))
 
 
+def spoil_fixed_sum(sheet, rng):
+    """One fixed angle a tenth larger, for which `closing_angles` leaves room."""
+    place = rng.randint(1, len(sheet.fixed))
+    return sheet._replace(fixed=with_value(sheet.fixed, place, sheet.fixed[place - 1] + 1))
+
+
 def spoil_fixed_angle(sheet, rng):
     return sheet._replace(fixed=spoiled(sheet.fixed, OUTSIDE_ANGLES, rng))
 
@@ -710,7 +765,8 @@ def spoilers(kind, figure):
     if kind == 2:
         entries = (spoil_limit, spoil_angle, spoil_log_sine, spoil_difference)
         return (*entries, spoil_log_side) if figure.side_count else entries
-    return (spoil_limit, spoil_angle, spoil_fixed_angle) if figure.fixed_count else (spoil_limit, spoil_angle)
+    values = (spoil_limit, spoil_angle)
+    return (*values, spoil_fixed_sum, spoil_fixed_angle) if figure.fixed_count else values
 
 
 def two_faults(rng):
@@ -729,6 +785,9 @@ GROUPS = (
     several_misclosures_beyond,
     angles_at_the_edge,
     fixed_angles_at_the_edge,
+    edge_fixed_angles_that_sum,
+    fixed_angles_that_do_not_sum,
+    fixed_angles_moved,
     log_sines_at_the_edge,
     differences_at_the_edge,
     log_sides_at_the_edge,
@@ -786,7 +845,7 @@ def print_reached(found):
     for number in sorted(found):
         count, first = found[number]
         print(f"{count:6} {'refused ' + str(number) if number else 'accepted':11} first by {first}")
-    missing = set(range(1, 14)) - found.keys()
+    missing = set(range(1, 15)) - found.keys()
     print(f"       not reached: {sorted(missing)}; no sheet can reach: {sorted(UNREACHABLE)}")
     return missing == UNREACHABLE
 

@@ -1,9 +1,9 @@
-"""Packed sheets, read and written from document 01, "Packed sheets" and "Numbers given when a sheet is turned back", and, for
-the log sides, from document 02, M-100."""
+"""Packed sheets, read and written from document 01, "Packed sheets" and "Numbers given when a sheet is turned back", and from
+document 02: the log sides of M-100, number 14 of M-101."""
 
 from typing import NamedTuple
 
-from figures import HALF_CIRCLE, Figure, figure_of
+from figures import HALF_CIRCLE, Figure, figure_of, fixed_sum
 
 KIND_BITS, CODE_BITS, N_BITS = 4, 4, 4
 LIMIT_BITS, TOLERANCE_BITS = 10, 6
@@ -19,7 +19,7 @@ LARGEST_TOLERANCE = 50
 
 
 class Refused(Exception):
-    """Number and place of document 01's table."""
+    """Number and place of document 01's table, which document 02 carries on."""
 
     def __init__(self, number, place=0):
         super().__init__(number, place)
@@ -101,14 +101,16 @@ def refuse_first(number, tests):
             raise Refused(number, place)
 
 
-def check_ranges(sheet):
-    """Numbers 3, 4, 5, 8, in this order for the reader and the writer alike (document 01, "Units and ranges"). The log sides
-    have the places after the angles'."""
+def check_values(sheet):
+    """Numbers 3, 4, 5, 14, 8, in this order for the reader and the writer alike (document 01, "Units and ranges"; document 02,
+    M-101). The log sides have the places after the angles'."""
     largest_limit = LARGEST_LIMIT if sheet.kind == 1 else LARGEST_TOLERANCE
     if not 0 <= sheet.limit <= largest_limit:
         raise Refused(3)
     refuse_first(4, [1 <= angle <= LARGEST_ANGLE for angle in sheet.angles])
     refuse_first(5, [1 <= angle <= LARGEST_ANGLE for angle in sheet.fixed])
+    if sheet.fixed and sum(sheet.fixed) != fixed_sum(sheet.figure):
+        raise Refused(14)
     refuse_first(
         8,
         [
@@ -120,7 +122,7 @@ def check_ranges(sheet):
 
 
 def read_sheet(sheet):
-    """The reader's order: 12 if under two bytes, then 11, 1, 12, 13, 3, 4, 5, 8.
+    """The reader's order: 12 if under two bytes, then 11, 1, 12, 13, 3, 4, 5, 14, 8.
 
     Number 2 is about slices that a caller lends for the values; here nothing is lent.
     """
@@ -138,7 +140,7 @@ def read_sheet(sheet):
     values = read_values(bits, kind, figure)
     if bits.take(bits.left) != 0:
         raise Refused(13)
-    check_ranges(values)
+    check_values(values)
     return values
 
 
@@ -168,7 +170,7 @@ def packed_values(sheet):
 
 
 def write_sheet(sheet):
-    """The writer's order: 11, 1, 2, 3, 4, 5, 8."""
+    """The writer's order: 11, 1, 2, 3, 4, 5, 14, 8."""
     if sheet.kind not in (1, 2):
         raise Refused(11)
     if sheet.figure is None:
@@ -176,5 +178,5 @@ def write_sheet(sheet):
     lent = tuple(map(len, (sheet.angles, sheet.fixed, sheet.log_sines, sheet.differences, sheet.log_sides)))
     if lent != counts(sheet.kind, sheet.figure):
         raise Refused(2)
-    check_ranges(sheet)
+    check_values(sheet)
     return packed_values(sheet)

@@ -1,5 +1,5 @@
 #!/usr/bin/env python3
-"""The independent computation held against document 01's worked cases, document 02's M-100 and the published examples.
+"""The independent computation held against document 01's worked cases, document 02's M-100 and M-101 and the published examples.
 
 The program is not run here: this says that what it is compared with is right.
 """
@@ -11,7 +11,7 @@ from pathlib import Path
 
 from figures import FIGURES, condition_sums, figure_of, first_numerators, product_sum, reduced_coefficients
 from independent import first_pass, rounded_quotient, second_pass, signed_values, work
-from packed import Refused, Sheet, packed_values, read_sheet, sheet_size, write_sheet
+from packed import Bits, Refused, Sheet, packed_values, read_sheet, read_values, sheet_size, write_sheet
 
 SHEETS = Path(__file__).resolve().parent.parent / "sheets"
 sys.path.insert(0, str(SHEETS))
@@ -151,14 +151,6 @@ class PointInQuadrilateral(unittest.TestCase):
         self.assertEqual(figure.sines[1].signs, (-1, 0, 1, 0, 0, 0, 0, 0, 0, 1, -1, 0))
         self.assertEqual(figure.sines[1].side_signs, (1, -1))
 
-    def test_horizon_follows(self):
-        """Where the fixed angles sum to 360 degrees, the corrected angles round the inner point do before rounding."""
-        sheet = read_sheet(sample("book-004-example-1-first"))
-        self.assertEqual(sum(sheet.fixed), 12_960_000)
-        numerators = first_pass(sheet).numerators
-        observed = sum(sheet.angles[::3])
-        self.assertEqual(24 * observed + sum(numerators[::3]), 24 * 12_960_000)
-
     def test_printed_form(self):
         text = work(sample("point-in-quadrilateral-second")).splitlines()
         self.assertEqual(text[0], "figure 2 4 W -290 43 determinant 920843533810944")
@@ -218,6 +210,60 @@ class PointInQuadrilateral(unittest.TestCase):
         self.assertEqual(self.answer(**alike, log_sides=(1, 1)), "figure 2 4 W 0 0 determinant 48384")
         self.assertEqual(self.answer(**alike, log_sides=(2, 1)), "figure 2 4 W 0 1 determinant 48384")
         self.assertEqual(self.answer(**alike, log_sides=(5_000, 1)), "refused 7 1")
+
+
+class Horizon(unittest.TestCase):
+    """Document 02, M-101."""
+
+    SUMS = {"point-in-triangle-first": 6_480_000, "point-in-quadrilateral-first": 12_960_000, "book-004-example-1-first": 12_960_000}
+
+    def test_exact_corrections_close_the_horizon(self):
+        for name, right in self.SUMS.items():
+            sheet = read_sheet(sample(name))
+            self.assertEqual(sum(sheet.fixed), right)
+            rest = sheet.figure.denominator * (sum(sheet.angles[::3]) - 12_960_000) + sum(first_pass(sheet).numerators[::3])
+            self.assertEqual(rest, 0, name)
+
+    def test_numerators_round_the_inner_point(self):
+        """With fixed angles that sum the horizon is over by the sum of t less the sum of f: over D they cancel just that."""
+        for n in (3, 4):
+            figure = figure_of(2, n)
+            ones = [[int(i == j) for j in range(2 * n)] for i in range(2 * n)]
+            round_inner_point = [sum(first_numerators(figure, one)[::3]) for one in ones]
+            self.assertEqual(round_inner_point, [-figure.denominator] * n + [figure.denominator] * n)
+
+    def test_closed_and_yet_the_circle_is_open(self):
+        """What M-101 tells of, read without judging: every misclosure is 0, and the circle lacks what the fixed angles have over."""
+        name = "refused-14-fixed-angles-a-tenth-over"
+        bits = Bits(sample(name))
+        bits.take(12)
+        sheet = read_values(bits, 1, figure_of(2, 3))
+        self.assertEqual(sum(sheet.fixed), 6_480_001)
+        self.assertEqual(first_pass(sheet).misclosures, [0] * 6)
+        self.assertEqual(sum(sheet.angles[::3]), 12_959_999)
+        self.assertEqual(work(sample(name)), "refused 14 0\n")
+
+    def answer(self, name, **changes):
+        return work(packed_values(read_sheet(sample(name))._replace(**changes))).splitlines()[0]
+
+    def test_a_tenth_at_every_place(self):
+        for name in self.SUMS:
+            fixed = read_sheet(sample(name)).fixed
+            for place in range(len(fixed)):
+                for step in (-1, 1):
+                    moved = fixed[:place] + (fixed[place] + step,) + fixed[place + 1 :]
+                    self.assertEqual(self.answer(name, fixed=moved), "refused 14 0")
+
+    def test_place_in_the_order(self):
+        """After 3, 4 and 5, whether or not the others make up the sum, and before 6."""
+        name = "point-in-triangle-first"
+        over, outside = (2_160_000, 2_160_000, 2_160_001), (1, 1, 0) * 3
+        self.assertEqual(self.answer(name, fixed=(2_160_000,) * 3), "refused 6 4")
+        self.assertEqual(self.answer(name, fixed=over), "refused 14 0")
+        self.assertEqual(self.answer(name, fixed=(2_160_000, 4_320_001, 0)), "refused 5 3")
+        self.assertEqual(self.answer(name, fixed=(2_160_000, 4_320_000, 0)), "refused 5 3")
+        self.assertEqual(self.answer(name, fixed=over, angles=outside), "refused 4 3")
+        self.assertEqual(self.answer(name, fixed=over, angles=outside, limit=601), "refused 3 0")
 
 
 class BookFour(unittest.TestCase):
@@ -298,6 +344,7 @@ class Writer(unittest.TestCase):
 
     def test_refusals_in_order(self):
         bad = {"fixed": (1, 0, 0), "angles": (1, 1, 0) * 3, "limit": 601}
+        self.assertEqual(self.refusal(fixed=(1, 1, 1)), (14, 0))
         self.assertEqual(self.refusal(fixed=bad["fixed"]), (5, 2))
         self.assertEqual(self.refusal(fixed=bad["fixed"], angles=bad["angles"]), (4, 3))
         self.assertEqual(self.refusal(**bad), (3, 0))

@@ -22,8 +22,16 @@ sys.path.insert(0, str(ROOT / "tests"))
 
 from figures import figure_of  # noqa: E402
 from independent import first_pass, second_pass, work  # noqa: E402
-from made_sheets import each_kind_and_figure, label, made_sheets, ordinary_sheet, with_value  # noqa: E402
-from packed import Refused, check_ranges, counts, read_sheet, sheet_size, write_sheet  # noqa: E402
+from made_sheets import (  # noqa: E402
+    each_kind_and_figure,
+    fixed_angles_moved,
+    fixed_angles_that_do_not_sum,
+    label,
+    made_sheets,
+    ordinary_sheet,
+    with_value,
+)
+from packed import Refused, check_values, counts, read_sheet, sheet_size, write_sheet  # noqa: E402
 
 SEED = 1978
 EVERY = 50
@@ -132,10 +140,11 @@ def write_call(name, values, head=None):
 
 
 def passed(values, figure, one_pass):
-    """A pass over values that may lie outside their ranges: 1, then 3, 4, 5, 8 as the writer has them, then the pass's own."""
+    """A pass over values that may lie outside their ranges: 1, then 3, 4, 5, 14, 8 as the writer has them, then the pass's
+    own."""
     if figure is None:
         raise Refused(1)
-    check_ranges(values)
+    check_values(values)
     return one_pass(values)
 
 
@@ -230,6 +239,15 @@ def odd_values(rng):
             yield from ((f"{name} and {then}", both) for then, both in rng.sample([*spoilt_columns(one)], 4))
 
 
+def fixed_sums(rng):
+    """Fixed angles that do not sum, alone and beside an earlier fault: the reader turns back a sheet of them, so only here are
+    writer and pass given such values."""
+    for name, values in [*fixed_angles_that_do_not_sum(rng), *fixed_angles_moved(rng)]:
+        yield name, values
+        yield f"{name} and limit 700", values._replace(limit=700)
+        yield from ((f"{name} and {then}", both) for then, both in rng.sample([*spoilt_columns(values)], 2))
+
+
 def odd_names(rng):
     """Kinds that are none, and codes and n that name no figure, some of which do where bits are lost."""
     for kind, figure in each_kind_and_figure():
@@ -253,7 +271,7 @@ def all_calls():
             yield write_call(name, values)
             yield pass_call(name, values)
     rng = random.Random(f"{SEED} odd values")
-    for name, values in odd_values(rng):
+    for name, values in [*odd_values(rng), *fixed_sums(rng)]:
         name = f"{name}, {label(values.kind, values.figure)}"
         yield write_call(name, values)
         yield pass_call(name, values)
@@ -262,9 +280,9 @@ def all_calls():
 
 MUST_REACH = {
     "look": {0, 12, 11, 1},
-    "read": {0, 12, 11, 1, 13, 3, 4, 5, 8},
-    "write": {0, 11, 1, 3, 4, 5, 8},
-    "first": {0, 1, 3, 4, 5, 6, 7},
+    "read": {0, 12, 11, 1, 13, 3, 4, 5, 14, 8},
+    "write": {0, 11, 1, 3, 4, 5, 14, 8},
+    "first": {0, 1, 3, 4, 5, 14, 6, 7},
     "second": {0, 1, 3, 4, 8, 10, 9, 7},
     "report": {0},
 }

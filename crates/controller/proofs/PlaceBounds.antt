@@ -85,7 +85,7 @@ write-within kind code n v size = λ no-kind no-figure. go (headOf kind code n)
         let entries : length (v .logSines ++ v .logSides) ≤ mostAngles =
         omega (arith, length-append (v .logSines) (v .logSides), entry-bound k f) in (
           omega (arith, by-angle, angle-bound f),
-          λ angles. (omega (arith, by-fixed, fixed-in-few k f), λ fixed. (entries, λ sines. tt)),
+          λ angles. (omega (arith, by-fixed, fixed-in-few k f), λ fixed summed. (entries, λ sines. tt)),
         )
         )
     go (Look.Refused refusal) = tt

@@ -1,18 +1,27 @@
--- Demand 3 of any numbers that are rows applied to misclosures, and of any that are the second pass's numerators. Assumes nothing.
+-- Demand 3 of any numbers that are rows applied to misclosures, of an accepted first pass of code 2, and of any numbers that are the second pass's
+-- numerators. Assumes nothing.
 use Prim.Native.Nat.{ℕ, _<_}
+use mathlib.Core.List.{List, _∷_}
 use mathlib.Core.Path.{_≡_, refl, sym, ap, subst, _∙_}
-use lib.Dec.{lt→ltb}
-use lib.IntN.{ℤ, pos, negsuc, natAbs, _*ℤ_}
+use borrow.Author.Tests.{eq-eqb}
+use lib.Dec.{T, lt→ltb}
+use lib.IntN.{ℤ, pos, negsuc, negℤ, natAbs, _*ℤ_}
+use lib.ListN.{length, getD}
 use lib.Signed.{_≤ℤ_, _<ℤ_, ltZ-yes}
 use Rattle.whole.specs.Sums.{dot, squares}
 use Rattle.whole.proofs.Sums.{dot-ext, squares-ext}
 use Rattle.figures.specs.declared.Figure.{Figure}
-use Rattle.figures.specs.Figure.{denominator, angleCount, pole, side}
+use Rattle.figures.specs.Figure.{description, denominator, angleCount, conditionCount, pole, side}
 use Rattle.figures.specs.Numerators.{numerator}
 use Rattle.figures.proofs.Theorem.{condition-agrees, numerators-cancel, least-squares, only-least}
+use Rattle.refusals.specs.declared.Verdict.the-variants.{Passed}
+use Rattle.refusals.specs.Order.{judged}
+use Rattle.pass_rules.specs.FirstPass.{misclosure, firstRows}
+use Rattle.pass_rules.proofs.FirstAccepted as First
+use Rattle.pass_rules.proofs.Horizon as Horizon
 use Rattle.pass_rules.specs.SecondPass.{SineEntries, signedIn, sineMisclosure, sideMisclosure, divisor, secondNumerator}
 use Rattle.pass_rules.proofs.SecondLaws.{divisor-natural, numerators-close, pole-cancelled, side-cancelled}
-use Rattle.demands.specs.Demand3.{squaresOver, LeastSquares, SineCloses}
+use Rattle.demands.specs.Demand3.{Cancel, squaresOver, LeastSquares, ClosesHorizon, HorizonCloses, SineCloses}
 
 pub are-least-squares : (f : Figure) (misclosures numerators : ℕ → ℤ)
     → ((i : ℕ) → i < angleCount f → numerators i ≡ numerator f misclosures i)
@@ -27,6 +36,26 @@ are-least-squares f w numerators rows =
       only-the-same = λ q positive x cancel e i h.
           only-least f (pos q) w x cancel (ap (λ (z : ℤ). pos q *ℤ pos q *ℤ z) same ∙ e) i h ∙ ap (λ (z : ℤ). pos q *ℤ z) (sym (rows i h));
     }
+
+-- code 2: every list of corrections that cancels the misclosures of a sheet that passes
+pub horizon-closes : (f : Figure) (limit : ℕ) (angles fixed results : List ℕ) (misclosures numerators : ℕ → ℤ) → description f .code ≡ 2
+    → judged (firstRows f limit angles fixed (length angles ∷ length fixed ∷ results)) ≡ Passed
+    → ((j : ℕ) → j < conditionCount f → misclosures j ≡ misclosure f angles fixed j)
+    → ((i : ℕ) → i < angleCount f → numerators i ≡ numerator f misclosures i)
+    → HorizonCloses f angles misclosures numerators
+horizon-closes f limit angles fixed results w numerators two passed are rows = record {
+  exact = closes (denominator f) numerators (are-least-squares f w numerators rows .cancel);
+  every = λ q positive x cancel. closes q x cancel;
+}
+  where
+    entries : First.Entries f limit angles fixed (length angles ∷ length fixed ∷ results)
+    entries = First.accepted f limit angles fixed _ passed .entries
+
+    closes : (q : ℕ) (x : ℕ → ℤ) → Cancel f q x w → ClosesHorizon f q angles x
+    closes q x cancel =
+        Horizon.horizon-closes f (subst T (sym (eq-eqb (description f .code) 2 two)) tt) angles fixed
+        (ap (λ (l : List ℕ). getD l 1 0) (entries .lengths)) (entries .fixed-angles-sum) q x
+        (λ j h. cancel j h ∙ ap (λ (z : ℤ). negℤ (pos q) *ℤ z) (are j h))
 
 above-zero : (z : ℤ) → pos 0 ≤ℤ z → 0 < natAbs z → pos 0 <ℤ z
 above-zero (pos n) low some = ltZ-yes (lt→ltb 0 n some)

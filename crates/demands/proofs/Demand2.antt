@@ -20,7 +20,6 @@ use Rattle.refusals.specs.declared.Verdict.the-variants.{Passed, Failed}
 use Rattle.refusals.specs.Order.{judged}
 use Rattle.refusals.specs.Promise.{stored}
 use Rattle.refusals.specs.Ranges.{leastAngle}
-use Rattle.refusals.proofs.Rows.{none-holds}
 use Rattle.figures.specs.declared.Figure.{Figure}
 use Rattle.figures.specs.declared.Named.{Named}
 use Rattle.figures.specs.declared.Named.the-variants.{As, Nothing}
@@ -40,11 +39,11 @@ use Rattle.pass_rules.specs.FirstPass.{misclosure, firstNumerator, firstRounded
 use Rattle.pass_rules.specs.SecondPass.{SineEntries, signedIn, reducedIn, misclosureIn, secondReduced, sideReduced, sideReducedCount, sineMisclosure, sideMisclosure, divisor, secondNumerator, secondRounded, secondAdjusted, secondRest, secondRows, secondPassRows, secondPassVerdict, secondAnswerFor, secondPassAnswer}
 use Rattle.figures.proofs.Figures.{denominator-positive}
 use Rattle.figures.proofs.Theorem.{condition-agrees, numerator-agrees, numerators-cancel}
+use Rattle.pass_rules.proofs.FirstAccepted as First
 use Rattle.pass_rules.proofs.PassRows.{of-figure, one-judged}
 use Rattle.pass_rules.proofs.Rests.{rest-small}
 use Rattle.pass_rules.proofs.SecondAccepted.{Accepted, accepted}
 use Rattle.pass_rules.proofs.SecondLaws.{divisor-natural, rest-half}
-use Rattle.pass_rules.proofs.WithinRange.{result-within}
 use Rattle.pass_rules.specs.Promises.{FirstGiven, firstLengthsLent, firstValues, SecondGiven, SecondLent, secondLengthsLent, secondVerdict, secondAnswer, secondValues}
 use Rattle.pass_rules.proofs.SineSums.{pole-misclosure, no-misclosure}
 use Rattle.demands.specs.Demand2.{FirstDone, FirstPass, OneSine, TwoSines, SecondDone, SecondPass, valuesIn, ReadThenWritten, WrittenThenRead}
@@ -76,10 +75,9 @@ module _ (f : Figure) (given : FirstGiven) (lent : List ℕ) (named : figureOf (
   x = given .fixed
 
   corrected-own : (i : ℕ) → i < N → pos (natAbs (corrected f a x i)) ≡ corrected f a x i
-  unfolding firstRows
   corrected-own i h =
       own-magnitude (corrected f a x i)
-      (result-within N (corrected f a x) i h (none-holds (firstRows f (given .limit) a x lent) passed .1 .1 .1 .1 .1 .0) .0)
+      (First.accepted f (given .limit) a x lent passed .result-within i h .0)
 
   pub first-values-done : FirstDone given (firstValues f given)
   unfolding misclosure firstNumerator firstRounded corrected firstRest

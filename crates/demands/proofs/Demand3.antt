@@ -17,22 +17,22 @@ use Rattle.figures.specs.declared.Figure.{Figure}
 use Rattle.figures.specs.declared.Named.{Named}
 use Rattle.figures.specs.declared.Named.the-variants.{As}
 use Rattle.figures.specs.Figure.{SineCondition, description, noSine, ofNamed}
-use Rattle.pass_rules.specs.FirstPass.{firstPassVerdict}
+use Rattle.pass_rules.specs.FirstPass.{misclosure, firstRows, firstPassRows, firstPassVerdict}
 use Rattle.pass_rules.specs.SecondPass.{SineEntries, misclosureIn, sineMisclosure, sideMisclosure, divisor, secondRows, secondPassRows, secondPassVerdict}
 use Rattle.pass_rules.proofs.PassRows.{one-judged}
 use Rattle.pass_rules.proofs.Refusals.{first-in-table}
 use Rattle.pass_rules.proofs.SecondAccepted.{accepted}
 use Rattle.pass_rules.proofs.SecondLaws.{divisor-natural}
 use Rattle.pass_rules.proofs.SineSums.{none-misclosure}
-use Rattle.pass_rules.specs.Promises.{firstLengthsLent, firstRowsOf, SecondGiven, secondLengthsLent, secondValues}
+use Rattle.pass_rules.specs.Promises.{FirstGiven, FirstLent, firstLengthsLent, firstRowsOf, FirstPromise, SecondGiven, secondLengthsLent, secondValues}
 use Rattle.pass_sheet.specs.Worked.{Outcome, First, Second, WorkedSheet, workedOf, secondSheetLengths, entriesIn}
 use Rattle.pass_sheet.proofs.ShownAs.{FirstShown, SecondShown, RefusedShown, shown-as}
-use Rattle.controller.specs.Promises.{sumsRows, sumsLengths, sumsValues, sineMisclosuresOf}
+use Rattle.controller.specs.Promises.{FirstPassPromise, sumsRows, sumsLengths, sumsValues, sineMisclosuresOf}
 use Rattle.controller.proofs.Answers.{answered-done}
 use Rattle.controller.proofs.PlaceBounds.{first-within, sums-in-table, sums-within}
 use Rattle.demands.specs.Demand2.{numeratorsIn}
-use Rattle.demands.specs.Demand3.{LeastSquares, SineCloses, FirstPass, SecondPass, FirstPass-C, SecondPass-C, FirstSheet, SecondSheet}
-use Rattle.demands.proofs.Closing.{are-least-squares, sine-closes}
+use Rattle.demands.specs.Demand3.{LeastSquares, HorizonCloses, SineCloses, FirstPass, Horizon, SecondPass, FirstPass-C, Horizon-C, SecondPass-C, FirstSheet, SecondSheet}
+use Rattle.demands.proofs.Closing.{are-least-squares, horizon-closes, sine-closes}
 use Rattle.demands.proofs.Demand2 as values
 use Rattle.demands.proofs.WorkedValues.{exact, first-numerators, second-numerators, joined-numerators}
 
@@ -48,14 +48,32 @@ first-pass given entry exit promise f named =
     subst (λ (g : Figure). LeastSquares g (vector (exit .misclosures)) (vector (exit .numerators))) (one-figure (done .named) named)
     (are-least-squares (done .figure) (vector (exit .misclosures)) (vector (exit .numerators)) (done .numerators))
 
-pub first-pass-C : FirstPass-C
+-- what C is answered is what the pass answers
+first-C : (given : FirstGiven) (entry exit : FirstLent) → FirstPassPromise given entry 0 exit → FirstPromise given entry Passed exit
 unfolding firstPassVerdict
-first-pass-C given entry exit promise f named =
+first-C given entry exit promise =
     let passed : judged (firstRowsOf given entry) ≡ Passed =
     answered-done (firstRowsOf given entry)
     (first-in-table (given .code) (given .n) (given .limit) (given .angles) (given .fixed) (firstLengthsLent given entry))
     (first-within given entry) (sym (promise .answered)) in
-    first-pass given entry exit (record { answered = sym passed; leaves = promise .leaves }) f named
+    record { answered = sym passed; leaves = promise .leaves }
+
+pub first-pass-C : FirstPass-C
+first-pass-C given entry exit promise f named = first-pass given entry exit (first-C given entry exit promise) f named
+
+pub horizon : Horizon
+unfolding firstPassVerdict firstPassRows misclosure
+horizon given entry exit promise f named two =
+    let done = values.first-pass given entry exit promise in
+    let same : done .figure ≡ f = one-figure (done .named) named in
+    let rows = one-judged (given .code) (given .n)
+    (λ g. firstRows g (given .limit) (given .angles) (given .fixed) (firstLengthsLent given entry)) (done .named) in
+    subst (λ (g : Figure). HorizonCloses g (given .angles) (vector (exit .misclosures)) (vector (exit .numerators))) same
+    (horizon-closes (done .figure) (given .limit) (given .angles) (given .fixed) _ _ _ (ap (λ (g : Figure). description g .code) same ∙ two)
+    (sym rows ∙ sym (promise .answered)) (done .misclosures) (done .numerators))
+
+pub horizon-C : Horizon-C
+horizon-C given entry exit promise f named two = horizon given entry exit (first-C given entry exit promise) f named two
 
 -- ---- the second pass
 

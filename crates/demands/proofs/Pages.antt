@@ -2,8 +2,10 @@
 use Prim.Native.Nat.{ℕ, suc, _+_, _<_}
 use mathlib.Core.Bool.{Bool, true, false}
 use mathlib.Core.List.{List, [], _∷_}
-use mathlib.Core.Path.{_≡_, sym, ap, ap₂, _∙_}
-use lib.IntN.{ℤ, pos, negℤ, _+ℤ_, _*ℤ_}
+use mathlib.Core.Path.{_≡_, sym, ap, ap₂, subst, _∙_}
+use borrow.Author.Tests.{eq-eqb}
+use lib.Dec.{T}
+use lib.IntN.{ℤ, pos, negℤ, _+ℤ_, _-ℤ_, _*ℤ_}
 use lib.ListN.{getD, drop, List·getD-map}
 use lib.Seq.{getD-drop}
 use native.Mathlib.Nat.{zero-add}
@@ -11,7 +13,8 @@ use Rattle.whole.specs.Sums.{squares}
 use Rattle.whole.proofs.Sums.{squares-ext}
 use Rattle.figures.specs.declared.Figure.{Figure}
 use Rattle.figures.specs.Figure.{description, denominator, angleCount, conditionCount, hasSide}
-use Rattle.figures.specs.Numerators.{conditionSum}
+use Rattle.figures.specs.Numerators.{conditionSum, horizonSum}
+use Rattle.figures.proofs.Horizon.{horizon-agrees}
 use Rattle.figures.proofs.Theorem.{condition-agrees}
 use Rattle.text.specs.Text.{readNumber}
 use Rattle.text.proofs.Numbers.{read-decimal}
@@ -68,8 +71,9 @@ module _ (f : Figure) (given numerators rounded results misclosures rests : ℕ 
   pub first-page : ((j : ℕ) → j < conditionCount f → conditionSum f numerators j ≡ negℤ (pos (denominator f)) *ℤ misclosures j)
       → ((j : ℕ) → j < conditionCount f → misclosures j +ℤ conditionSum f rounded j ≡ rests j)
       → ((i : ℕ) → i < angleCount f → given i +ℤ rounded i ≡ results i)
+      → (description f .code ≡ 2 → pos (denominator f) *ℤ (horizonSum f given -ℤ pos 12_960_000) +ℤ horizonSum f numerators ≡ pos 0)
       → FirstPage f firstPageText
-  first-page cancel rest result = record {
+  first-page cancel rest result horizon = record {
     names = first-names;
     denominator-word = first-figure-part 3;
     denominator-is = denominator-read;
@@ -77,6 +81,13 @@ module _ (f : Figure) (given numerators rounded results misclosures rests : ℕ 
         condition-agrees f (ofAngle firstPageText 2) numerators (angle-read 2) j h
         ∙ cancel j h
         ∙ sym (ap₂ (λ (d w : ℤ). negℤ d *ℤ w) denominator-read (condition-read 1 j h));
+    horizon-closes = λ two.
+        let point = subst T (sym (eq-eqb (description f .code) 2 two)) tt in
+        ap₂ (λ (d s : ℤ). d *ℤ (s -ℤ pos 12_960_000) +ℤ horizonSum f (ofAngle firstPageText 2)) denominator-read
+        (horizon-agrees f point (ofAngle firstPageText 1) given (angle-read 1))
+        ∙ ap (λ (s : ℤ). pos (denominator f) *ℤ (horizonSum f given -ℤ pos 12_960_000) +ℤ s)
+        (horizon-agrees f point (ofAngle firstPageText 2) numerators (angle-read 2))
+        ∙ horizon two;
     rests = λ j h.
         ap₂ _+ℤ_ (condition-read 1 j h) (condition-agrees f (ofAngle firstPageText 3) rounded (angle-read 3) j h)
         ∙ rest j h

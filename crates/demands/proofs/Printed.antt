@@ -37,9 +37,9 @@ use Rattle.controller.specs.Promises.{TextLent, textLent, textLaid, reportRows}
 use Rattle.controller.proofs.Answers.{answered-done}
 use Rattle.controller.proofs.PlaceBounds.{report-within}
 use Rattle.demands.specs.Printed.{part, numberOn, FirstPage, SinePage, SecondPage, refusedLine, Printed, Report, Report-C}
-use Rattle.demands.proofs.Closing.{are-least-squares, sine-closes}
+use Rattle.demands.proofs.Closing.{are-least-squares, horizon-closes, sine-closes}
 use Rattle.demands.proofs.Pages.{first-page, one-page, two-page, names-of}
-use Rattle.demands.proofs.WorkedValues.{first-numerators, first-rests, first-results, exact, second-numerators, one-squares, one-numerators, two-determinant, two-numerators, second-rests, second-results}
+use Rattle.demands.proofs.WorkedValues.{first-misclosures, first-numerators, first-rests, first-results, exact, second-numerators, one-squares, one-numerators, two-determinant, two-numerators, second-rests, second-results}
 
 -- ---- a refusal's line
 
@@ -84,7 +84,8 @@ module _ (sheet : List ℕ) where
       let ok = First.accepted f (shown .limit) a x (firstSheetLengths f a x) (shown .passed) in
       subst (λ (s : WorkedSheet). FirstPage f (textOf s)) (sym (shown .is))
       (first-page f _ _ _ _ _ _ (are-least-squares f _ _ (first-numerators f a x) .cancel) (first-rests f a x)
-      (λ i h. first-results f a x i h (ok .result-within i h .0)))
+      (λ i h. first-results f a x i h (ok .result-within i h .0))
+      (λ two. horizon-closes f (shown .limit) a x _ _ _ two (shown .passed) (first-misclosures f a x) (first-numerators f a x) .exact))
 
   module _ (shown : SecondShown sheet (workedOf sheet)) where
     abbrev f : Figure

@@ -42,6 +42,9 @@ module _ (f : Figure) where
   -- ---- the first pass
 
   module _ (angles fixed : List ℕ) where
+    pub first-misclosures : (j : ℕ) → j < conditionCount f → vector (misclosuresOf f angles fixed) j ≡ misclosure f angles fixed j
+    first-misclosures = by-condition (misclosure f angles fixed)
+
     pub first-numerators : (i : ℕ) → i < angleCount f
         → vector (numeratorsOf f angles fixed) i ≡ numerator f (vector (misclosuresOf f angles fixed)) i
     unfolding firstNumerator

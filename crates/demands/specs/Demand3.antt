@@ -1,7 +1,8 @@
 -- Demand 3. "Take any accepted first-pass sheet, and any corrections whatever, as whole numbers over one common denominator, that cancel
 -- every listed linear misclosure: the sum of their squares is never below that of our unrounded first corrections, and equals it only if
 -- they are the same corrections. Where a second pass is accepted, its unrounded corrections change no linear condition and cancel the
--- linearised sine misclosure exactly." Document 02, M-100, has for its figure "both sine misclosures".
+-- linearised sine misclosure exactly." Document 02, M-100, has for its figure "both sine misclosures"; M-101 adds of code 2 that "the
+-- exact corrections then close the horizon also".
 --
 -- Said of the misclosures and numerators that stand in the lent slices. Unrounded corrections are numerator / D in the first pass,
 -- numerator / S or numerator / determinant in the second; in whole numbers, both sides are multiplied by the denominators.
@@ -9,7 +10,7 @@ use Prim.Native.Nat.{ℕ, _<_}
 use mathlib.Core.Bool.{true}
 use mathlib.Core.List.{List}
 use mathlib.Core.Path.{_≡_}
-use lib.IntN.{ℤ, pos, negℤ, _*ℤ_}
+use lib.IntN.{ℤ, pos, negℤ, _+ℤ_, _-ℤ_, _*ℤ_}
 use lib.ListN.{getD}
 use lib.Signed.{_≤ℤ_, _<ℤ_}
 use Rattle.whole.specs.Sums.{dot, squares, vector}
@@ -17,13 +18,13 @@ use Rattle.wide_words.specs.Words.{joined}
 use Rattle.refusals.specs.declared.Verdict.the-variants.{Passed}
 use Rattle.figures.specs.declared.Figure.{Figure}
 use Rattle.figures.specs.declared.Named.the-variants.{As}
-use Rattle.figures.specs.Figure.{denominator, angleCount, conditionCount, pole, side, hasSide, figureOf}
-use Rattle.figures.specs.Numerators.{conditionSum}
+use Rattle.figures.specs.Figure.{description, denominator, angleCount, conditionCount, pole, side, hasSide, figureOf}
+use Rattle.figures.specs.Numerators.{conditionSum, horizonSum}
 use Rattle.pass_rules.specs.declared.second.SecondAnswer.the-variants.{Done}
 use Rattle.pass_rules.specs.Promises.{FirstGiven, FirstLent, FirstPromise, SecondGiven, SecondLent, SecondPromise}
 use Rattle.pass_sheet.specs.Worked.{First, Second, WorkedSheet, workedOf, entriesIn}
 use Rattle.controller.specs.Promises.{FirstPassPromise, SumsLent, SecondPassPromise}
-use Rattle.demands.specs.Demand2.{signed, numeratorsIn}
+use Rattle.demands.specs.Demand2.{angleAt, signed, numeratorsIn}
 
 -- corrections x / q cancel every listed misclosure
 abbrev pub Cancel : Figure → (q : ℕ) → (x misclosures : ℕ → ℤ) → Type 0
@@ -44,6 +45,16 @@ pub record LeastSquares (f : Figure) (misclosures numerators : ℕ → ℤ) : Ty
       → squaresOver f q numerators ≡ squaresOver f (denominator f) x
       → (i : ℕ) → i < angleCount f → pos (denominator f) *ℤ x i ≡ pos q *ℤ numerators i
 
+-- corrections x / q close the horizon: the angles at the inner point, with their corrections, sum to 360°; times q
+abbrev pub ClosesHorizon : Figure → (q : ℕ) → (angles : List ℕ) → (x : ℕ → ℤ) → Type 0
+ClosesHorizon f q angles x = pos q *ℤ (horizonSum f (angleAt angles) -ℤ pos 12_960_000) +ℤ horizonSum f x ≡ pos 0
+
+pub record HorizonCloses (f : Figure) (angles : List ℕ) (misclosures numerators : ℕ → ℤ) : Type 0 where
+  -- the exact corrections close it
+  pub exact : ClosesHorizon f (denominator f) angles numerators
+  -- and so do any corrections x / q that cancel every listed misclosure
+  pub every : (q : ℕ) → 0 < q → (x : ℕ → ℤ) → Cancel f q x misclosures → ClosesHorizon f q angles x
+
 -- numerators over S or the determinant change no linear condition, and cancel each sine misclosure
 pub record SineCloses (f : Figure) (differences : List ℤ) (numerators : ℕ → ℤ) (w sideW divisor : ℤ) : Type 0 where
   pub divisor-positive : pos 0 <ℤ divisor
@@ -61,6 +72,13 @@ FirstPass =
     → (f : Figure) → figureOf (given .code) (given .n) ≡ As f
     → LeastSquares f (vector (exit .misclosures)) (vector (exit .numerators))
 
+-- of code 2, both n
+abbrev pub Horizon : Type 0
+Horizon =
+    (given : FirstGiven) (entry exit : FirstLent) → FirstPromise given entry Passed exit
+    → (f : Figure) → figureOf (given .code) (given .n) ≡ As f → description f .code ≡ 2
+    → HorizonCloses f (given .angles) (vector (exit .misclosures)) (vector (exit .numerators))
+
 abbrev pub SecondPass : Type 0
 SecondPass =
     (given : SecondGiven) (w sideW : ℤ) (high low : ℕ) (entry exit : SecondLent) → SecondPromise given entry (Done w sideW high low) exit
@@ -74,6 +92,12 @@ FirstPass-C =
     (given : FirstGiven) (entry exit : FirstLent) → FirstPassPromise given entry 0 exit
     → (f : Figure) → figureOf (given .code) (given .n) ≡ As f
     → LeastSquares f (vector (exit .misclosures)) (vector (exit .numerators))
+
+abbrev pub Horizon-C : Type 0
+Horizon-C =
+    (given : FirstGiven) (entry exit : FirstLent) → FirstPassPromise given entry 0 exit
+    → (f : Figure) → figureOf (given .code) (given .n) ≡ As f → description f .code ≡ 2
+    → HorizonCloses f (given .angles) (vector (exit .misclosures)) (vector (exit .numerators))
 
 abbrev pub SecondPass-C : Type 0
 SecondPass-C =

@@ -10,13 +10,13 @@ use mathlib.Core.Bool.{Bool, true, false}
 use mathlib.Core.List.{List, [], _∷_}
 use mathlib.Core.Logic.{_↔_, _⊎_}
 use mathlib.Core.Path.{_≡_}
-use lib.IntN.{ℤ, pos, negℤ, _+ℤ_, _*ℤ_}
+use lib.IntN.{ℤ, pos, negℤ, _+ℤ_, _-ℤ_, _*ℤ_}
 use lib.ListN.{getD, take}
 use Rattle.whole.specs.Sums.{squares}
 use Rattle.refusals.specs.Order.{Answers}
 use Rattle.figures.specs.declared.Figure.{Figure}
 use Rattle.figures.specs.Figure.{description, denominator, angleCount, conditionCount, hasSide}
-use Rattle.figures.specs.Numerators.{conditionSum}
+use Rattle.figures.specs.Numerators.{conditionSum, horizonSum}
 use Rattle.text.specs.Text.{decimal, lines, readNumber, readLines}
 use Rattle.lines.specs.Lines.{figureWord, denominatorWord, wWord, sWord, determinantWord, refusedWord}
 use Rattle.pass_sheet.specs.Worked.{sheetRows}
@@ -53,6 +53,9 @@ pub record FirstPage (f : Figure) (text : List ℕ) : Type 0 where
   -- the numerators of a condition's angles sum to −D times the misclosure
   pub corrections-cancel : (j : ℕ) → j < conditionCount f
       → conditionSum f (ofAngle text 2) j ≡ negℤ (numberOn text 0 4) *ℤ ofCondition f text 2 j
+  -- of code 2: the angles at the inner point, with their numerators over D, sum to 360°; times D (M-101)
+  pub horizon-closes : description f .code ≡ 2
+      → numberOn text 0 4 *ℤ (horizonSum f (ofAngle text 1) -ℤ pos 12_960_000) +ℤ horizonSum f (ofAngle text 2) ≡ pos 0
   -- misclosure plus rounded corrections is the rest
   pub rests : (j : ℕ) → j < conditionCount f → ofCondition f text 2 j +ℤ conditionSum f (ofAngle text 3) j ≡ ofCondition f text 3 j
   -- the result is the given angle plus the rounded correction

@@ -7,6 +7,7 @@ use Prim.Native.Nat.{ℕ, zero, suc, _+_, _-_, _*_, _<_}
 use lib.Dec.{T, eqb, eqb→eq, lit<}
 use lib.ListN.{length, getD}
 use lib.IntN.{ℤ, _+ℤ_, +ℤ-idr}
+use Rattle.refusals.specs.Table.{fixedSum}
 use Rattle.whole.specs.Lists.{every, everyBelow, listed}
 use Rattle.whole.specs.Sums.{sum}
 use Rattle.whole.proofs.Computed.{and-left, and-right, every-at, every-below}
@@ -15,8 +16,8 @@ use Rattle.figures.specs.declared.Figure.{Figure}
 use Rattle.figures.specs.declared.Figure.the-variants.{Quadrilateral}
 use Rattle.figures.specs.declared.Target.{Target}
 use Rattle.figures.specs.declared.Target.the-variants.{HalfTurn, FullTurn, FixedAngle, NoCondition}
-use Rattle.figures.specs.Figure.{description, allFigures, angleCount, conditionCount, fixedCount, membersOf, targetOf}
-use Rattle.figures.specs.Numerators.{sumOver, conditionSum}
+use Rattle.figures.specs.Figure.{description, allFigures, angleCount, conditionCount, fixedCount, membersOf, targetOf, horizon}
+use Rattle.figures.specs.Numerators.{sumOver, conditionSum, horizonSum}
 use Rattle.figures.proofs.Figures.{each-figure}
 
 -- ---- the angles of a condition are those listed
@@ -48,6 +49,15 @@ joined-sum : (f : Figure) (j count : ℕ) (index : ℕ → ℕ) (x : ℕ → ℤ
 unfolding conditionSum
 joined-sum f j count index x t =
     ap (λ (members : List ℕ). sumOver members x) (same-numbers (membersOf f (suc j)) (listed count (λ k. suc (index k))) t) ∙ sum-listed count index x
+
+-- of the angles at the inner point
+abbrev roundInner : Figure → Bool
+roundInner f = sameNumbers (horizon (description f .n) .angles) (listed (description f .n) (λ k. suc (0 + 3 * k)))
+
+inner-sum : (f : Figure) (x : ℕ → ℤ) → T (roundInner f) → horizonSum f x ≡ sum (description f .n) (λ k. x (0 + 3 * k))
+inner-sum f x t =
+    ap (λ (members : List ℕ). sumOver members x) (same-numbers (horizon (description f .n) .angles) (listed (description f .n) (λ k. suc (0 + 3 * k))) t)
+    ∙ sum-listed (description f .n) (λ k. 0 + 3 * k) x
 
 -- of two angles
 abbrev joinsTwo : Figure → (j first second : ℕ) → Bool
@@ -153,6 +163,9 @@ pub record PointInside (f : Figure) : Type 0 where
   pub corner-target : (i : ℕ) → i < description f .n → targetOf f (suc (description f .n + i)) ≡ FixedAngle (suc i)
   pub corner-sum : (x : ℕ → ℤ) (i : ℕ) → i < description f .n
       → conditionSum f x (description f .n + i) ≡ x (lastBefore (3 * description f .n) (3 * i)) +ℤ x (3 * i + 1)
+  pub inner-angles : (x : ℕ → ℤ) → horizonSum f x ≡ sum (description f .n) (λ k. x (0 + 3 * k))
+  -- the triangles have a full turn more than the fixed angles sum to
+  pub turns : fixedSum (fixedCount f) + 12_960_000 ≡ description f .n * 6_480_000
 
 abbrev pointed : Figure → List Bool
 pointed f =
@@ -161,9 +174,12 @@ pointed f =
     ∷ eqb (fixedCount f) (description f .n)
     ∷ everyBelow (description f .n) (λ i. sameTarget (targetOf f (suc (description f .n + i))) (FixedAngle (suc i)))
     ∷ everyBelow (description f .n) (λ i. joinsTwo f (description f .n + i) (lastBefore (3 * description f .n) (3 * i)) (3 * i + 1))
+    ∷ roundInner f
+    ∷ eqb (fixedSum (fixedCount f) + 12_960_000) (description f .n * 6_480_000)
     ∷ []
 
 all-pointed : T (every (ifOfCode 2 pointed) allFigures)
+unfolding listed
 all-pointed = tt
 
 pub point-inside : (f : Figure) → T (isPointInside f) → PointInside f
@@ -177,9 +193,11 @@ point-inside f p = record {
   corner-sum = λ x i h.
       two-sum f (description f .n + i) (lastBefore (3 * description f .n) (3 * i)) (3 * i + 1) x
       (every-below (description f .n) (λ k. joinsTwo f (description f .n + k) (lastBefore (3 * description f .n) (3 * k)) (3 * k + 1)) (test 4 (lit< tt)) i h);
+  inner-angles = λ x. inner-sum f x (test 5 (lit< tt));
+  turns = eqb→eq (fixedSum (fixedCount f) + 12_960_000) (description f .n * 6_480_000) (test 6 (lit< tt));
 }
   where
-    test : (k : ℕ) → k < 5 → T (getD (pointed f) k false)
+    test : (k : ℕ) → k < 7 → T (getD (pointed f) k false)
     test = passed 2 pointed all-pointed f p
 
 -- ---- code 3: after the triangles the angles at the inner point

@@ -5,7 +5,7 @@ use lib.IntN.{ℤ, pos, _+ℤ_, _*ℤ_}
 use Rattle.whole.specs.Lists.{padded}
 use Rattle.whole.specs.Sums.{applied, table}
 use Rattle.figures.specs.declared.Figure.{Figure}
-use Rattle.figures.specs.Figure.{description, denominator, conditionCount, membersOf}
+use Rattle.figures.specs.Figure.{description, denominator, conditionCount, membersOf, horizon}
 
 -- the sum of x over the angles of a condition; x, and the condition, by the index, counted from 0
 unfoldable pub sumOver : List ℕ → (ℕ → ℤ) → ℤ
@@ -15,6 +15,10 @@ sumOver (suc i ∷ others) x = x i +ℤ sumOver others x
 
 unfoldable pub conditionSum : Figure → (ℕ → ℤ) → ℕ → ℤ
 conditionSum f x j = sumOver (membersOf f (suc j)) x
+
+-- the sum of x over the angles at the inner point, of code 2 or 3
+abbrev pub horizonSum : Figure → (ℕ → ℤ) → ℤ
+horizonSum f x = sumOver (horizon (description f .n) .angles) x
 
 -- document 01, "The two passes": the numerator of an angle is its row applied to the misclosures (both by the index, counted from 0)
 unfoldable pub numerator : Figure → (ℕ → ℤ) → ℕ → ℤ

@@ -4,6 +4,7 @@ mod search;
 mod tests;
 
 pub use tests::angles_verdict;
+pub use tests::fixed_sum_verdict;
 pub use tests::fixed_verdict;
 pub use tests::lengths_verdict;
 pub use tests::limit_or_tolerance_verdict;

@@ -3,11 +3,12 @@
 ghost use mathlib.Core.Path.{_≡_};
 ghost use mathlib.Core.List.{_++_};
 ghost use Prim.Native.Nat.{_+_, _*_, _^_};
+ghost use lib.Dec.{eqb};
 ghost use lib.IntN.{pos};
 ghost use Rattle.refusals.specs.Order.{verdictOf};
 ghost use Rattle.refusals.specs.Questions.{sameNumbers};
 ghost use Rattle.refusals.specs.Table.{lengthsRow, limitOrToleranceRow, anglesRow, fixedRow, misclosuresRow};
-ghost use Rattle.refusals.specs.Table.{resultsRow, sineEntriesRow, sumOfSquaresRow};
+ghost use Rattle.refusals.specs.Table.{resultsRow, sineEntriesRow, sumOfSquaresRow, fixedSum, sumOfAll, fixedSumRow};
 ghost use Rattle.judging.specs.Searches.{resultsOf};
 use crate::search::lowest_entry_outside;
 use crate::search::lowest_outside;
@@ -18,6 +19,11 @@ use refusals::Lowest;
 use refusals::MOST_ANGLE;
 use refusals::Refusal;
 use refusals::Verdict;
+
+// Document 02, M-101: what three fixed angles sum to, and four; in tenths.
+const HALF_TURN: u32 = 6_480_000;
+
+const FULL_TURN: u32 = 12_960_000;
 
 fn same_numbers(lent: &[usize], own: &[usize]) -> bool
     ensures { λ same. ⌜ same ≡ sameNumbers (now (lent .entry)) (now (own .entry)) ⌝ }
@@ -118,4 +124,41 @@ pub fn squares_verdict(high: u64, low: u64) -> Verdict
         }
     }
     Verdict::Passed
+}
+
+fn fixed_sum(count: usize) -> u32
+    ensures { λ sum. ⌜ sum ≡ fixedSum count ⌝ }
+{
+    if count == 3 {
+        return HALF_TURN;
+    }
+    if count == 4 { FULL_TURN } else { 0 }
+}
+
+// Each value is taken off the sum, since the sum of any values whatever might not fit.
+fn sums_to(values: &[u32], sum: u32) -> bool
+    ensures { λ same. ⌜ same ≡ eqb (sumOfAll (now (values .entry))) sum ⌝ }
+{
+    let mut left = sum;
+    let mut i = 0;
+    while i < values.len() {
+        let value = values[i];
+        if left < value {
+            return false;
+        }
+        left -= value;
+        i += 1;
+    }
+    left == 0
+}
+
+// Number 14.
+pub fn fixed_sum_verdict(fixed: &[u32]) -> Verdict
+    ensures { λ verdict. ⌜ verdict ≡ verdictOf (fixedSumRow (now (fixed .entry))) ⌝ }
+{
+    if sums_to(fixed, fixed_sum(fixed.len())) {
+        Verdict::Passed
+    } else {
+        Verdict::Failed(Refusal::FixedAnglesDoNotSum)
+    }
 }

@@ -3,14 +3,15 @@ use mathlib.Core.List.{List, [], _∷_}
 use mathlib.Core.Path.{_≡_}
 use Prim.Native.Nat.{ℕ, _≤_, _<_}
 use lib.IntN.{pos, natAbs}
-use lib.ListN.{getD}
+use lib.ListN.{length, getD}
 use lib.Signed.{_≤ℤ_}
 use Rattle.whole.specs.Lists.{listed}
 use Rattle.refusals.specs.declared.Verdict.the-variants.{Passed}
 use Rattle.refusals.specs.Order.{Row, judged}
 use Rattle.refusals.specs.Ranges.{leastAngle, mostAngle, mostLimit}
+use Rattle.refusals.specs.Table.{sumOfAll, fixedSum}
 use Rattle.refusals.proofs.InSteps.{both-parts}
-use Rattle.refusals.proofs.Nowhere.{same-lengths, limit-within, angles-most, fixed-most}
+use Rattle.refusals.proofs.Nowhere.{same-lengths, limit-within, angles-most, fixed-most, fixed-summed}
 use Rattle.refusals.proofs.Rows.{none-holds}
 use Rattle.figures.specs.declared.Figure.{Figure}
 use Rattle.figures.specs.Figure.{angleCount, conditionCount}
@@ -24,6 +25,7 @@ module _ (f : Figure) (limit : ℕ) (angles fixed lent : List ℕ) where
     pub limit-range : limit ≤ mostLimit
     pub angle-most : (i : ℕ) → getD angles i 0 ≤ mostAngle
     pub fixed-angle-most : (i : ℕ) → getD fixed i 0 ≤ mostAngle
+    pub fixed-angles-sum : sumOfAll fixed ≡ fixedSum (length fixed)
 
   pub entries-passed : judged (givenRows f limit angles fixed lent) ≡ Passed → Entries
   entries-passed e =
@@ -33,6 +35,7 @@ module _ (f : Figure) (limit : ℕ) (angles fixed lent : List ℕ) where
         limit-range = limit-within mostLimit limit (none .1 .0);
         angle-most = angles-most angles (none .1 .1 .0);
         fixed-angle-most = fixed-most fixed (none .1 .1 .1 .0);
+        fixed-angles-sum = fixed-summed fixed (none .1 .1 .1 .1 .0);
       }
 
   -- and the others

@@ -53,11 +53,18 @@ abbrev in-triangle : List ℕ
 in-triangle = 4320021 ∷ 1080000 ∷ 1079990 ∷ 4320000 ∷ 1080007 ∷ 1080013 ∷ 4319980 ∷ 1080000 ∷ 1080004 ∷ []
 
 abbrev corners : List ℕ
-corners = 2160003 ∷ 2160000 ∷ 2159999 ∷ []
+corners = 2160001 ∷ 2160000 ∷ 2159999 ∷ []
+
+-- a sheet of code 2 with its fixed angles given
+abbrev in-three : (fixed : List ℕ) → Told → Sheet
+in-three fixed = sheet 2 3 0 in-triangle fixed (9 ∷ 3 ∷ 6 ∷ 9 ∷ 9 ∷ 9 ∷ 6 ∷ [])
 
 abbrev round-point : List ℕ
 round-point =
     3240010 ∷ 1620000 ∷ 1619995 ∷ 3240000 ∷ 1620012 ∷ 1620003 ∷ 3239985 ∷ 1620000 ∷ 1620000 ∷ 3240008 ∷ 1619990 ∷ 1620001 ∷ []
+
+abbrev in-four : (fixed : List ℕ) → Told → Sheet
+in-four fixed = sheet 2 4 0 round-point fixed (12 ∷ 4 ∷ 8 ∷ 12 ∷ 12 ∷ 12 ∷ 8 ∷ [])
 
 abbrev sheets : List Sheet
 sheets =
@@ -79,8 +86,17 @@ sheets =
     ∷ lengths-off (8 ∷ 0 ∷ 3 ∷ 8 ∷ 7 ∷ 8 ∷ 3 ∷ [])
     ∷ lengths-off (8 ∷ 0 ∷ 3 ∷ 8 ∷ 8 ∷ 9 ∷ 3 ∷ [])
     ∷ lengths-off (8 ∷ 0 ∷ 3 ∷ 8 ∷ 8 ∷ 8 ∷ 2 ∷ [])
-    ∷ sheet 2 3 0 in-triangle corners (9 ∷ 3 ∷ 6 ∷ 9 ∷ 9 ∷ 9 ∷ 6 ∷ []) (told 0 0)
-    ∷ sheet 2 3 0 in-triangle (2160003 ∷ 0 ∷ 2159999 ∷ []) (9 ∷ 3 ∷ 6 ∷ 9 ∷ 9 ∷ 9 ∷ 6 ∷ []) (told 5 2)
+    ∷ in-three corners (told 0 0)
+    ∷ in-four (3240002 ∷ 3239998 ∷ 3240000 ∷ 3240000 ∷ []) (told 0 0)
+    -- a tenth over, and a tenth under
+    ∷ in-three (2160002 ∷ 2160000 ∷ 2159999 ∷ []) (told 14 0)
+    ∷ in-three (2160001 ∷ 2160000 ∷ 2159998 ∷ []) (told 14 0)
+    ∷ in-four (3240003 ∷ 3239998 ∷ 3240000 ∷ 3240000 ∷ []) (told 14 0)
+    ∷ in-four (3240002 ∷ 3239998 ∷ 3239999 ∷ 3240000 ∷ []) (told 14 0)
+    -- 5 comes before 14, and 14 before 6; the same misclosure with the right sum
+    ∷ in-three (2160003 ∷ 0 ∷ 2159999 ∷ []) (told 5 2)
+    ∷ in-three (2160001 ∷ 2160200 ∷ 2159999 ∷ []) (told 14 0)
+    ∷ in-three (2160001 ∷ 2160200 ∷ 2159799 ∷ []) (told 6 5)
     ∷ sheet 3 4 0 round-point [] (12 ∷ 0 ∷ 5 ∷ 12 ∷ 12 ∷ 12 ∷ 5 ∷ []) (told 0 0)
     ∷ sheet 3 9 0 round-point [] (12 ∷ 0 ∷ 5 ∷ 12 ∷ 12 ∷ 12 ∷ 5 ∷ []) (told 1 0)
     ∷ []
@@ -111,11 +127,11 @@ valuesOf f angles fixed = record {
 }
 
 in-triangle-worked : valuesOf PointInTriangle in-triangle corners ≡ record {
-  misclosures = pos 11 ∷ pos 20 ∷ minus 16 ∷ pos 1 ∷ minus 3 ∷ pos 14 ∷ [];
-  numerators = minus 54 ∷ minus 76 ∷ pos 20 ∷ minus 64 ∷ pos 10 ∷ minus 146 ∷ pos 88 ∷ pos 6 ∷ pos 66 ∷ [];
-  rounded = minus 5 ∷ minus 8 ∷ pos 2 ∷ minus 6 ∷ pos 1 ∷ minus 15 ∷ pos 9 ∷ pos 1 ∷ pos 7 ∷ [];
-  results = 4320016 ∷ 1079992 ∷ 1079992 ∷ 4319994 ∷ 1080008 ∷ 1079998 ∷ 4319989 ∷ 1080001 ∷ 1080011 ∷ [];
-  rests = pos 0 ∷ pos 0 ∷ pos 1 ∷ pos 0 ∷ pos 0 ∷ pos 0 ∷ [];
+  misclosures = pos 11 ∷ pos 20 ∷ minus 16 ∷ pos 3 ∷ minus 3 ∷ pos 14 ∷ [];
+  numerators = minus 46 ∷ minus 86 ∷ pos 22 ∷ minus 60 ∷ pos 8 ∷ minus 148 ∷ pos 96 ∷ pos 8 ∷ pos 56 ∷ [];
+  rounded = minus 5 ∷ minus 9 ∷ pos 2 ∷ minus 6 ∷ pos 1 ∷ minus 15 ∷ pos 10 ∷ pos 1 ∷ pos 6 ∷ [];
+  results = 4320016 ∷ 1079991 ∷ 1079992 ∷ 4319994 ∷ 1080008 ∷ 1079998 ∷ 4319990 ∷ 1080001 ∷ 1080010 ∷ [];
+  rests = minus 1 ∷ pos 0 ∷ pos 1 ∷ pos 0 ∷ pos 0 ∷ pos 0 ∷ [];
 }
 unfolding listed misclosure firstNumerator firstRounded corrected firstRest conditionSum sumOver numerator applied dot sum roundedQuotient nearest
 in-triangle-worked = refl

@@ -1,4 +1,4 @@
--- The first pass: document 01, "The two passes". Angles and conditions are used by their indices, counted from 0.
+-- The first pass: document 01, "The two passes", and document 02, M-101, for number 14. Angles and conditions are used by their indices, counted from 0.
 use Prim.Native.Nat.{ℕ, suc}
 use mathlib.Core.List.{List, [], _∷_, _++_}
 use lib.IntN.{ℤ, pos, natAbs, _+ℤ_, _-ℤ_}
@@ -8,7 +8,7 @@ use Rattle.refusals.specs.declared.Verdict.{Verdict}
 use Rattle.refusals.specs.Numbers.{numbered}
 use Rattle.refusals.specs.Order.{Row, judged}
 use Rattle.refusals.specs.Ranges.{mostLimit}
-use Rattle.refusals.specs.Table.{figureRow, lengthsRow, limitOrToleranceRow, anglesRow, fixedRow, misclosuresRow, resultsRow}
+use Rattle.refusals.specs.Table.{figureRow, lengthsRow, limitOrToleranceRow, anglesRow, fixedRow, fixedSumRow, misclosuresRow, resultsRow}
 use Rattle.figures.specs.declared.Figure.{Figure}
 use Rattle.figures.specs.declared.Target.{Target}
 use Rattle.figures.specs.declared.Target.the-variants.{HalfTurn, FullTurn, FixedAngle, NoCondition}
@@ -65,7 +65,7 @@ correctedOf f angles fixed = listed (angleCount f) (λ i. natAbs (corrected f an
 abbrev pub restsOf : Figure → (angles fixed : List ℕ) → List ℤ
 restsOf f angles fixed = listed (conditionCount f) (firstRest f angles fixed)
 
--- ---- the order: 1, 2, 3, 4, 5, 6, 7
+-- ---- the order: 1, 2, 3, 4, 5, 14, 6, 7
 
 -- number 2: the lengths of misclosures, numerators, rounded corrections, corrected angles and rests
 abbrev pub firstResultLengths : Figure → List ℕ
@@ -75,20 +75,21 @@ firstResultLengths f = conditionCount f ∷ angleCount f ∷ angleCount f ∷ an
 abbrev pub firstLengths : Figure → List ℕ
 firstLengths f = angleCount f ∷ fixedCount f ∷ firstResultLengths f
 
--- 2 to 5: what can be said before any work
+-- 2 to 5, and 14: what can be said before any work
 abbrev pub givenRows : Figure → (limit : ℕ) → (angles fixed lent : List ℕ) → List Row
 givenRows f limit angles fixed lent =
     lengthsRow lent (firstLengths f)
     ∷ limitOrToleranceRow mostLimit limit
     ∷ anglesRow angles
     ∷ fixedRow fixed
+    ∷ fixedSumRow fixed
     ∷ []
 
 -- 6 and 7: what the work says
 abbrev pub workRows : (limit : ℕ) → (misclosures corrected : List ℤ) → List Row
 workRows limit misclosures corrected = misclosuresRow (limitOf limit) misclosures ∷ resultsRow corrected ∷ []
 
--- of a figure: 2, 3, 4, 5, 6, 7
+-- of a figure: 2, 3, 4, 5, 14, 6, 7
 unfoldable pub firstRows : Figure → (limit : ℕ) → (angles fixed lent : List ℕ) → List Row
 firstRows f limit angles fixed lent =
     givenRows f limit angles fixed lent

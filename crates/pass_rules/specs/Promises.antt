@@ -77,7 +77,7 @@ firstLeft given lent =
 abbrev pub FirstPromise : FirstGiven → (entry : FirstLent) → (answer : Verdict) → (exit : FirstLent) → Type 0
 FirstPromise given entry answer exit = Promised (firstAnswer given entry) (firstLeft given entry) answer exit
 
--- of a figure that is named already: 2, 3, 4, 5, 6, 7
+-- of a figure that is named already: 2, 3, 4, 5, 14, 6, 7
 abbrev pub firstVerdictOf : Figure → (limit : ℕ) → (angles fixed : List ℕ) → FirstLent → Verdict
 firstVerdictOf f limit angles fixed lent = judged (firstRows f limit angles fixed (firstSlices angles fixed lent))
 

@@ -1,4 +1,4 @@
-// The order of the first pass: document 01, "Numbers given when a sheet is turned back".
+// The order of the first pass: document 01, "Numbers given when a sheet is turned back", and M-101 for number 14.
 ghost use mathlib.Core.Path.{_≡_};
 ghost use mathlib.Core.List.{_∷_};
 ghost use lib.ListN.{length};
@@ -8,6 +8,7 @@ use crate::ResultLengths;
 use crate::in_force;
 use figures::Figure;
 use judging::angles_verdict;
+use judging::fixed_sum_verdict;
 use judging::fixed_verdict;
 use judging::lengths_verdict;
 use judging::limit_or_tolerance_verdict;
@@ -50,7 +51,7 @@ fn first_lengths(angles: usize, fixed: usize, results: ResultLengths) -> [usize;
     ]
 }
 
-// Numbers 2 to 5: what can be said before any work.
+// Numbers 2 to 5, and 14: what can be said before any work.
 pub fn first_given_verdict(
     figure: Figure,
     limit: u32,
@@ -69,8 +70,10 @@ pub fn first_given_verdict(
     let range = limit_or_tolerance_verdict(limit, MOST_LIMIT);
     let angle = angles_verdict(angles);
     let fixed_angle = fixed_verdict(fixed);
+    let fixed_sum = fixed_sum_verdict(fixed);
+    let fixed_angles = first_to_fail(fixed_angle, fixed_sum);
     first_to_fail(
         lengths,
-        first_to_fail(range, first_to_fail(angle, fixed_angle)),
+        first_to_fail(range, first_to_fail(angle, fixed_angles)),
     )
 }

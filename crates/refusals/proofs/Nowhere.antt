@@ -1,7 +1,7 @@
 -- What it says of the values that a row holds nowhere: they are as the table wants them. Assumes nothing.
 use Prim.Native.Nat.{ℕ, zero, suc, _*_, _≤_, _<_, zero-le, suc-le-suc}
 use mathlib.Core.Bool.{false}
-use mathlib.Core.List.{List}
+use mathlib.Core.List.{List, []}
 use mathlib.Core.Logic.{inl, inr}
 use mathlib.Core.Path.{_≡_, refl, sym, subst}
 use native.Mathlib.Decide.{decLt}
@@ -13,9 +13,9 @@ use lib.ListN.{length, getD, List·getD-eq-default}
 use lib.Signed.{_≤ℤ_}
 use Rattle.refusals.specs.Numbers.{numbered}
 use Rattle.refusals.specs.Order.{row, rowAt, HoldsNowhere}
-use Rattle.refusals.specs.Questions.{Question, lessSigned, differ, outside, outsideSigned, Holds, asked, sameNumbers}
+use Rattle.refusals.specs.Questions.{Question, lessSigned, unequal, differ, outside, outsideSigned, Holds, asked, sameNumbers}
 use Rattle.refusals.specs.Ranges.{leastAngle, mostAngle, leastLogSine, mostLogSine, mostDifference}
-use Rattle.refusals.specs.Table.{lengthsRow, limitOrToleranceRow, anglesRow, fixedRow, misclosuresRow, resultsRow, sineEntriesRow, sineMisclosureRow, sumOfSquaresRow, sheetSizeRow}
+use Rattle.refusals.specs.Table.{lengthsRow, limitOrToleranceRow, anglesRow, fixedRow, misclosuresRow, resultsRow, sineEntriesRow, sineMisclosureRow, sumOfSquaresRow, sheetSizeRow, sumOfAll, fixedSum, fixedSumRow}
 use Rattle.refusals.proofs.Decided.{decided-not, not-less-signed}
 use Rattle.refusals.proofs.NumberLists.{same-lists}
 
@@ -42,16 +42,27 @@ tolerance-kept e w squares none = not-less-signed _ _ .0 (not-asked 9 (lessSigne
 pub squares-not-zero : (s : ℤ) → HoldsNowhere (sumOfSquaresRow s) → s ≡ pos 0 → ⊥
 squares-not-zero s none is-zero = none 0 (refl, is-zero)
 
--- 12
-pub size-right : (size own : ℕ) → HoldsNowhere (sheetSizeRow size own) → size ≡ own
-size-right size own none =
-    let is : ¬ (size ≡ own → ⊥) = λ differs. none 0 (refl, differs) in
-    go (decLt size own) (decLt own size) is
+are-equal : (k a b : ℕ) → HoldsNowhere (row k (unequal a b)) → a ≡ b
+are-equal k a b none =
+    let is : ¬ (a ≡ b → ⊥) = λ differs. none 0 (refl, differs) in
+    go (decLt a b) (decLt b a) is
   where
-    go : Dec (size < own) → Dec (own < size) → ¬ (size ≡ own → ⊥) → size ≡ own
+    go : Dec (a < b) → Dec (b < a) → ¬ (a ≡ b → ⊥) → a ≡ b
     go (yes less) more is = absurd (is (λ e. omega arith))
     go (no less) (yes more) is = absurd (is (λ e. omega arith))
     go (no less) (no more) is = omega arith
+
+-- 12
+pub size-right : (size own : ℕ) → HoldsNowhere (sheetSizeRow size own) → size ≡ own
+size-right = are-equal 12
+
+-- 14
+pub fixed-summed : (fixed : List ℕ) → HoldsNowhere (fixedSumRow fixed) → sumOfAll fixed ≡ fixedSum (length fixed)
+fixed-summed fixed = are-equal 14 (sumOfAll fixed) (fixedSum (length fixed))
+
+-- a sheet without fixed angles is never given it
+pub nothing-to-sum : HoldsNowhere (fixedSumRow [])
+nothing-to-sum p held = held .1 refl
 
 -- ---- values within their range
 

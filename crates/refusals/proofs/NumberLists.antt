@@ -1,4 +1,4 @@
--- Lists of numbers, compared one by one. Assumes nothing.
+-- Lists of numbers, compared and added up one by one. Assumes nothing.
 use mathlib.Core.Path.{_≡_, refl, sym, ap, ap₂, _∙_}
 use mathlib.Core.Bool.{Bool, true, false, _&&_, false≢true}
 use mathlib.Core.List.{List, [], _∷_}
@@ -9,6 +9,7 @@ use lib.Dec.{eqb}
 use lib.ListN.{length, getD, drop}
 use lib.Seq.{drop-cons, drop-length}
 use Rattle.refusals.specs.Questions.{sameNumbers}
+use Rattle.refusals.specs.Table.{sumOfAll}
 
 and-false : (a : Bool) {b : Bool} → b ≡ false → (a && b) ≡ false
 and-false true e = e
@@ -55,3 +56,11 @@ same-lists (l ∷ ls) (m ∷ ms) e =
 pub same-itself : (a : List ℕ) → sameNumbers a a ≡ true
 same-itself [] = refl
 same-itself (l ∷ ls) = ap (λ (t : Bool). t && sameNumbers ls ls) (eq-eqb l l refl) ∙ same-itself ls
+
+-- ---- what is left of a sum
+
+pub sum-next : (values : List ℕ) (i : ℕ) → i < length values → sumOfAll (drop i values) ≡ getD values i 0 + sumOfAll (drop (i + 1) values)
+sum-next values i h = ap sumOfAll (drop-cons values i 0 h) ∙ ap (λ (n : ℕ). getD values i 0 + sumOfAll (drop n values)) (sym (add-one i))
+
+pub sum-past : (values : List ℕ) → sumOfAll (drop (length values) values) ≡ 0
+sum-past values = ap sumOfAll (drop-length values)

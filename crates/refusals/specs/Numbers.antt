@@ -1,4 +1,5 @@
--- The table of document 01, "Numbers given when a sheet is turned back": the number of each refusal, and its place.
+-- The table of document 01, "Numbers given when a sheet is turned back", with what document 02 adds to it: the number of each refusal, and its
+-- place.
 use Prim.Native.Nat.{ℕ, zero, suc}
 use mathlib.Core.List.{List, [], _∷_}
 use lib.ListN.{getD}
@@ -21,6 +22,7 @@ numberOf Refusal.SumOfSquaresIsZero = 10
 numberOf Refusal.NoSuchKind = 11
 numberOf Refusal.WrongSheetLength = 12
 numberOf Refusal.FillingBitSet = 13
+numberOf Refusal.FixedAnglesDoNotSum = 14
 
 -- the column "Place"
 abbrev pub placeOf : Refusal → ℕ
@@ -37,6 +39,7 @@ placeOf Refusal.SumOfSquaresIsZero = 0
 placeOf Refusal.NoSuchKind = 0
 placeOf Refusal.WrongSheetLength = 0
 placeOf Refusal.FillingBitSet = 0
+placeOf Refusal.FixedAnglesDoNotSum = 0
 
 -- ---- the table by number
 
@@ -61,6 +64,7 @@ tableAt place =
     ∷ Refusal.NoSuchKind
     ∷ Refusal.WrongSheetLength
     ∷ Refusal.FillingBitSet
+    ∷ Refusal.FixedAnglesDoNotSum
     ∷ []
 
 -- the refusal with a number of the table, at a place

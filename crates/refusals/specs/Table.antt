@@ -1,7 +1,8 @@
 -- The rows of the table, each once: document 01, "Numbers given when a sheet is turned back". An operation's order is a list of these.
-use Prim.Native.Nat.{ℕ, _*_}
-use mathlib.Core.Bool.{Bool}
+use Prim.Native.Nat.{ℕ, _+_, _*_}
+use mathlib.Core.Bool.{Bool, cond}
 use mathlib.Core.List.{List, [], _∷_}
+use lib.Dec.{eqb}
 use lib.IntN.{ℤ, pos, negℤ, _*ℤ_}
 use lib.ListN.{length}
 use Rattle.refusals.specs.Numbers.{numbered}
@@ -69,3 +70,15 @@ sheetSizeRow size own = row 12 (unequal size own)
 -- 13: a filling bit is 1
 abbrev pub fillingRow : (bits : List Bool) → Row
 fillingRow bits = row 13 (someOne bits)
+
+-- 14: the fixed angles do not sum to 180° where there are three (n = 3), to 360° where there are four (n = 4), document 02, M-101; where
+-- there are none, their sum is 0
+abbrev pub fixedSum : (count : ℕ) → ℕ
+fixedSum count = cond (eqb count 3) 6_480_000 (cond (eqb count 4) 12_960_000 0)
+
+abbrev pub sumOfAll : List ℕ → ℕ
+sumOfAll [] = 0
+sumOfAll (value ∷ others) = value + sumOfAll others
+
+abbrev pub fixedSumRow : (fixed : List ℕ) → Row
+fixedSumRow fixed = row 14 (unequal (sumOfAll fixed) (fixedSum (length fixed)))

@@ -45,6 +45,8 @@ pub enum Refusal {
     WrongSheetLength,
     // 13: a filling bit is 1.
     FillingBitSet,
+    // 14: the fixed angles do not sum to 180° (n = 3) or 360° (n = 4).
+    FixedAnglesDoNotSum,
 }
 
 // What a test says.
@@ -76,6 +78,7 @@ pub fn number_of(refusal: Refusal) -> u32
         Refusal::NoSuchKind => 11,
         Refusal::WrongSheetLength => 12,
         Refusal::FillingBitSet => 13,
+        Refusal::FixedAnglesDoNotSum => 14,
     }
 }
 
@@ -96,6 +99,7 @@ pub fn place_of(refusal: Refusal) -> usize
         Refusal::NoSuchKind => 0,
         Refusal::WrongSheetLength => 0,
         Refusal::FillingBitSet => 0,
+        Refusal::FixedAnglesDoNotSum => 0,
     }
 }
 

@@ -52,7 +52,7 @@ module _ (kind : Kind) (f : Figure) (sheet : List ℕ) where
       → PlacesWithin mostAngles (bodyRows kind f sheet lent ++ later)
   unfolding bodyRows
   body-within lent later within =
-      λ size lengths filling limit. (angles-few, λ angles. (fixed-few, λ fixed. (entries-few, λ entries. within)))
+      λ size lengths filling limit. (angles-few, λ angles. (fixed-few, λ fixed summed. (entries-few, λ entries. within)))
 
 -- ---- the passes, where slices of the right lengths are few values
 
@@ -67,7 +67,7 @@ first-within f limit angles fixed lent few = λ lengths range. (
   few lengths .0,
   λ angle. (
     few lengths .1,
-    λ fixed-angle. (
+    λ fixed-angle summed. (
       rw (length-listed (conditionCount f) (misclosure f angles fixed)) (conditions-few f),
       λ misclosures. (rw (length-listed (angleCount f) (corrected f angles fixed)) (angle-bound f), λ results. tt),
     ),

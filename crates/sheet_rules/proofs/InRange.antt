@@ -30,14 +30,14 @@ Within log = (leastLogSine ≤ log) × (log ≤ mostLogSine)
 pub in-range : (kind : Kind) (v : Values) → NoneHolds (valueRows kind v) → InRange kind v
 in-range kind v none =
     let entries : List ℕ = v .logSines ++ v .logSides in
-    let each = log-sines-within entries (v .differences) (none .1 .1 .1 .0) in
+    let each = log-sines-within entries (v .differences) (none .1 .1 .1 .1 .0) in
     let both : length entries ≡ length (v .logSines) + length (v .logSides) = length-append (v .logSines) (v .logSides) in
     record {
       limitOrTolerance = limit-within (mostLimitOrTolerance kind) (v .limitOrTolerance) (none .0);
       angles = angles-within (v .angles) (none .1 .0);
       fixed = fixed-within (v .fixed) (none .1 .1 .0);
       logSines = λ i h. subst Within (List·getD-append (v .logSines) (v .logSides) 0 i h) (each i (omega arith));
-      differences = λ i h. differences-within entries (v .differences) (none .1 .1 .1 .0) i (omega arith);
+      differences = λ i h. differences-within entries (v .differences) (none .1 .1 .1 .1 .0) i (omega arith);
       logSides = λ i h. subst Within (getD-append-add (v .logSines) (v .logSides) i 0) (each (length (v .logSines) + i) (omega arith));
     }
 

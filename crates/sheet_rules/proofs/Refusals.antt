@@ -30,7 +30,7 @@ module _ (s : List ℕ) where
   pub head-tells : lookTold (lookOf s) ≡ verdictTold (judged (headRows s))
   head-tells = look-told (lookOf s) ∙ ap verdictTold (look-judged s)
 
--- ---- the reader: 12 if under two bytes, then 11, 1, 12, 2, 13, 3, 4, 5, 8
+-- ---- the reader
 
 module _ (s lent : List ℕ) where
   abbrev rowsAfter : Look → List Row
@@ -67,7 +67,7 @@ module _ (s lent : List ℕ) where
       go (Head kind f) = ap (λ (v : Verdict). afterReading (readingAfter v kind f s) values before) e
       go (Look.Refused other) = refl
 
--- ---- the writer: 11, 1, 2, 3, 4, 5, 8
+-- ---- the writer
 
 module _ (kind code n : ℕ) (v : Values) (size : ℕ) where
   pub writer-in-table : T (allInTable (writerRows kind code n v size))

@@ -1,5 +1,5 @@
--- How sheets are turned back: document 01, "Numbers given when a sheet is turned back". The reader's order and the writer's, each as one list of rows.
--- Both begin with the rows of the head (specs/Head.antt of `sheet_layout`).
+-- How sheets are turned back: document 01, "Numbers given when a sheet is turned back", and document 02, M-101, for number 14. The reader's order and
+-- the writer's, each as one list of rows. Both begin with the rows of the head (specs/Head.antt of `sheet_layout`).
 use Prim.Native.Nat.{ℕ}
 use mathlib.Core.Bool.{Bool}
 use mathlib.Core.List.{List, [], _∷_, _++_}
@@ -9,7 +9,7 @@ use Rattle.refusals.specs.declared.Verdict.the-variants.{Passed, Failed}
 use Rattle.refusals.specs.Numbers.{Told, told, refusalTold}
 use Rattle.refusals.specs.Order.{Row, judged}
 use Rattle.refusals.specs.Ranges.{mostLimit, mostTolerance}
-use Rattle.refusals.specs.Table.{lengthsRow, limitOrToleranceRow, anglesRow, fixedRow, sineEntriesRow, sheetSizeRow, fillingRow}
+use Rattle.refusals.specs.Table.{lengthsRow, limitOrToleranceRow, anglesRow, fixedRow, fixedSumRow, sineEntriesRow, sheetSizeRow, fillingRow}
 use Rattle.figures.specs.declared.Figure.{Figure}
 use Rattle.bits.specs.Bits.{bitsOf}
 use Rattle.sheet_layout.specs.declared.Kind.{Kind}
@@ -22,7 +22,7 @@ use Rattle.sheet_rules.specs.declared.Reading.{Reading}
 use Rattle.sheet_rules.specs.declared.Reading.the-variants.{Read}
 use Rattle.sheet_rules.specs.Sheet.{Values, valuesRead, packedSheet}
 
--- ---- the values: 3, 4, 5, 8
+-- ---- the values: 3, 4, 5, 14, 8
 
 -- L in kind 1, e in kind 2
 abbrev pub mostLimitOrTolerance : Kind → ℕ
@@ -35,6 +35,7 @@ valueRows kind v =
     limitOrToleranceRow (mostLimitOrTolerance kind) (v .limitOrTolerance)
     ∷ anglesRow (v .angles)
     ∷ fixedRow (v .fixed)
+    ∷ fixedSumRow (v .fixed)
     ∷ sineEntriesRow (v .logSines ++ v .logSides) (v .differences)
     ∷ []
 
@@ -48,13 +49,13 @@ ownLengths kind f =
 abbrev pub lengthsGiven : Values → List ℕ
 lengthsGiven v = length (v .angles) ∷ length (v .fixed) ∷ length (v .logSines) ∷ length (v .differences) ∷ length (v .logSides) ∷ []
 
--- ---- the reader: 12 if under two bytes, then 11, 1, 12, 2 (slices lent for the values), 13, 3, 4, 5, 8
+-- ---- the reader: 12 if under two bytes, then 11, 1, 12, 2 (slices lent for the values), 13, 3, 4, 5, 14, 8
 
 -- the bits after the last field
 abbrev pub fillingBits : Kind → Figure → (sheet : List ℕ) → List Bool
 fillingBits kind f sheet = drop (bitCount kind f) (bitsOf sheet)
 
--- once kind and figure are known: 12, 2, 13, 3, 4, 5, 8
+-- once kind and figure are known: 12, 2, 13, 3, 4, 5, 14, 8
 unfoldable pub bodyRows : Kind → Figure → (sheet lent : List ℕ) → List Row
 bodyRows kind f sheet lent =
     sheetSizeRow (length sheet) (sheetSize kind f)
@@ -88,9 +89,9 @@ abbrev pub afterReading : {A : Type 0} → Reading → (values : Kind → Figure
 afterReading (Read kind f limitOrTolerance) values before = values kind f
 afterReading (Reading.Refused refusal) values before = before
 
--- ---- the writer: 11, 1, 2, 3, 4, 5, 8
+-- ---- the writer: 11, 1, 2, 3, 4, 5, 14, 8
 
--- once kind and figure are known: 2, 3, 4, 5, 8; `size` is the length of the byte slice that is lent
+-- once kind and figure are known: 2, 3, 4, 5, 14, 8; `size` is the length of the byte slice that is lent
 unfoldable pub givenRows : Kind → Figure → Values → (size : ℕ) → List Row
 givenRows kind f v size =
     lengthsRow (lengthsGiven v ++ (size ∷ [])) (ownLengths kind f ++ (sheetSize kind f ∷ [])) ∷ valueRows kind v

@@ -6,6 +6,7 @@ ghost use Rattle.sheet_rules.specs.Sheet.{valuesFrom};
 ghost use Rattle.sheet_rules.specs.Judging.{mostLimitOrTolerance, valueRows};
 use figures::Figure;
 use judging::angles_verdict;
+use judging::fixed_sum_verdict;
 use judging::fixed_verdict;
 use judging::limit_or_tolerance_verdict;
 use judging::sine_entries_verdict;
@@ -39,7 +40,7 @@ fn most_limit_or_tolerance(kind: Kind) -> u32
     }
 }
 
-// The tests of a sheet's values, 3, 4, 5 and 8, whether they were read or are to be written.
+// The tests of a sheet's values, 3, 4, 5, 14 and 8, whether they were read or are to be written.
 pub fn values_verdict(
     kind: Kind,
     limit_or_tolerance: u32,
@@ -52,11 +53,11 @@ pub fn values_verdict(
     ensures { λ verdict. ⌜ verdict ≡ judged (valueRows kind (valuesFrom «limit_or_tolerance»
         (now (angles .entry)) (now (fixed .entry)) (now («log_sines» .entry)) (now (differences .entry)) (now («log_sides» .entry)))) ⌝ }
 {
-    let limit = limit_or_tolerance_verdict(limit_or_tolerance, most_limit_or_tolerance(kind));
-    let observed = first_to_fail(limit, angles_verdict(angles));
-    let others = first_to_fail(
-        fixed_verdict(fixed),
-        sine_entries_verdict(log_sines, log_sides, differences),
-    );
-    first_to_fail(observed, others)
+    let range = limit_or_tolerance_verdict(limit_or_tolerance, most_limit_or_tolerance(kind));
+    let angle = angles_verdict(angles);
+    let fixed_angle = fixed_verdict(fixed);
+    let fixed_sum = fixed_sum_verdict(fixed);
+    let sines = sine_entries_verdict(log_sines, log_sides, differences);
+    let others = first_to_fail(fixed_angle, first_to_fail(fixed_sum, sines));
+    first_to_fail(range, first_to_fail(angle, others))
 }

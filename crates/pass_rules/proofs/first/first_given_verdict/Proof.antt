@@ -7,7 +7,7 @@ use denote.Ref.{now}
 use lib.ListN.{length}
 use Rattle.refusals.specs.Order.{verdictOf}
 use Rattle.refusals.specs.Ranges.{mostLimit}
-use Rattle.refusals.specs.Table.{lengthsRow, limitOrToleranceRow, anglesRow, fixedRow}
+use Rattle.refusals.specs.Table.{lengthsRow, limitOrToleranceRow, anglesRow, fixedRow, fixedSumRow}
 use Rattle.refusals.proofs.InSteps.{last-row, next-row}
 use Rattle.figures.specs.declared.Counts.{Counts}
 use Rattle.pass_rules.specs.FirstPass.{firstLengths}
@@ -21,17 +21,20 @@ own c =
 
 returns : tie.Need-returns
 returns c =
-    let fixed = c .before .before .before in
+    let both = c .before .before .before in
+    let summed = both .before in
+    let fixed = summed .before in
     let lengths = fixed .before .before .before in
     let made = lengths .before .before .before in
     let lent = made .before .before in
     let args = lent .before .before .before .before .args in
     let lent-are = length (now (args .angles)) ∷ length (now (args .fixed)) ∷ args .results in
     next-row (lengthsRow lent-are (firstLengths (args .figure)))
-    (lengths .lengths-verdict .ensures ∙ ap₂ (λ (l o : List ℕ). verdictOf (lengthsRow l o)) (lent .first-lengths .ensures) (own made)) (c .first-to-fail3 .ensures)
-    (next-row (limitOrToleranceRow mostLimit (args .limit)) (fixed .before .before .limit-or-tolerance-verdict .ensures) (c .before .first-to-fail2 .ensures)
-    (next-row (anglesRow (now (args .angles))) (fixed .before .angles-verdict .ensures) (c .before .before .first-to-fail .ensures)
-    (last-row (fixedRow (now (args .fixed))) (fixed .fixed-verdict .ensures))))
+    (lengths .lengths-verdict .ensures ∙ ap₂ (λ (l o : List ℕ). verdictOf (lengthsRow l o)) (lent .first-lengths .ensures) (own made)) (c .first-to-fail4 .ensures)
+    (next-row (limitOrToleranceRow mostLimit (args .limit)) (fixed .before .before .limit-or-tolerance-verdict .ensures) (c .before .first-to-fail3 .ensures)
+    (next-row (anglesRow (now (args .angles))) (fixed .before .angles-verdict .ensures) (c .before .before .first-to-fail2 .ensures)
+    (next-row (fixedRow (now (args .fixed))) (fixed .fixed-verdict .ensures) (both .first-to-fail .ensures)
+    (last-row (fixedSumRow (now (args .fixed))) (summed .fixed-sum-verdict .ensures)))))
     .is
 
 pub first-given-verdict-spec : {M : Type 1} → statement M
@@ -44,6 +47,8 @@ first-given-verdict-spec =
     (λ c κs. search needs)
     (λ c. search needs)
     (λ c. search needs)
+    (λ c κs. search needs)
+    (λ c κs. search needs)
     (λ c κs. search needs)
     (λ c κs. search needs)
     (λ c κs. search needs)

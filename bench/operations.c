@@ -17,12 +17,12 @@ enum { MOST_TASKS = 1024 };
 
 bool takes(enum operation operation, const struct task *task)
 {
-    const uint32_t kind = task->head[BIENGULOC_HEAD_KIND], log_sides = task->head[BIENGULOC_LOOK_LOG_SIDES];
+    const uint32_t log_sines = task->head[BIENGULOC_LOOK_LOG_SINES], log_sides = task->head[BIENGULOC_LOOK_LOG_SIDES];
     switch (operation) {
     case FIRST_PASS:
-        return kind == 1;
+        return log_sines == 0;
     case SECOND_PASS:
-        return kind == 2 && log_sides == 0;
+        return log_sines != 0 && log_sides == 0;
     case TWO_SINES:
         return log_sides != 0;
     default:
@@ -52,10 +52,17 @@ static uint32_t write_values(const struct library *library, const struct task *t
         desk->sheet, task->size);
 }
 
+/* L of a sheet as the pass is handed it: 0 stands for its own default, which is not that of kind 1. */
+static uint32_t limit_of(const struct values *v)
+{
+    const uint32_t limit = v->head[BIENGULOC_READ_LIMIT_OR_TOLERANCE];
+    return limit == 0 && v->head[BIENGULOC_HEAD_KIND] == 1 ? BIENGULOC_DEFAULT_LIMIT_OF_KIND_1 : limit;
+}
+
 static uint32_t first_pass(const struct library *library, const uint32_t *head, const struct values *v, struct desk *desk)
 {
     const size_t angles = head[BIENGULOC_LOOK_ANGLES], conditions = head[BIENGULOC_LOOK_CONDITIONS];
-    return library->first_pass(v->head[1], v->head[2], v->head[3], v->angles, angles, v->fixed, head[BIENGULOC_LOOK_FIXED],
+    return library->first_pass(v->head[1], v->head[2], limit_of(v), v->angles, angles, v->fixed, head[BIENGULOC_LOOK_FIXED],
         desk->misclosures, conditions, desk->numerators, angles, desk->rounded, angles, desk->results, angles, desk->rests, conditions);
 }
 
@@ -76,7 +83,7 @@ static uint32_t whole_sheet(const struct library *library, const struct task *ta
         answer = read_values(library, task, desk->head, &desk->values);
     if (answer != BIENGULOC_DONE)
         return answer;
-    const bool first = desk->head[BIENGULOC_HEAD_KIND] == 1;
+    const bool first = desk->head[BIENGULOC_LOOK_LOG_SINES] == 0;
     return (first ? first_pass : second_pass)(library, desk->head, &desk->values, desk);
 }
 

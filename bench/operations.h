@@ -60,7 +60,7 @@ enum operation { LOOK, READ, WRITE, FIRST_PASS, SECOND_PASS, TWO_SINES, REPORT, 
 
 extern const char *const operation_names[OPERATIONS];
 
-/* A pass takes the sheets of its kind, every other operation all. The second pass of the figures with one sine condition and of those
+/* A pass takes the sheets of its kinds, every other operation all. The second pass of the figures with one sine condition and of those
  * with two are measured by themselves. */
 bool takes(enum operation operation, const struct task *task);
 

@@ -1,4 +1,4 @@
-/* The operations of the library in plain C, from document 01, and from M-100 and M-101 of document 02: figures by table, the central
+/* The operations of the library in plain C, from document 01, and from M-100 to M-102 of document 02: figures by table, the central
  * polygon by its formula, two sine conditions in the compiler's 128-bit numbers, sheets by four bytes at a time through a 64-bit
  * register, every loop over the figure's own count, results held back until every test has passed. */
 #include "peer.h"
@@ -18,7 +18,7 @@ enum {
     MOST_DIFFERENCE = 9999,
     MOST_LIMIT = 600,
     MOST_TOLERANCE = 50,
-    DEFAULT_LIMIT = 150,
+    DEFAULT_LIMIT = 90, /* of a pass that is called directly; a sheet has that of its kind */
     DEFAULT_TOLERANCE = 10,
     ANGLE_BITS = 23,
     LOG_SINE_BITS = 27,
@@ -45,6 +45,14 @@ enum refusal_number {
     FILLING,
     FIXED_SUM
 };
+
+enum pass { NO_PASS, FIRST, SECOND };
+
+/* By the number of a kind: the pass that it is for, and what 0 stands for where the sheet has L or e. */
+static const struct {
+    enum pass pass;
+    uint32_t stands_for;
+} kinds[16] = {[1] = {FIRST, 150}, [2] = {SECOND, DEFAULT_TOLERANCE}, [3] = {FIRST, DEFAULT_LIMIT}};
 
 struct figure {
     uint32_t code, n;
@@ -121,6 +129,16 @@ static const int32_t four_corner_rows[12][8] = {
 static uint32_t refused(enum refusal_number number, uint32_t place)
 {
     return 256u * (uint32_t)number + place;
+}
+
+static bool is_kind(uint32_t kind)
+{
+    return kind < sizeof kinds / sizeof *kinds && kinds[kind].pass != NO_PASS;
+}
+
+static bool is_first(uint32_t kind)
+{
+    return kinds[kind].pass == FIRST;
 }
 
 static const struct figure *figure_of(uint32_t code, uint32_t n)
@@ -610,7 +628,7 @@ static size_t sheet_size(uint32_t kind, const struct figure *f)
 {
     const size_t row = ANGLE_BITS + LOG_SINE_BITS + DIFFERENCE_BITS;
     const size_t first = 22 + ANGLE_BITS * (size_t)(f->angles + f->fixed), second = 18 + LOG_SIDE_BITS * (size_t)f->sides + row * f->angles;
-    return ((kind == 1 ? first : second) + 7) / 8;
+    return ((is_first(kind) ? first : second) + 7) / 8;
 }
 
 /* The kind and figure of a sheet, into v; 12 of one without a head, then 11 and 1. */
@@ -619,7 +637,7 @@ static uint32_t take_head(const uint8_t *sheet, size_t size, struct values *v)
     if (size < 2)
         return refused(SHEET_LENGTH, 0);
     v->kind = sheet[0] >> 4;
-    if (v->kind != 1 && v->kind != 2)
+    if (!is_kind(v->kind))
         return refused(NO_KIND, 0);
     v->figure = figure_of(sheet[0] & 15, sheet[1] >> 4);
     return v->figure ? 0 : refused(NO_FIGURE, 0);
@@ -630,8 +648,8 @@ static uint32_t take_values(const uint8_t *sheet, size_t size, struct values *v)
 {
     const struct figure *f = v->figure;
     struct bits_in in = {sheet + 2, sheet + size, sheet[1] & 15, 4};
-    v->limit = take(&in, v->kind == 1 ? 10 : 6);
-    if (v->kind == 1) {
+    v->limit = take(&in, is_first(v->kind) ? 10 : 6);
+    if (is_first(v->kind)) {
         for (uint32_t i = 0; i < f->angles; i++)
             v->angles[i] = take(&in, ANGLE_BITS);
         for (uint32_t i = 0; i < f->fixed; i++)
@@ -652,7 +670,7 @@ static uint32_t take_values(const uint8_t *sheet, size_t size, struct values *v)
 static uint32_t judge_values(const struct values *v)
 {
     const struct figure *f = v->figure;
-    if (v->kind == 1)
+    if (is_first(v->kind))
         return judge_given(v->limit, MOST_LIMIT, v->angles, f->angles, v->fixed, f->fixed, NULL, NULL, 0, NULL, 0);
     return judge_given(v->limit, MOST_TOLERANCE, v->angles, f->angles, NULL, 0, v->log_sines, v->differences, f->angles, v->log_sides,
         f->sides);
@@ -667,14 +685,15 @@ uint32_t peer_look(const uint8_t *sheet, size_t size, uint32_t *head, size_t hea
     if (head_count != 8)
         return refused(WRONG_LENGTH, 0);
     const struct figure *f = v.figure;
+    const bool first = is_first(v.kind);
     head[0] = v.kind;
     head[1] = f->code;
     head[2] = f->n;
     head[3] = f->angles;
-    head[4] = v.kind == 1 ? f->fixed : 0;
-    head[5] = v.kind == 1 ? 0 : f->angles;
+    head[4] = first ? f->fixed : 0;
+    head[5] = first ? 0 : f->angles;
     head[6] = f->conditions;
-    head[7] = v.kind == 1 ? 0 : f->sides;
+    head[7] = first ? 0 : f->sides;
     return 0;
 }
 
@@ -689,7 +708,8 @@ uint32_t peer_read(const uint8_t *sheet, size_t size, uint32_t *head, size_t hea
     const struct figure *f = v.figure;
     if (size != sheet_size(v.kind, f))
         return refused(SHEET_LENGTH, 0);
-    const size_t fixed_here = v.kind == 1 ? f->fixed : 0, sines_here = v.kind == 1 ? 0 : f->angles, sides_here = v.kind == 1 ? 0 : f->sides;
+    const bool first = is_first(v.kind);
+    const size_t fixed_here = first ? f->fixed : 0, sines_here = first ? 0 : f->angles, sides_here = first ? 0 : f->sides;
     if (head_count != 4 || angle_count != f->angles || fixed_count != fixed_here || log_sine_count != sines_here
         || difference_count != sines_here || log_side_count != sides_here)
         return refused(WRONG_LENGTH, 0);
@@ -737,11 +757,12 @@ static uint32_t judge_written(uint32_t kind, const struct figure *f, uint32_t li
     const uint32_t *fixed, size_t fixed_count, const uint32_t *log_sines, size_t log_sine_count, const int32_t *differences,
     size_t difference_count, const uint32_t *log_sides, size_t log_side_count, size_t size)
 {
-    const uint32_t fixed_here = kind == 1 ? f->fixed : 0, sines_here = kind == 1 ? 0 : f->angles, sides_here = kind == 1 ? 0 : f->sides;
+    const bool first = is_first(kind);
+    const uint32_t fixed_here = first ? f->fixed : 0, sines_here = first ? 0 : f->angles, sides_here = first ? 0 : f->sides;
     if (angle_count != f->angles || fixed_count != fixed_here || log_sine_count != sines_here || difference_count != sines_here
         || log_side_count != sides_here || size != sheet_size(kind, f))
         return refused(WRONG_LENGTH, 0);
-    return judge_given(limit, kind == 1 ? MOST_LIMIT : MOST_TOLERANCE, angles, f->angles, fixed, fixed_here, log_sines, differences,
+    return judge_given(limit, first ? MOST_LIMIT : MOST_TOLERANCE, angles, f->angles, fixed, fixed_here, log_sines, differences,
         sines_here, log_sides, sides_here);
 }
 
@@ -749,7 +770,7 @@ uint32_t peer_write(uint32_t kind, uint32_t code, uint32_t n, uint32_t limit_or_
     const uint32_t *fixed, size_t fixed_count, const uint32_t *log_sines, size_t log_sine_count, const int32_t *differences,
     size_t difference_count, const uint32_t *log_sides, size_t log_side_count, uint8_t *sheet, size_t size)
 {
-    if (kind != 1 && kind != 2)
+    if (!is_kind(kind))
         return refused(NO_KIND, 0);
     const struct figure *f = figure_of(code, n);
     if (!f)
@@ -760,7 +781,7 @@ uint32_t peer_write(uint32_t kind, uint32_t code, uint32_t n, uint32_t limit_or_
         return answer;
     struct bits_out out = {sheet, 0, 0};
     put(&out, 12, kind << 8 | code << 4 | n);
-    if (kind == 1)
+    if (is_first(kind))
         put_first(&out, limit_or_tolerance, angles, angle_count, fixed, fixed_count);
     else
         put_second(&out, limit_or_tolerance, angles, log_sines, differences, angle_count, log_sides, log_side_count);
@@ -896,13 +917,14 @@ static uint8_t *put_lines(uint8_t *at, const uint8_t *sheet, size_t size)
     uint32_t answer = take_sheet(sheet, size, &v);
     if (answer)
         return put_refusal(at, answer);
-    if (v.kind == 1) {
+    const uint32_t limit = v.limit ? v.limit : kinds[v.kind].stands_for;
+    if (is_first(v.kind)) {
         struct first_work work;
-        answer = work_first(v.figure, v.limit, v.angles, v.fixed, &work);
+        answer = work_first(v.figure, limit, v.angles, v.fixed, &work);
         return answer ? put_refusal(at, answer) : put_first_lines(at, &v, &work);
     }
     struct second_work work;
-    answer = work_second(v.figure, v.limit, v.angles, v.log_sines, v.differences, v.log_sides, &work);
+    answer = work_second(v.figure, limit, v.angles, v.log_sines, v.differences, v.log_sides, &work);
     return answer ? put_refusal(at, answer) : put_second_lines(at, &v, &work);
 }
 

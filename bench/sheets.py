@@ -9,15 +9,15 @@ sys.path.insert(0, str(Path(__file__).resolve().parent.parent / "tests"))
 
 from independent import work  # noqa: E402
 from made_sheets import each_kind_and_figure, first_sheet, second_sheet, some_differences, some_limit  # noqa: E402
-from packed import LARGEST_TOLERANCE, packed_values  # noqa: E402
+from packed import LARGEST_TOLERANCE, is_first, packed_values  # noqa: E402
 
 SEED = 1978
 OF_EACH = 16
 
 
 def some_sheet(kind, figure, rng):
-    if kind == 1:
-        return first_sheet(figure, rng, some_limit(rng))
+    if is_first(kind):
+        return first_sheet(figure, rng, some_limit(rng), kind=kind)
     return second_sheet(figure, rng, rng.randint(0, LARGEST_TOLERANCE), some_differences(figure, rng, 700))
 
 

@@ -25,10 +25,17 @@ struct desk {
     uint32_t results[BIENGULOC_MOST_ANGLES];
 };
 
+/* The pass does not know the sheet's kind: a 0 on a sheet of kind 1 stands for another default than the pass's own. */
+static uint32_t limit_of(const uint32_t *head)
+{
+    const uint32_t limit = head[BIENGULOC_READ_LIMIT_OR_TOLERANCE];
+    return limit == 0 && head[BIENGULOC_HEAD_KIND] == 1 ? BIENGULOC_DEFAULT_LIMIT_OF_KIND_1 : limit;
+}
+
 static uint32_t first_pass(struct desk *d, size_t angles, size_t conditions)
 {
     const uint32_t *h = d->read_head;
-    return bienguloc_first_pass(h[BIENGULOC_HEAD_CODE], h[BIENGULOC_HEAD_N], h[BIENGULOC_READ_LIMIT_OR_TOLERANCE],
+    return bienguloc_first_pass(h[BIENGULOC_HEAD_CODE], h[BIENGULOC_HEAD_N], limit_of(h),
         d->angles, angles, d->fixed, d->head[BIENGULOC_LOOK_FIXED],
         d->misclosures, conditions, d->numerators, angles, d->rounded, angles, d->results, angles, d->rests, conditions);
 }
@@ -44,7 +51,7 @@ static uint32_t second_pass(struct desk *d, size_t angles, size_t conditions)
         d->numerators_high, angles, d->numerators_low, angles, d->rounded, angles, d->results, angles, d->rests, conditions);
 }
 
-/* A look gives the counts, the reader the values, the pass of the sheet's kind the results. */
+/* A look gives the counts, the reader the values, the pass of the sheet's kind the results: the second where it has log-sines. */
 static uint32_t work(const uint8_t *sheet, size_t size, struct desk *d)
 {
     uint32_t answer = bienguloc_look(sheet, size, d->head, BIENGULOC_LOOK_HEAD);
@@ -57,7 +64,7 @@ static uint32_t work(const uint8_t *sheet, size_t size, struct desk *d)
     if (answer != BIENGULOC_DONE)
         return answer;
     const size_t conditions = d->head[BIENGULOC_LOOK_CONDITIONS];
-    return d->head[BIENGULOC_HEAD_KIND] == 1 ? first_pass(d, angles, conditions) : second_pass(d, angles, conditions);
+    return sines ? second_pass(d, angles, conditions) : first_pass(d, angles, conditions);
 }
 
 static void print_angle(uint32_t number, uint32_t tenths)

@@ -48,6 +48,11 @@ extern "C" {
 #define BIENGULOC_FILLING_BIT_SET 13u
 #define BIENGULOC_FIXED_ANGLES_DO_NOT_SUM 14u /* to 6480000 where there are three, 12960000 where there are four */
 
+/* What a limit L of 0 stands for: in a first pass that is called directly and in a sheet of kind 3; and in a sheet of kind 1, whose
+ * caller hands the pass this limit where the sheet has 0. */
+#define BIENGULOC_DEFAULT_LIMIT 90u
+#define BIENGULOC_DEFAULT_LIMIT_OF_KIND_1 150u
+
 /* Room that is enough for every figure and kind. */
 #define BIENGULOC_MOST_ANGLES 24
 #define BIENGULOC_MOST_FIXED 4
@@ -74,9 +79,10 @@ enum {
     BIENGULOC_READ_HEAD = 4
 };
 
-/* What the head of a sheet says, and so how long the slices are that the reader and the pass are lent. There are as many
- * differences as log-sines. A figure whose sheets of kind 2 have log sides has two sine conditions, every other figure one. Only
- * the first two bytes are judged: 12 if there are fewer, then 11, 1, 2. */
+/* What the head of a sheet says, and so how long the slices are that the reader and the pass are lent. Kinds 1 and 3 are for the
+ * first pass and have no log-sines, kind 2 is for the second. There are as many differences as log-sines. A figure whose sheets of
+ * kind 2 have log sides has two sine conditions, every other figure one. Only the first two bytes are judged: 12 if there are fewer,
+ * then 11, 1, 2. */
 BIENGULOC_NOT_NULL uint32_t bienguloc_look(const uint8_t *sheet, size_t,
     uint32_t *head, size_t /* 8: kind, code, n, angles, fixed, log-sines, conditions, log sides */);
 
@@ -92,14 +98,15 @@ BIENGULOC_NOT_NULL uint32_t bienguloc_write(uint32_t kind, uint32_t code, uint32
     const uint32_t *log_sides, size_t, uint8_t *sheet, size_t);
 
 /* The first corrections. By condition: misclosures and rests; by angle: the numerators of the exact corrections (over D), the
- * rounded corrections and the corrected angles. A limit of 0 stands for the default. In order: 1, 2, 3, 4, 5, 14, 6, 7. */
+ * rounded corrections and the corrected angles. A limit of 0 stands for BIENGULOC_DEFAULT_LIMIT, whatever kind of sheet the values
+ * come from. In order: 1, 2, 3, 4, 5, 14, 6, 7. */
 BIENGULOC_NOT_NULL uint32_t bienguloc_first_pass(uint32_t code, uint32_t n, uint32_t limit, const uint32_t *angles, size_t, const uint32_t *fixed, size_t,
     int32_t *misclosures, size_t, int32_t *numerators, size_t, int32_t *rounded, size_t, uint32_t *corrected, size_t, int32_t *rests, size_t);
 
 /* The second corrections, of first-corrected angles. By sine condition, one or two: the misclosures W. The divisor, in two words,
  * is S, or the determinant of two sine conditions. By angle: the reduced coefficients A; of two sine conditions B too, else no
  * values; the numerators of the exact corrections, over the divisor, in two words; the rounded corrections and the adjusted angles.
- * By condition: the rests. A number in two words is high * 2^64 + low. A tolerance of 0 stands for the default.
+ * By condition: the rests. A number in two words is high * 2^64 + low. A tolerance of 0 stands for 10.
  * In order: 1, 2, 3, 4, 8, 10, 9, 7. A log side outside its range has a place after the angles'. */
 BIENGULOC_NOT_NULL uint32_t bienguloc_second_pass(uint32_t code, uint32_t n, uint32_t tolerance,
     const uint32_t *angles, size_t, const uint32_t *log_sines, size_t, const int32_t *differences, size_t, const uint32_t *log_sides, size_t,
@@ -108,8 +115,9 @@ BIENGULOC_NOT_NULL uint32_t bienguloc_second_pass(uint32_t code, uint32_t n, uin
     int32_t *rounded, size_t, uint32_t *adjusted, size_t, int32_t *rests, size_t);
 
 /* The lines that the program prints for these bytes, whatever they are: a sheet that is turned back has the line `refused`, and
- * the answer is 0. `text` may be longer than its lines, and is left as it was past them; `written` gets their count of bytes.
- * 2 if the lines do not fit `text` or `written` has not exactly 1 value. No more than BIENGULOC_ROOM_FOR_TEXT bytes are written. */
+ * the answer is 0. Where the sheet has 0 as L or e, it is worked with the default of its kind. `text` may be longer than its lines,
+ * and is left as it was past them; `written` gets their count of bytes. 2 if the lines do not fit `text` or `written` has not exactly
+ * 1 value. No more than BIENGULOC_ROOM_FOR_TEXT bytes are written. */
 BIENGULOC_NOT_NULL uint32_t bienguloc_report(const uint8_t *sheet, size_t, uint8_t *text, size_t, uint64_t *written, size_t /* 1 */);
 
 #ifdef __cplusplus

@@ -43,7 +43,7 @@ def figure_named(code, n):
 def first_sheet(values):
     angles = tuple(map(tenths, cells(values.angles)))
     fixed = tuple(map(tenths, cells(values.fixed))) if values.fixed else ()
-    return Sheet(1, figure_named(values.code, values.n), values.limit, angles, fixed=fixed)
+    return Sheet(values.kind, figure_named(values.code, values.n), values.limit, angles, fixed=fixed)
 
 
 def second_sheet(values):
@@ -64,8 +64,8 @@ def bytes_of(values):
 
 
 def broken(sheet, how):
-    if how == "kind 3":
-        return bytes([3 << 4 | sheet[0] & 0x0F]) + sheet[1:]
+    if how == "kind 4":
+        return bytes([4 << 4 | sheet[0] & 0x0F]) + sheet[1:]
     if how == "last bit 1":
         return sheet[:-1] + bytes([sheet[-1] | 1])
     return {"empty": b"", "one byte too long": sheet + b"\0", "one byte too short": sheet[:-1]}[how]

@@ -9,13 +9,14 @@ from typing import NamedTuple
 
 
 class First(NamedTuple):
-    """A sheet of kind 1."""
+    """A sheet of kind 1 or 3."""
 
     code: int
     n: int
-    limit: int  # L in tenths of a second, 0 for the default
+    limit: int  # L in tenths of a second, 0 for the default of its kind
     angles: str
     fixed: str = ""
+    kind: int = 1
 
 
 class Second(NamedTuple):
@@ -515,13 +516,21 @@ EACH_FIGURE = {
     ),
 }
 
+# Document 02, M-102: the first sheet of document 01 and of each figure, as one of kind 3.
+KIND_3 = {
+    name.replace("-first", "-kind-3"): values._replace(kind=3)
+    for name, values in {**DOCUMENT, **EACH_FIGURE}.items()
+    if isinstance(values, First)
+}
+
 QUADRILATERAL = EACH_FIGURE["quadrilateral-first"]
 POINT_IN_TRIANGLE = EACH_FIGURE["point-in-triangle-first"]
 POINT_IN_QUADRILATERAL = EACH_FIGURE["point-in-quadrilateral-first"]
 TWO_SINE_CONDITIONS = EACH_FIGURE["point-in-quadrilateral-second"]
 SECOND = DOCUMENT["document-01-second"]
 
-# The last values that still pass: document 01, "Sheets worked through", cases 7 and 8; and the side condition of M-100.
+# The last values that still pass: document 01, "Sheets worked through", cases 7 and 8; the side condition of M-100; the default of
+# M-102.
 JUST_ACCEPTED = {
     "case-07-sine-misclosure-628": SECOND._replace(rows=SECOND.rows.replace("9.8494950", "9.8495478")),
     "case-08-misclosure-minus-150": QUADRILATERAL._replace(
@@ -529,6 +538,13 @@ JUST_ACCEPTED = {
             44 59 45.0, 45 00 00.0, 45 00 00.0, 45 00 00.0
             45 00 00.0, 45 00 00.0, 45 00 00.0, 45 00 00.0
         """
+    ),
+    "misclosure-90-kind-3": QUADRILATERAL._replace(
+        kind=3,
+        angles="""
+            45 00 00.0, 45 00 00.0, 45 00 00.0, 45 00 00.0
+            45 00 09.0, 45 00 00.0, 45 00 00.0, 45 00 00.0
+        """,
     ),
     "side-condition-misclosure-361": TWO_SINE_CONDITIONS._replace(sides="3.7652430, 3.7502006"),
 }
@@ -565,6 +581,17 @@ REFUSED = {
                 45 00 00.0, 45 00 00.0, 45 00 00.0, 45 00 00.0
                 45 00 15.1, 45 00 00.0, 45 00 00.0, 45 00 00.0
             """
+        ),
+        6,
+        2,
+    ),
+    "refused-06-misclosure-91-kind-3": (
+        QUADRILATERAL._replace(
+            kind=3,
+            angles="""
+                45 00 00.0, 45 00 00.0, 45 00 00.0, 45 00 00.0
+                45 00 09.1, 45 00 00.0, 45 00 00.0, 45 00 00.0
+            """,
         ),
         6,
         2,
@@ -660,7 +687,7 @@ REFUSED = {
 
 # Sheets that no values make: another sheet's bytes, changed. Each with what is done and the number it is refused with.
 BROKEN = {
-    "refused-11-kind-3": ("quadrilateral-first", "kind 3", 11),
+    "refused-11-kind-4": ("quadrilateral-first", "kind 4", 11),
     "refused-12-empty": ("quadrilateral-first", "empty", 12),
     "refused-12-one-byte-too-long": ("quadrilateral-first", "one byte too long", 12),
     "refused-12-one-byte-too-short": ("quadrilateral-first", "one byte too short", 12),
@@ -672,6 +699,7 @@ BY_VALUES = {
     **DOCUMENT,
     **BOOKS,
     **EACH_FIGURE,
+    **KIND_3,
     **JUST_ACCEPTED,
     **{name: values for name, (values, _, _) in REFUSED.items()},
 }

@@ -1,4 +1,4 @@
-"""Angles that close a figure with given misclosures: what a field sheet of kind 1 looks like.
+"""Angles that close a figure with given misclosures: what a field sheet of the first pass looks like.
 
 `choose(low, high)` picks each value that is free, so that the same builder gives ordinary figures and needles.
 """

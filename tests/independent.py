@@ -14,11 +14,10 @@ from figures import (
     second_corrections,
     should_sum_to,
 )
-from packed import LARGEST_ANGLE, Refused, read_sheet, refuse_first
+from packed import FIRST, KINDS, LARGEST_ANGLE, SECOND, Refused, read_sheet, refuse_first
 
 BYTES_HELD = 199  # "The program holds 199 bytes at once, so that a longer sheet is seen."
-DEFAULT_LIMIT = 150
-DEFAULT_TOLERANCE = 10
+DEFAULTS = {FIRST: 90, SECOND: 10}  # what 0 stands for in a pass that is called directly: L by M-102, e by document 01
 
 
 class FirstPass(NamedTuple):
@@ -55,7 +54,7 @@ def corrected(angles, rounded):
 def first_pass(sheet):
     """Document 01, "The two passes": first pass, with numbers 6 and 7."""
     figure = sheet.figure
-    limit = sheet.limit or DEFAULT_LIMIT
+    limit = sheet.limit or DEFAULTS[FIRST]
     sums = condition_sums(figure, sheet.angles)
     misclosures = [found - right for found, right in zip(sums, should_sum_to(figure, sheet.fixed))]
     refuse_first(6, [abs(misclosure) <= limit for misclosure in misclosures])
@@ -123,7 +122,7 @@ def second_pass(sheet):
     if numerators is None:
         raise Refused(10)
     for misclosure, differences in zip(sine_misclosures, signed):
-        check_tolerance(sheet.limit or DEFAULT_TOLERANCE, misclosure, differences)
+        check_tolerance(sheet.limit or DEFAULTS[SECOND], misclosure, differences)
     divisor = divisor_of(reduced)
     rounded = [rounded_quotient(numerator, divisor) for numerator in numerators]
     results = corrected(sheet.angles, rounded)
@@ -157,13 +156,21 @@ def text(lines):
     return "".join(" ".join(map(str, line)) + "\n" for line in lines)
 
 
+PASSES = {FIRST: (first_pass, first_lines), SECOND: (second_pass, second_lines)}
+
+
+def worked(sheet):
+    """The pass that the sheet is for, handed the default of its kind where the sheet has 0 (M-102)."""
+    one_pass, _ = PASSES[KINDS[sheet.kind].pass_number]
+    return one_pass(sheet._replace(limit=sheet.limit or KINDS[sheet.kind].default))
+
+
 def work(sheet_bytes):
     """What the program writes for these bytes on standard input."""
     try:
         sheet = read_sheet(sheet_bytes[:BYTES_HELD])
-        if sheet.kind == 1:
-            return text(first_lines(sheet, first_pass(sheet)))
-        return text(second_lines(sheet, second_pass(sheet)))
+        _, lines = PASSES[KINDS[sheet.kind].pass_number]
+        return text(lines(sheet, worked(sheet)))
     except Refused as refusal:
         return text([("refused", refusal.number, refusal.place)])
 

@@ -7,7 +7,7 @@ Every number of document 01's table, and 14 of M-101, is reached but one. Number
 program lends slices of exactly the sheet's counts, which it has from the sheet's own head, so no sheet can bring it about.
 The ones that need care:
 - 1 comes after 11 and before 12, so it shows on sheets of any length from two bytes.
-- 7 of kind 1 needs an angle within a few tenths of an end of its range in a figure that still closes: needles.
+- 7 of the first pass needs an angle within a few tenths of an end of its range in a figure that still closes: needles.
 - 10 needs every reduced coefficient to be 0: no differences at all, differences at inner angles only (their sine sign
   is 0), or signed differences that are a sum of conditions, which wants some of them negative. Of two sine conditions it is
   enough that one's reduced coefficients are a multiple of the other's.
@@ -22,18 +22,11 @@ from math import isqrt
 
 from closing import closing_angles, move_that_keeps_conditions, with_sum
 from figures import FIGURES, HALF_CIRCLE, figure_of, first_numerators, fixed_sum, reduced_coefficients, second_corrections
-from independent import (
-    DEFAULT_LIMIT,
-    DEFAULT_TOLERANCE,
-    divisor_of,
-    rounded_quotient,
-    second_pass,
-    signed_values,
-    work,
-)
+from independent import divisor_of, rounded_quotient, second_pass, signed_values, work
 from packed import (
     ANGLE_BITS,
     DIFFERENCE_BITS,
+    KINDS,
     LARGEST_ANGLE,
     LARGEST_DIFFERENCE,
     LARGEST_LIMIT,
@@ -46,6 +39,7 @@ from packed import (
     TOLERANCE_BITS,
     Refused,
     Sheet,
+    is_first,
     packed_values,
     sheet_size,
     used_bits,
@@ -53,6 +47,9 @@ from packed import (
 
 SEED = 1978
 UNREACHABLE = {2}
+
+FIRST_KINDS = [kind for kind in KINDS if is_first(kind)]
+FIRST_DEFAULTS = [KINDS[kind].default for kind in FIRST_KINDS]
 
 SIGN_BIT = 1 << (DIFFERENCE_BITS - 1)
 MOST_IN_LIMIT = (1 << LIMIT_BITS) - 1
@@ -77,7 +74,7 @@ def with_value(values, place, value):
 
 
 def some_limit(rng):
-    return rng.choice((0, 1, 20, DEFAULT_LIMIT, LARGEST_LIMIT, rng.randint(1, LARGEST_LIMIT)))
+    return rng.choice((0, 1, 20, *FIRST_DEFAULTS, LARGEST_LIMIT, rng.randint(1, LARGEST_LIMIT)))
 
 
 def misclosures_within(figure, limit, rng):
@@ -96,21 +93,21 @@ def needle_choice(rng):
     return choose
 
 
-def first_sheet(figure, rng, limit=0, misclosures=None, needle=False, over=0):
-    """A sheet of kind 1 that closes within its limit, unless given misclosures go beyond it, and whose fixed angles sum to so
-    much over what they must."""
+def first_sheet(figure, rng, limit=0, misclosures=None, needle=False, over=0, kind=1):
+    """A sheet of the first pass that closes within its limit, unless given misclosures go beyond it, and whose fixed angles sum
+    to so much over what they must."""
     choose = needle_choice(rng) if needle else rng.randint
     while True:
-        wanted = misclosures or misclosures_within(figure, limit or DEFAULT_LIMIT, rng)
+        wanted = misclosures or misclosures_within(figure, limit or KINDS[kind].default, rng)
         found = closing_angles(figure, wanted, choose, over)
         if found:
-            return Sheet(1, figure, limit, found[0], fixed=found[1])
+            return Sheet(kind, figure, limit, found[0], fixed=found[1])
 
 
 def largest_sine_misclosure(sine, tolerance, differences):
     """The largest W of this condition that number 9 lets pass."""
     squares = sum(d * d for d in signed_values(sine.signs, differences))
-    return isqrt((tolerance or DEFAULT_TOLERANCE) ** 2 * squares // 100)
+    return isqrt((tolerance or KINDS[2].default) ** 2 * squares // 100)
 
 
 def misclosures_within_tolerance(figure, tolerance, differences, rng):
@@ -167,54 +164,60 @@ def second_sheet(figure, rng, tolerance=0, differences=None, sine_misclosures=No
 
 
 def ordinary_sheet(kind, figure, rng):
-    if kind == 1:
-        return first_sheet(figure, rng)
+    if is_first(kind):
+        return first_sheet(figure, rng, kind=kind)
     return second_sheet(figure, rng, differences=some_differences(figure, rng, 700))
 
 
 def each_kind_and_figure():
-    return [(kind, figure) for kind in (1, 2) for figure in FIGURES]
+    return [(kind, figure) for kind in KINDS for figure in FIGURES]
+
+
+def good_sheet(kind, figure, rng):
+    if is_first(kind):
+        return first_sheet(figure, rng, some_limit(rng), kind=kind)
+    return second_sheet(figure, rng, rng.choice((0, 1, 10, LARGEST_TOLERANCE, rng.randint(1, LARGEST_TOLERANCE))))
 
 
 def good_sheets(rng):
-    for figure in FIGURES:
-        for _ in range(30):
-            yield f"good {label(1, figure)}", first_sheet(figure, rng, some_limit(rng))
-            tolerance = rng.choice((0, 1, 10, LARGEST_TOLERANCE, rng.randint(1, LARGEST_TOLERANCE)))
-            yield f"good {label(2, figure)}", second_sheet(figure, rng, tolerance)
+    for kind, figure in each_kind_and_figure():
+        for _ in range(20):
+            yield f"good {label(kind, figure)}", good_sheet(kind, figure, rng)
 
 
 def needles(rng):
     """Figures with angles of a few tenths or nearly 180 degrees: number 7 and its edge on both sides."""
-    for figure in FIGURES:
-        for _ in range(60):
-            yield f"needle {label(1, figure)}", first_sheet(figure, rng, rng.choice((1, 8, 30, 0)), needle=True)
+    for kind, figure in product(FIRST_KINDS, FIGURES):
+        for _ in range(30):
+            sheet = first_sheet(figure, rng, rng.choice((1, 8, 30, 0)), needle=True, kind=kind)
+            yield f"needle {label(kind, figure)}", sheet
 
 
 # --- edges of ranges ----------------------------------------------------------------------------------------------------
 
 
 def limits(rng):
+    for kind, figure in product(FIRST_KINDS, FIGURES):
+        for limit in (0, 1, KINDS[kind].default, LARGEST_LIMIT - 1, LARGEST_LIMIT, LARGEST_LIMIT + 1, MOST_IN_LIMIT):
+            sheet = first_sheet(figure, rng, min(limit, LARGEST_LIMIT), kind=kind)
+            yield f"limit {limit} {label(kind, figure)}", sheet._replace(limit=limit)
     for figure in FIGURES:
-        for limit in (0, 1, DEFAULT_LIMIT, LARGEST_LIMIT - 1, LARGEST_LIMIT, LARGEST_LIMIT + 1, MOST_IN_LIMIT):
-            sheet = first_sheet(figure, rng, min(limit, LARGEST_LIMIT))
-            yield f"limit {limit} {label(1, figure)}", sheet._replace(limit=limit)
         largest = LARGEST_TOLERANCE
-        for tolerance in (0, 1, DEFAULT_TOLERANCE, largest - 1, largest, largest + 1, MOST_IN_TOLERANCE):
+        for tolerance in (0, 1, KINDS[2].default, largest - 1, largest, largest + 1, MOST_IN_TOLERANCE):
             sheet = second_sheet(figure, rng, min(tolerance, largest))
             yield f"tolerance {tolerance} {label(2, figure)}", sheet._replace(limit=tolerance)
 
 
 def misclosures_at_the_limit(rng):
-    """Number 6: each condition at the limit and one beyond, the others within."""
-    for figure in FIGURES:
+    """Number 6: each condition at the limit and one beyond, the others within; every edge of a default, two of a given limit."""
+    for kind, figure in product(FIRST_KINDS, FIGURES):
         for place in range(1, len(figure.conditions) + 1):
-            for limit in (0, some_limit(rng)):
-                at = limit or DEFAULT_LIMIT
-                for misclosure in (-at - 1, -at, at, at + 1):
+            for limit, count in ((0, 4), (some_limit(rng), 2)):
+                at = limit or KINDS[kind].default
+                for misclosure in rng.sample((-at - 1, -at, at, at + 1), count):
                     others = misclosures_within(figure, at, rng)
-                    sheet = first_sheet(figure, rng, limit, with_value(others, place, misclosure))
-                    yield f"misclosure {place} of {misclosure} {label(1, figure)}", sheet
+                    sheet = first_sheet(figure, rng, limit, with_value(others, place, misclosure), kind=kind)
+                    yield f"misclosure {place} of {misclosure} {label(kind, figure)}", sheet
 
 
 def several_misclosures_beyond(rng):
@@ -233,7 +236,7 @@ def outside_and_edge(outside, edges, place, count):
 
 
 def angles_at_the_edge(rng):
-    """Number 4. An edge angle of kind 1 opens its triangle, so 6 follows; of kind 2 it is accepted or gives 7."""
+    """Number 4. An edge angle of the first pass opens its triangle, so 6 follows; of the second it is accepted or gives 7."""
     for kind, figure in each_kind_and_figure():
         for place in range(1, figure.angle_count + 1):
             for angle in outside_and_edge(OUTSIDE_ANGLES, (1, LARGEST_ANGLE), place, figure.angle_count):
@@ -282,7 +285,7 @@ def fixed_angles_that_do_not_sum(rng):
             yield f"closed, {name}", first_sheet(figure, rng, misclosures=closed, over=over)
             yield name, first_sheet(figure, rng, over=over)
             yield f"needle, {name}", first_sheet(figure, rng, needle=True, over=over)
-            beyond = with_value(closed, rng.randint(1, len(closed)), rng.choice((-1, 1)) * (DEFAULT_LIMIT + 1))
+            beyond = with_value(closed, rng.randint(1, len(closed)), rng.choice((-1, 1)) * (KINDS[1].default + 1))
             yield f"misclosure beyond, {name}", first_sheet(figure, rng, misclosures=beyond, over=over)
         for fixed in ((1,) * figure.n, (LARGEST_ANGLE,) * figure.n):
             yield f"fixed angles {fixed} {label(1, figure)}", first_sheet(figure, rng)._replace(fixed=fixed)
@@ -363,7 +366,7 @@ def corrected_angles_at_the_low_edge(rng):
         for place in range(1, figure.angle_count + 1):
             for result in (0, 1):
                 for _ in range(20):
-                    misclosures = misclosures_within(figure, DEFAULT_LIMIT, rng)
+                    misclosures = misclosures_within(figure, KINDS[1].default, rng)
                     sheet = first_sheet(figure, rng, 0, misclosures)
                     moved = with_first_result(sheet, place, misclosures, result)
                     if moved:
@@ -663,7 +666,7 @@ def single_bits_flipped(rng):
         sheet = packed_values(ordinary_sheet(kind, figure, rng))
         used, total = used_bits(kind, figure), 8 * len(sheet)
         shortest = (kind, figure.code) == (1, 1)
-        some = range(total) if shortest else sorted({*range(22), *rng.sample(range(22, used), 24), *range(used, total)})
+        some = range(total) if shortest else sorted({*range(22), *rng.sample(range(22, used), 12), *range(used, total)})
         for bit in some:
             yield f"bit {bit} flipped {label(kind, figure)}", flipped(sheet, bit)
 
@@ -699,15 +702,16 @@ def one_byte_off(rng):
 
 
 def heads(rng):
-    """Every kind, every code and n, on sheets of two bytes and of the right or some other size."""
+    """Every kind, every code and n (of a code without figures some n), on sheets of two bytes and of the right or some other
+    size."""
     for kind in range(16):
-        body = packed_values(ordinary_sheet(rng.choice((1, 2)), rng.choice(FIGURES), rng))
+        body = packed_values(ordinary_sheet(rng.choice([*KINDS]), rng.choice(FIGURES), rng))
         yield f"kind {kind} alone", bytes([kind << 4])
         yield f"kind {kind} in two bytes", bytes([kind << 4 | 1, 0])
         yield f"kind {kind}", bytes([kind << 4 | body[0] & 15]) + body[1:]
-    for kind in (1, 2):
+    for kind in KINDS:
         for code in range(16):
-            for n in range(16):
+            for n in range(16) if code < 5 else rng.sample(range(16), 4):
                 figure = figure_of(code, n) or rng.choice(FIGURES)
                 body = packed_values(ordinary_sheet(kind, figure, rng))
                 yield f"kind {kind} code {code} n {n}", bytes([kind << 4 | code, n << 4 | body[1] & 15]) + body[2:]
@@ -725,7 +729,7 @@ def noise_under_a_good_head(rng):
 
 
 def spoil_limit(sheet, rng):
-    if sheet.kind == 1:
+    if is_first(sheet.kind):
         return sheet._replace(limit=rng.randint(LARGEST_LIMIT + 1, MOST_IN_LIMIT))
     return sheet._replace(limit=rng.randint(LARGEST_TOLERANCE + 1, MOST_IN_TOLERANCE))
 
@@ -762,7 +766,7 @@ def spoil_log_side(sheet, rng):
 
 
 def spoilers(kind, figure):
-    if kind == 2:
+    if not is_first(kind):
         entries = (spoil_limit, spoil_angle, spoil_log_sine, spoil_difference)
         return (*entries, spoil_log_side) if figure.side_count else entries
     values = (spoil_limit, spoil_angle)

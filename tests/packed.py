@@ -1,5 +1,5 @@
 """Packed sheets, read and written from document 01, "Packed sheets" and "Numbers given when a sheet is turned back", and from
-document 02: the log sides of M-100, number 14 of M-101."""
+document 02: the log sides of M-100, number 14 of M-101, kind 3 of M-102."""
 
 from typing import NamedTuple
 
@@ -17,6 +17,23 @@ LARGEST_DIFFERENCE = 9_999
 LARGEST_LIMIT = 600
 LARGEST_TOLERANCE = 50
 
+FIRST, SECOND = 1, 2  # the passes
+
+
+class Kind(NamedTuple):
+    """A kind of sheet: document 01, "Packed sheets" and "Units and ranges"; document 02, M-102."""
+
+    pass_number: int
+    default: int  # what 0 stands for where the sheet has L or e
+
+
+KINDS = {1: Kind(FIRST, 150), 2: Kind(SECOND, 10), 3: Kind(FIRST, 90)}
+
+
+def is_first(kind):
+    """Whether sheets of this kind are for the first pass."""
+    return KINDS[kind].pass_number == FIRST
+
 
 class Refused(Exception):
     """Number and place of document 01's table, which document 02 carries on."""
@@ -30,7 +47,7 @@ class Refused(Exception):
 class Sheet(NamedTuple):
     kind: int
     figure: Figure
-    limit: int  # L of kind 1, e of kind 2
+    limit: int  # L of the first pass, e of the second
     angles: tuple
     fixed: tuple = ()
     log_sines: tuple = ()
@@ -40,14 +57,14 @@ class Sheet(NamedTuple):
 
 def counts(kind, figure):
     """How many angles, fixed angles, log-sines, differences and log sides a sheet of this kind has."""
-    if kind == 1:
+    if is_first(kind):
         return figure.angle_count, figure.fixed_count, 0, 0, 0
     return figure.angle_count, 0, figure.angle_count, figure.angle_count, figure.side_count
 
 
 def used_bits(kind, figure):
     head = KIND_BITS + CODE_BITS + N_BITS
-    if kind == 1:
+    if is_first(kind):
         return head + LIMIT_BITS + ANGLE_BITS * (figure.angle_count + figure.fixed_count)
     row = ANGLE_BITS + LOG_SINE_BITS + DIFFERENCE_BITS
     return head + TOLERANCE_BITS + LOG_SIDE_BITS * figure.side_count + row * figure.angle_count
@@ -79,7 +96,7 @@ class Bits:
 
 
 def read_values(bits, kind, figure):
-    if kind == 1:
+    if is_first(kind):
         limit = bits.take(LIMIT_BITS)
         angles = [bits.take(ANGLE_BITS) for _ in range(figure.angle_count)]
         fixed = [bits.take(ANGLE_BITS) for _ in range(figure.fixed_count)]
@@ -104,7 +121,7 @@ def refuse_first(number, tests):
 def check_values(sheet):
     """Numbers 3, 4, 5, 14, 8, in this order for the reader and the writer alike (document 01, "Units and ranges"; document 02,
     M-101). The log sides have the places after the angles'."""
-    largest_limit = LARGEST_LIMIT if sheet.kind == 1 else LARGEST_TOLERANCE
+    largest_limit = LARGEST_LIMIT if is_first(sheet.kind) else LARGEST_TOLERANCE
     if not 0 <= sheet.limit <= largest_limit:
         raise Refused(3)
     refuse_first(4, [1 <= angle <= LARGEST_ANGLE for angle in sheet.angles])
@@ -130,7 +147,7 @@ def read_sheet(sheet):
         raise Refused(12)
     bits = Bits(sheet)
     kind, code, n = bits.take(KIND_BITS), bits.take(CODE_BITS), bits.take(N_BITS)
-    if kind not in (1, 2):
+    if kind not in KINDS:
         raise Refused(11)
     figure = figure_of(code, n)
     if figure is None:
@@ -158,7 +175,7 @@ def packed(fields):
 def packed_values(sheet):
     """The bytes of any values that fit their fields, in range or not."""
     fields = [(sheet.kind, KIND_BITS), (sheet.figure.code, CODE_BITS), (sheet.figure.n, N_BITS)]
-    if sheet.kind == 1:
+    if is_first(sheet.kind):
         fields.append((sheet.limit, LIMIT_BITS))
         fields += [(angle, ANGLE_BITS) for angle in sheet.angles + sheet.fixed]
     else:
@@ -171,7 +188,7 @@ def packed_values(sheet):
 
 def write_sheet(sheet):
     """The writer's order: 11, 1, 2, 3, 4, 5, 14, 8."""
-    if sheet.kind not in (1, 2):
+    if sheet.kind not in KINDS:
         raise Refused(11)
     if sheet.figure is None:
         raise Refused(1)

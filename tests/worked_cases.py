@@ -1,5 +1,5 @@
 #!/usr/bin/env python3
-"""The independent computation held against document 01's worked cases, document 02's M-100 and M-101 and the published examples.
+"""The independent computation held against document 01's worked cases, document 02's M-100 to M-102 and the published examples.
 
 The program is not run here: this says that what it is compared with is right.
 """
@@ -9,14 +9,15 @@ import sys
 import unittest
 from pathlib import Path
 
+from closing import closing_angles
 from figures import FIGURES, condition_sums, figure_of, first_numerators, product_sum, reduced_coefficients
-from independent import first_pass, rounded_quotient, second_pass, signed_values, work
+from independent import first_pass, rounded_quotient, second_pass, signed_values, work, worked
 from packed import Bits, Refused, Sheet, packed_values, read_sheet, read_values, sheet_size, write_sheet
 
 SHEETS = Path(__file__).resolve().parent.parent / "sheets"
 sys.path.insert(0, str(SHEETS))
 
-from values import BOOKS, DOCUMENT_TEXT, EACH_FIGURE, Second  # noqa: E402
+from values import BOOKS, DOCUMENT_TEXT, EACH_FIGURE, KIND_3, Second  # noqa: E402
 
 QUADRILATERAL = figure_of(1, 0)
 POINT_IN_QUADRILATERAL = figure_of(2, 4)
@@ -221,7 +222,7 @@ class Horizon(unittest.TestCase):
         for name, right in self.SUMS.items():
             sheet = read_sheet(sample(name))
             self.assertEqual(sum(sheet.fixed), right)
-            rest = sheet.figure.denominator * (sum(sheet.angles[::3]) - 12_960_000) + sum(first_pass(sheet).numerators[::3])
+            rest = sheet.figure.denominator * (sum(sheet.angles[::3]) - 12_960_000) + sum(worked(sheet).numerators[::3])
             self.assertEqual(rest, 0, name)
 
     def test_numerators_round_the_inner_point(self):
@@ -266,6 +267,67 @@ class Horizon(unittest.TestCase):
         self.assertEqual(self.answer(name, fixed=over, angles=outside, limit=601), "refused 3 0")
 
 
+class DefaultLimit(unittest.TestCase):
+    """Document 02, M-102: what L = 0 stands for."""
+
+    def opened(self, kind, misclosure):
+        """Sheets with L = 0 that close but for this misclosure: one for each condition of every figure, with its place."""
+        for figure in FIGURES:
+            for place in range(1, len(figure.conditions) + 1):
+                misclosures = [misclosure if number == place else 0 for number in range(1, len(figure.conditions) + 1)]
+                angles, fixed = closing_angles(figure, misclosures, lambda low, high: (low + high) // 2)
+                yield place, Sheet(kind, figure, 0, angles, fixed=fixed)
+
+    def test_default_of_each_kind(self):
+        for kind, most in ((1, 150), (3, 90)):
+            for side in (-1, 1):
+                for place, sheet in self.opened(kind, side * most):
+                    self.assertIn(f"condition {place} {side * most} ", work(packed_values(sheet)))
+                for place, sheet in self.opened(kind, side * (most + 1)):
+                    self.assertEqual(work(packed_values(sheet)), f"refused 6 {place}\n")
+
+    def test_called_directly(self):
+        for side in (-1, 1):
+            for place, sheet in self.opened(1, side * 90):
+                self.assertEqual(first_pass(sheet).misclosures[place - 1], side * 90)
+            for place, sheet in self.opened(1, side * 91):
+                with self.assertRaises(Refused) as caught:
+                    first_pass(sheet)
+                self.assertEqual((caught.exception.number, caught.exception.place), (6, place))
+                self.assertEqual(first_pass(sheet._replace(limit=150)), worked(sheet))
+
+    def test_given_limit(self):
+        """In any kind a limit other than 0 is the limit."""
+        for kind in (1, 3):
+            for limit in (89, 90, 91, 150, 151, 600):
+                _, at = next(self.opened(kind, -limit))
+                _, beyond = next(self.opened(kind, limit + 1))
+                self.assertEqual(worked(at._replace(limit=limit)).misclosures, [-limit, 0, 0])
+                self.assertEqual(work(packed_values(beyond._replace(limit=limit))), "refused 6 1\n")
+
+    def test_fields_and_lines_of_kind_1(self):
+        for name in KIND_3:
+            first, third = sample(name.replace("-kind-3", "-first")), sample(name)
+            self.assertEqual(third, bytes([first[0] + (2 << 4)]) + first[1:])
+            self.assertEqual(work(third), work(first))
+
+    def test_read_as_packed(self):
+        for name in KIND_3:
+            self.assertEqual((read_sheet(sample(name)).kind, read_sheet(sample(name)).limit), (3, 0))
+
+    def test_book_four_counts_on_150(self):
+        """Its misclosures of −108 and −146 pass with L = 0 on a sheet of kind 1, and not on one of kind 3."""
+        first = read_sheet(sample("book-004-example-1-first"))
+        self.assertEqual((first.kind, first.limit), (1, 0))
+        self.assertTrue(work(packed_values(first)).startswith("figure 2 4 "))
+        self.assertEqual(work(packed_values(first._replace(kind=3))), "refused 6 2\n")
+
+    def test_kinds_that_are_none(self):
+        body = sample("document-01-first")
+        for kind in (0, *range(4, 16)):
+            self.assertEqual(work(bytes([kind << 4 | body[0] & 15]) + body[1:]), "refused 11 0\n")
+
+
 class BookFour(unittest.TestCase):
     """Book 004, example 1, by the book's own numbers of its angles; sheets/README.md has the map and says where it rounds by hand."""
 
@@ -284,12 +346,12 @@ class BookFour(unittest.TestCase):
         return [printed[number - 1] for number in self.NUMBERS]
 
     def test_misclosures(self):
-        done = first_pass(self.first)
+        done = worked(self.first)
         self.assertEqual(done.misclosures, [48, -108, 41, -56, -146, 64, 0, 7])
 
     def test_first_corrections(self):
         """The book cuts 1.4708 to 1.4 at its angle 11, and gives the tenth that triangle 4 lacks to its angle 10."""
-        done = first_pass(self.first)
+        done = worked(self.first)
         book = self.here(self.FIRST)
         self.assertEqual([n for n, ours, printed in zip(self.NUMBERS, done.rounded, book) if ours != printed], [10, 11])
         self.assertTrue(all(abs(numerator - 24 * tenths) < 24 for numerator, tenths in zip(done.numerators, book)))
@@ -334,7 +396,7 @@ class Writer(unittest.TestCase):
     """The writer's refusals, and that a sheet read and written again has the same bits."""
 
     def test_round_trip(self):
-        for name in EACH_FIGURE:
+        for name in {**EACH_FIGURE, **KIND_3}:
             self.assertEqual(write_sheet(read_sheet(sample(name))), sample(name))
 
     def refusal(self, **changes):
@@ -350,13 +412,12 @@ class Writer(unittest.TestCase):
         self.assertEqual(self.refusal(**bad), (3, 0))
         self.assertEqual(self.refusal(**bad, log_sines=(1,)), (2, 0))
         self.assertEqual(self.refusal(**bad, log_sines=(1,), figure=None), (1, 0))
-        self.assertEqual(self.refusal(**bad, log_sines=(1,), figure=None, kind=3), (11, 0))
+        self.assertEqual(self.refusal(**bad, log_sines=(1,), figure=None, kind=4), (11, 0))
 
 
 class PublishedExamples(unittest.TestCase):
     def worked(self, name):
-        sheet = read_sheet(sample(name))
-        return first_pass(sheet) if sheet.kind == 1 else second_pass(sheet)
+        return worked(read_sheet(sample(name)))
 
     def test_misclosures(self):
         self.assertEqual(self.worked("book-000-example-1-first").misclosures, [38, -5, -45])
@@ -428,7 +489,7 @@ class ValuesAreReal(unittest.TestCase):
     def test_second_sheets_start_from_corrected_angles(self):
         for name in EACH_FIGURE:
             if name.endswith("-first"):
-                corrected = first_pass(read_sheet(sample(name))).results
+                corrected = worked(read_sheet(sample(name))).results
                 second = read_sheet(sample(name.replace("-first", "-second")))
                 self.assertEqual(list(second.angles), corrected, name)
 

@@ -13,7 +13,7 @@ from pathlib import Path
 ROOT = Path(__file__).resolve().parent.parent.parent
 sys.path.insert(0, str(ROOT / "tests"))
 
-from independent import first_pass, second_pass  # noqa: E402
+from independent import worked  # noqa: E402
 from made_sheets import made_sheets  # noqa: E402
 from packed import Refused, read_sheet  # noqa: E402
 
@@ -28,8 +28,7 @@ def degrees(number, tenths):
 
 def expected(sheet):
     try:
-        values = read_sheet(sheet)
-        done = (first_pass if values.kind == 1 else second_pass)(values)
+        done = worked(read_sheet(sheet))
     except Refused as refusal:
         return f"refused {refusal.number} {refusal.place}\n"
     return "".join(degrees(number, tenths) for number, tenths in enumerate(done.results, start=1))

@@ -21,7 +21,7 @@ ROOT = Path(__file__).resolve().parent.parent.parent
 sys.path.insert(0, str(ROOT / "tests"))
 
 from figures import figure_of  # noqa: E402
-from independent import first_pass, second_pass, work  # noqa: E402
+from independent import DEFAULTS, first_pass, second_pass, work  # noqa: E402
 from made_sheets import (  # noqa: E402
     each_kind_and_figure,
     fixed_angles_moved,
@@ -31,7 +31,7 @@ from made_sheets import (  # noqa: E402
     ordinary_sheet,
     with_value,
 )
-from packed import Refused, check_values, counts, read_sheet, sheet_size, write_sheet  # noqa: E402
+from packed import KINDS, Refused, check_values, counts, is_first, read_sheet, sheet_size, write_sheet  # noqa: E402
 
 SEED = 1978
 EVERY = 50
@@ -44,7 +44,7 @@ ODD_DIFFERENCES = (-(2**31), -(2**15) + 100, -10_000, 10_000, 2**15 + 100, 2**31
 ODD_LIMITS = (601, 1_023, 1_024 + 150, 2**16 + 150, 2**31, 2**32 - 1)
 ODD_TOLERANCES = (51, 63, 64 + 10, 256 + 10, 2**31, 2**32 - 1)
 ODD_NAMES = ((0, 0), (1, 3), (2, 0), (2, 5), (3, 2), (3, 9), (4, 3), (257, 0), (1, 256), (3, 2**31 + 3), (3, 2**32 - 5), (2**32 - 1,) * 2)
-ODD_KINDS = (0, 3, 17, 18, 256 + 1, 2**31 + 2, 2**32 - 1)
+ODD_KINDS = (0, 4, 17, 18, 256 + 1, 2**31 + 2, 2**32 - 1)
 
 
 def answered(compute):
@@ -80,7 +80,7 @@ def named_head(sheet):
     """Kind and figure that the first two bytes name. Document 01: 12 if under two bytes, then 11, 1."""
     if len(sheet) < 2:
         raise Refused(12)
-    if sheet[0] >> 4 not in (1, 2):
+    if sheet[0] >> 4 not in KINDS:
         raise Refused(11)
     figure = figure_of(sheet[0] & 15, sheet[1] >> 4)
     if figure is None:
@@ -178,9 +178,18 @@ def second_call(name, values, numbers):
     return lines("second", numbers, answer, [taken[0], *taken[2:], *(stored(*row) for row in columns)], name)
 
 
+def as_handed(values):
+    """A sheet's values as its caller hands them to the pass: where the sheet has 0 and the pass would take that for another default
+    than the sheet's, the caller says the sheet's (M-102)."""
+    kind = KINDS[values.kind]
+    if values.limit == 0 and kind.default != DEFAULTS[kind.pass_number]:
+        return values._replace(limit=kind.default)
+    return values
+
+
 def pass_call(name, values, head=None):
     numbers = (*(head or own(values))[1:], values.limit)
-    return (first_call if values.kind == 1 else second_call)(name, values, numbers)
+    return (first_call if is_first(values.kind) else second_call)(name, values, numbers)
 
 
 # --- which calls --------------------------------------------------------------------------------------------------------
@@ -230,7 +239,7 @@ def odd_values(rng):
     for kind, figure in each_kind_and_figure():
         values = ordinary_sheet(kind, figure, rng)
         yield "as it should be", values
-        for limit in ODD_LIMITS if kind == 1 else ODD_TOLERANCES:
+        for limit in ODD_LIMITS if is_first(kind) else ODD_TOLERANCES:
             yield f"limit or tolerance {limit}", values._replace(limit=limit)
         spoilt = [*spoilt_columns(values), *all_alike(values)]
         yield from spoilt
@@ -269,7 +278,7 @@ def all_calls():
         _, values = answered(lambda sheet=sheet: read_sheet(sheet))
         if values:
             yield write_call(name, values)
-            yield pass_call(name, values)
+            yield pass_call(name, as_handed(values))
     rng = random.Random(f"{SEED} odd values")
     for name, values in [*odd_values(rng), *fixed_sums(rng)]:
         name = f"{name}, {label(values.kind, values.figure)}"

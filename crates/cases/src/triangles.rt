@@ -1,4 +1,4 @@
-// Accepted sheets of codes 2 and 3, of both kinds: bytes and texts of the independent computation (sheets/), a row for each triangle.
+// Accepted sheets of codes 2 and 3, for both passes: bytes and texts of the independent computation (sheets/), a row for each triangle.
 ghost use Prim.Native.Nat.{_≤_};
 use crate::comparing::tell_sheet;
 

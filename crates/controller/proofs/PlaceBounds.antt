@@ -5,7 +5,7 @@ use mathlib.Core.Bool.{Bool, true, false, cond}
 use mathlib.Core.List.{List, [], _∷_, _++_}
 use mathlib.Core.Path.{_≡_}
 use native.Mathlib.Omega.{arith}
-use lib.Dec.{T, eqb}
+use lib.Dec.{T, eqb, leb, leb→le}
 use lib.ListN.{length, length-append}
 use Rattle.refusals.specs.Order.{allInTable}
 use Rattle.refusals.proofs.Nowhere.{same-lengths}
@@ -17,7 +17,8 @@ use Rattle.figures.specs.Figure.{angleCount, fixedCount, sideCount, figureOf, o
 use Rattle.figures.specs.Numerators.{mostAngles}
 use Rattle.figures.proofs.Figures.{angle-bound}
 use Rattle.sheet_layout.specs.declared.Kind.{Kind}
-use Rattle.sheet_layout.specs.declared.Kind.the-variants.{FirstPass, SecondPass}
+use Rattle.sheet_layout.specs.declared.Kind.the-variants.{Two}
+use Rattle.sheet_layout.proofs.EachKind.{each}
 use Rattle.sheet_layout.specs.Layout.{lengthsOf, sheetSize}
 use Rattle.sheet_layout.proofs.Sizes.{fixed-bound, entry-bound}
 use Rattle.sheet_layout.specs.declared.head.Look.{Look}
@@ -62,8 +63,7 @@ fixed-few : (f : Figure) → fixedCount f ≤ mostAngles
 fixed-few f = omega (arith, fixed-bound f)
 
 pub fixed-in-few : (kind : Kind) (f : Figure) → lengthsOf kind f .fixed ≤ mostAngles
-fixed-in-few FirstPass f = fixed-few f
-fixed-in-few SecondPass f = omega arith
+fixed-in-few kind f = leb→le (lengthsOf kind f .fixed) mostAngles (each (λ k g. leb (lengthsOf k g .fixed) mostAngles) tt kind f)
 
 pub sines-in-few : (kind : Kind) (f : Figure) → lengthsOf kind f .«log_sines» ≤ mostAngles
 sines-in-few kind f = omega (arith, entry-bound kind f)
@@ -117,7 +117,7 @@ judged-lengths true true f angles e others same =
     let by-sine : length (e .logSines) ≡ angleCount f = cc in
     let by-side : length (e .logSides) ≡ sideCount f = cc in
     let entries : length (e .logSines ++ e .logSides) ≤ mostAngles =
-    omega (arith, length-append (e .logSines) (e .logSides), by-sine, by-side, entry-bound SecondPass f) in
+    omega (arith, length-append (e .logSines) (e .logSides), by-sine, by-side, entry-bound Two f) in
     (omega (arith, by-angle, angle-bound f), entries)
 judged-lengths true false f angles e others same = absurd (let z : _≡_ {A = ℕ} 0 1 = cc in omega arith)
 judged-lengths false c f angles e others same = absurd (let z : _≡_ {A = ℕ} 0 1 = cc in omega arith)

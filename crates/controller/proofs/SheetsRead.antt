@@ -13,7 +13,8 @@ use Rattle.refusals.specs.Promise.{stored}
 use Rattle.figures.specs.declared.Figure.{Figure}
 use Rattle.figures.specs.Figure.{description}
 use Rattle.sheet_layout.specs.declared.Kind.{Kind}
-use Rattle.sheet_layout.specs.Layout.{numberOfKind, sheetSize}
+use Rattle.sheet_layout.specs.Kinds.{numberOfKind}
+use Rattle.sheet_layout.specs.Layout.{sheetSize}
 use Rattle.sheet_layout.specs.declared.head.Look.{Look}
 use Rattle.sheet_layout.specs.declared.head.Look.the-variants.{Head}
 use Rattle.sheet_layout.specs.Head.{lookOf, ofHead}

@@ -12,7 +12,8 @@ use Rattle.refusals.specs.Table.{lengthsRow}
 use Rattle.figures.specs.declared.Figure.{Figure}
 use Rattle.figures.specs.Figure.{description, conditionCount, figureOf, ofNamed}
 use Rattle.sheet_layout.specs.declared.Kind.{Kind}
-use Rattle.sheet_layout.specs.Layout.{numberOfKind, lengthsOf}
+use Rattle.sheet_layout.specs.Kinds.{numberOfKind}
+use Rattle.sheet_layout.specs.Layout.{lengthsOf}
 use Rattle.sheet_layout.specs.Head.{headRows, lookOf, ofHead}
 use Rattle.sheet_rules.specs.Sheet.{Values, valuesRead}
 use Rattle.sheet_rules.specs.Judging.{readerRows, writerRows, writtenOf}

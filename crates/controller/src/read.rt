@@ -2,7 +2,7 @@
 ghost use mathlib.Core.Path.{_≡_};
 ghost use mathlib.Core.List.{[], _∷_};
 ghost use Rattle.figures.specs.Figure.{description};
-ghost use Rattle.sheet_layout.specs.Layout.{numberOfKind};
+ghost use Rattle.sheet_layout.specs.Kinds.{numberOfKind};
 ghost use Rattle.sheet_rules.specs.declared.Reading.{Reading};
 ghost use Rattle.sheet_rules.specs.Judging.{readingOf};
 ghost use Rattle.sheet_rules.specs.Promises.{slices};

@@ -25,7 +25,7 @@ use Rattle.figures.specs.declared.Named.{Named}
 use Rattle.figures.specs.declared.Named.the-variants.{As, Nothing}
 use Rattle.figures.specs.Figure.{description, denominator, angleCount, conditionCount, membersOf, hasSide, figureOf, ofNamed}
 use Rattle.figures.specs.Numerators.{reducedCoefficient}
-use Rattle.sheet_layout.specs.Layout.{numberOfKind}
+use Rattle.sheet_layout.specs.Kinds.{numberOfKind}
 use Rattle.sheet_rules.specs.declared.Reading.{Reading}
 use Rattle.sheet_rules.specs.declared.Reading.the-variants.{Read}
 use Rattle.sheet_rules.specs.Sheet.{Values, valuesRead}

@@ -34,7 +34,7 @@ number-at text line from place values e =
     ∙ sym (List·getD-map readNumber (drop from parts) place [])
     ∙ ap (λ (zs : List ℤ). getD zs place (pos 0)) e
 
--- ---- kind 1
+-- ---- the first pass
 
 module _ (f : Figure) (given numerators rounded results misclosures rests : ℕ → ℤ) where
   abbrev firstPageText : List ℕ
@@ -95,7 +95,7 @@ module _ (f : Figure) (given numerators rounded results misclosures rests : ℕ 
     results = λ i h. ap₂ _+ℤ_ (angle-read 1 i h) (angle-read 3 i h) ∙ result i h ∙ sym (angle-read 4 i h);
   }
 
--- ---- kind 2
+-- ---- the second pass
 
 module _ (f : Figure) (w sideW divisor : ℤ) (given reduced sideReduced numerators rounded results rests : ℕ → ℤ) where
   abbrev page : List ℕ
@@ -124,7 +124,7 @@ module _ (f : Figure) (w sideW divisor : ℤ) (given reduced sideReduced numerat
       → (place i : ℕ) → i < angleCount f → ofAngle page place i ≡ getD (values i) place (pos 0)
   angle-at read place i h = ap (numberOn page (suc i)) (sym (zero-add place)) ∙ number-at page (suc i) 0 place _ (read i h)
 
-  -- what every page of kind 2 says, from where its numbers stand
+  -- what every page of a second pass says, from where its numbers stand
   module _ (close : (j : ℕ) → j < conditionCount f → conditionSum f numerators j ≡ pos 0)
       (rest : (j : ℕ) → j < conditionCount f → conditionSum f rounded j ≡ rests j)
       (result : (i : ℕ) → i < angleCount f → given i +ℤ rounded i ≡ results i) where

@@ -21,7 +21,7 @@ use Rattle.figures.specs.declared.Named.the-variants.{As}
 use Rattle.figures.specs.Figure.{SineCondition, description, denominator, angleCount, conditionCount, membersOf, targetOf, sideCount, pole, side, hasSide, figureOf}
 use Rattle.figures.specs.Numerators.{conditionSum, numerator}
 use Rattle.sheet_layout.specs.declared.Kind.{Kind}
-use Rattle.sheet_layout.specs.Layout.{numberOfKind}
+use Rattle.sheet_layout.specs.Kinds.{numberOfKind}
 use Rattle.sheet_layout.specs.declared.head.Look.the-variants.{Head}
 use Rattle.sheet_layout.specs.Head.{headOf}
 use Rattle.sheet_rules.specs.declared.Reading.{Reading}

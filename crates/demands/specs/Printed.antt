@@ -1,7 +1,7 @@
 -- What is printed. The complaint that began this work: a controller printed corrections that did not cancel the misclosures above them.
 -- Here the numbers are read off the lines of the text of any bytes, as a person reads them, and nothing else is known of them.
 --
--- A line's parts are counted from 0: of kind 1, `figure 1 0 denominator 8`; `1 1620004 -12 -2 1620002`; `condition 1 4 -2`. Of kind 2,
+-- A line's parts are counted from 0: of a first pass, `figure 1 0 denominator 8`; `1 1620004 -12 -2 1620002`; `condition 1 4 -2`. Of a second,
 -- `figure 1 0 W 100 S 24315176`; `1 1620000 2049 -163920000 -7 1619993`; `condition 1 0`; with two sine conditions, M-100,
 -- `figure 2 4 W 5 -3 determinant 7`, and on an angle's line B stands after A. The line of angle i, counted from 0, is line 1 + i, that of
 -- condition j follows the angles' lines.
@@ -45,7 +45,7 @@ pub record Names (f : Figure) (text : List ℕ) : Type 0 where
   pub code : numberOn text 0 1 ≡ pos (description f .code)
   pub n : numberOn text 0 2 ≡ pos (description f .n)
 
--- a text of kind 1
+-- a text of a first pass
 pub record FirstPage (f : Figure) (text : List ℕ) : Type 0 where
   pub names : Names f text
   pub denominator-word : part text 0 3 ≡ denominatorWord
@@ -61,7 +61,7 @@ pub record FirstPage (f : Figure) (text : List ℕ) : Type 0 where
   -- the result is the given angle plus the rounded correction
   pub results : (i : ℕ) → i < angleCount f → ofAngle text 1 i +ℤ ofAngle text 3 i ≡ ofAngle text 4 i
 
--- a text of kind 2: what every one says, whose numerators stand in a place of the angles' lines, the rounded corrections after them and
+-- a text of a second pass: what every one says, whose numerators stand in a place of the angles' lines, the rounded corrections after them and
 -- then the results
 pub record SecondPageFrom (f : Figure) (text : List ℕ) (place : ℕ) : Type 0 where
   pub names : Names f text
@@ -104,7 +104,7 @@ SecondPage f text = SinePage (hasSide f) f text
 abbrev pub refusedLine : (k p : ℕ) → List ℕ
 refusedLine k p = lines ((refusedWord ∷ decimal (pos k) ∷ decimal (pos p) ∷ []) ∷ [])
 
--- the text of a sheet is a page of kind 1 or of kind 2, where no row of its order holds; and else its refusal
+-- the text of a sheet is a page of a first or of a second pass, where no row of its order holds; and else its refusal
 pub record Printed (sheet text : List ℕ) : Type 0 where
   pub page : ((f : Figure) × FirstPage f text) ⊎ (((f : Figure) × SecondPage f text) ⊎ ((k : ℕ) × (p : ℕ) × (text ≡ refusedLine k p)))
   -- turned back with number k at place p if and only if the order of reader and pass says so

@@ -49,7 +49,7 @@ module _ (f : Figure) where
   denominator-digits : length (decimal (pos (denominator f))) ≤ 2
   denominator-digits = length-positive 2 (denominator f) (lit< tt) (ltb→lt (denominator f) 100 (and-right (ltb (description f .n) 10) (ltb (denominator f) 100) others))
 
-  -- of kind 1: figure 3 8 denominator 48
+  -- of the first pass: figure 3 8 denominator 48
   first-figure-length : length (line (firstFigure f)) ≤ 26
   unfolding figureWord denominatorWord
   first-figure-length =

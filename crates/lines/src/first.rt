@@ -1,4 +1,4 @@
-// The lines of a worked sheet of kind 1: document 01, "Sheets worked through".
+// The lines of a sheet worked by the first pass: document 01, "Sheets worked through".
 ghost use Prim.Native.Nat.{_≤_, _<_};
 ghost use Rattle.whole.specs.Lists.{listed};
 ghost use Rattle.whole.specs.Sums.{naturals, vector};

@@ -10,7 +10,7 @@ ghost use Rattle.lines.specs.Lines.{figureNamed};
 use figures::Figure;
 use wide::Wide;
 
-// The most numbers that are laid at once: an angle's of kind 1.
+// The most numbers that are laid at once: an angle's of the first pass.
 const MOST_NUMBERS: usize = 5;
 
 const SPACE: u8 = b' ';

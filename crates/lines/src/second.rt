@@ -1,4 +1,4 @@
-// The lines of a worked sheet of kind 2: document 01, "Sheets worked through", and M-100 for a figure with a side condition.
+// The lines of a sheet worked by the second pass: document 01, "Sheets worked through", and M-100 for a figure with a side condition.
 ghost use mathlib.Core.Path.{_≡_};
 ghost use mathlib.Core.List.{_∷_};
 ghost use Prim.Native.Nat.{_+_, _≤_, _<_};

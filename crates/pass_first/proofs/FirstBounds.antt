@@ -22,7 +22,7 @@ use Rattle.pass_steps.proofs.StepLaws.{listed-within}
 
 module _ (f : Figure) (limit : ℕ) (angles fixed lent : List ℕ) (ok : Accepted f limit angles fixed lent) where
   pub misclosure-small : (j : ℕ) → j < conditionCount f → natAbs (misclosure f angles fixed j) ≤ mostLimit
-  misclosure-small j h = le-trans (ok .misclosure-within j h) (in-force-within 150 mostLimit limit (lit≤ tt) (ok .entries .limit-range))
+  misclosure-small j h = le-trans (ok .misclosure-within j h) (in-force-within 90 mostLimit limit (lit≤ tt) (ok .entries .limit-range))
 
   small : Within mostLimit (misclosuresOf f angles fixed)
   small = listed-within (conditionCount f) (misclosure f angles fixed) mostLimit misclosure-small

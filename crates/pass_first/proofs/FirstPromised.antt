@@ -130,7 +130,7 @@ module _ (f : Figure) (limit : ℕ) (angles fixed : List ℕ) (entry : FirstLent
       small-misclosures =
           listed-within (conditionCount f) (misclosure f angles fixed) mostLimit (λ j h. le-trans
           (range.misclosure-within (conditionCount f) (misclosure f angles fixed) j h (limitOf limit) (none-holds (limitRow ∷ []) one-passed .0))
-          (range.in-force-within 150 mostLimit limit (lit≤ tt) (entries .limit-range)))
+          (range.in-force-within 90 mostLimit limit (lit≤ tt) (entries .limit-range)))
 
       verdict-is : verdictOf (resultsRow (resultsOf angles (tenthsOf f (misclosuresOf f angles fixed)))) ≡ firstVerdictOf f limit angles fixed entry
       verdict-is =

@@ -1,4 +1,4 @@
--- The first pass: document 01, "The two passes", and document 02, M-101, for number 14. Angles and conditions are used by their indices, counted from 0.
+-- The first pass: document 01, "The two passes", and document 02, M-101 for number 14 and M-102 for the default limit. Angles and conditions are used by their indices, counted from 0.
 use Prim.Native.Nat.{ℕ, suc}
 use mathlib.Core.List.{List, [], _∷_, _++_}
 use lib.IntN.{ℤ, pos, natAbs, _+ℤ_, _-ℤ_}
@@ -16,9 +16,9 @@ use Rattle.figures.specs.Figure.{denominator, angleCount, conditionCount, fixed
 use Rattle.figures.specs.Numerators.{conditionSum, numerator}
 use Rattle.pass_rules.specs.Pass.{inForce, given}
 
--- the misclosure limit L: 0 stands for the default 150
+-- the misclosure limit L: 0 stands for the default 90 (document 02, M-102)
 abbrev pub limitOf : ℕ → ℕ
-limitOf = inForce 150
+limitOf = inForce 90
 
 -- what the angles of a condition should sum to, in tenths: 180°, 360°, or a fixed angle
 abbrev pub shouldBe : Target → (fixed : List ℕ) → ℤ

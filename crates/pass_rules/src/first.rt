@@ -16,8 +16,8 @@ use refusals::MOST_LIMIT;
 use refusals::Verdict;
 use refusals::first_to_fail;
 
-// Document 01, "Units and ranges": the misclosure limit, in tenths, that 0 stands for.
-const DEFAULT_LIMIT: u32 = 150;
+// Document 02, M-102: the misclosure limit, in tenths, that 0 stands for.
+const DEFAULT_LIMIT: u32 = 90;
 
 // L in force.
 pub fn limit_in_force(limit: u32) -> u32

@@ -19,7 +19,7 @@ pub use second::tolerance_in_force;
 pub type ResultLengths = [usize; 5];
 
 // L or e in force: 0 stands for the default.
-fn in_force(value: u32, default: u32) -> u32
+pub fn in_force(value: u32, default: u32) -> u32
     ensures { λ force. ⌜ force ≡ inForce default value ⌝ }
 {
     if value == 0 { default } else { value }

@@ -10,7 +10,8 @@ use Rattle.refusals.specs.Order.{Row, allInTable, judged}
 use Rattle.refusals.proofs.InSteps.{judged-after-pass, judged-after-failure}
 use Rattle.figures.specs.declared.Figure.{Figure}
 use Rattle.sheet_layout.specs.declared.Kind.{Kind}
-use Rattle.sheet_layout.specs.declared.Kind.the-variants.{FirstPass, SecondPass}
+use Rattle.sheet_layout.specs.declared.Pass.{Pass}
+use Rattle.sheet_layout.specs.Kinds.{passOf, defaultOf}
 use Rattle.sheet_layout.specs.declared.head.Look.{Look}
 use Rattle.sheet_layout.specs.declared.head.Look.the-variants.{Head}
 use Rattle.sheet_layout.specs.Head.{headRows, lookOf, ofHead}
@@ -19,20 +20,21 @@ use Rattle.sheet_rules.specs.Sheet.{Values, valuesRead}
 use Rattle.sheet_rules.specs.declared.Reading.{Reading}
 use Rattle.sheet_rules.specs.Judging.{ownLengths, bodyRows, readingAfter}
 use Rattle.sheet_rules.proofs.Accepted.{head-found}
+use Rattle.pass_rules.specs.Pass.{inForce}
 use Rattle.pass_rules.specs.FirstPass.{firstRows}
 use Rattle.pass_rules.specs.SecondPass.{secondRows}
-use Rattle.pass_sheet.specs.Worked.{WorkedSheet, shownIf, firstSheet, secondSheet, entriesOf, workedKind, workedRead, workedLook, workedOf, passRows, sheetRows, outcomeTold}
+use Rattle.pass_sheet.specs.Worked.{WorkedSheet, shownIf, firstSheet, secondSheet, entriesOf, workedPass, workedRead, workedLook, workedOf, rowsOfPass, passRows, sheetRows, outcomeTold}
 
 -- every row is in the table
-pass-known : (kind : Kind) (f : Figure) (v : Values) → T (allInTable (passRows kind f v))
+pass-known : (pass : Pass) (f : Figure) (limitOrTolerance : ℕ) (v : Values) → T (allInTable (rowsOfPass pass f limitOrTolerance v))
 unfolding firstRows secondRows
-pass-known FirstPass f v = tt
-pass-known SecondPass f v = tt
+pass-known Pass.First f limit v = tt
+pass-known Pass.Second f tolerance v = tt
 
 body-known : (sheet : List ℕ) (kind : Kind) (f : Figure)
     → T (allInTable (bodyRows kind f sheet (ownLengths kind f) ++ passRows kind f (valuesRead kind f sheet)))
 unfolding bodyRows
-body-known sheet kind f = pass-known kind f (valuesRead kind f sheet)
+body-known sheet kind f = pass-known (passOf kind) f _ (valuesRead kind f sheet)
 
 pub sheet-rows-known : (sheet : List ℕ) → T (allInTable (sheetRows sheet))
 unfolding sheetRows headRows
@@ -50,12 +52,12 @@ if-told : (verdict : Verdict) (shown : WorkedSheet) → outcomeTold (shown .outc
 if-told Passed shown done = done
 if-told (Failed refusal) shown done = refl
 
-shown-told : (kind : Kind) (f : Figure) (v : Values)
-    → outcomeTold (workedKind kind f (v .limitOrTolerance) (v .angles) (v .fixed) (entriesOf v) .outcome)
-    ≡ verdictTold (judged (passRows kind f v))
+shown-told : (pass : Pass) (f : Figure) (limitOrTolerance : ℕ) (v : Values)
+    → outcomeTold (workedPass pass f limitOrTolerance (v .angles) (v .fixed) (entriesOf v) .outcome)
+    ≡ verdictTold (judged (rowsOfPass pass f limitOrTolerance v))
 unfolding firstSheet secondSheet
-shown-told FirstPass f v = if-told (judged (passRows FirstPass f v)) _ refl
-shown-told SecondPass f v = if-told (judged (passRows SecondPass f v)) _ refl
+shown-told Pass.First f limit v = if-told (judged (rowsOfPass Pass.First f limit v)) _ refl
+shown-told Pass.Second f tolerance v = if-told (judged (rowsOfPass Pass.Second f tolerance v)) _ refl
 
 module _ (sheet : List ℕ) where
   abbrev rowsAfter : Look → List Row
@@ -65,7 +67,7 @@ module _ (sheet : List ℕ) where
       → outcomeTold (workedRead (readingAfter v kind f sheet) sheet .outcome)
       ≡ verdictTold (judged (bodyRows kind f sheet (ownLengths kind f) ++ passRows kind f (valuesRead kind f sheet)))
   body-told kind f Passed e =
-      shown-told kind f (valuesRead kind f sheet)
+      shown-told (passOf kind) f (inForce (defaultOf kind) (valuesRead kind f sheet .limitOrTolerance)) (valuesRead kind f sheet)
       ∙ sym (ap verdictTold (judged-after-pass (bodyRows kind f sheet (ownLengths kind f)) (passRows kind f (valuesRead kind f sheet)) e))
   body-told kind f (Failed refusal) e =
       sym (ap verdictTold

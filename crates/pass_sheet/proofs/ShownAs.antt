@@ -10,17 +10,18 @@ use Rattle.refusals.specs.declared.Verdict.the-variants.{Passed, Failed}
 use Rattle.refusals.specs.Order.{judged}
 use Rattle.figures.specs.declared.Figure.{Figure}
 use Rattle.sheet_layout.specs.declared.Kind.{Kind}
-use Rattle.sheet_layout.specs.declared.Kind.the-variants.{FirstPass, SecondPass}
+use Rattle.sheet_layout.specs.declared.Pass.{Pass}
+use Rattle.sheet_layout.specs.Kinds.{passOf}
 use Rattle.sheet_layout.specs.declared.head.Look.{Look}
 use Rattle.sheet_layout.specs.declared.head.Look.the-variants.{Head}
 use Rattle.sheet_layout.specs.Head.{lookOf, ofHead}
 use Rattle.sheet_rules.specs.declared.Reading.{Reading}
-use Rattle.sheet_rules.specs.Sheet.{valuesRead}
+use Rattle.sheet_rules.specs.Sheet.{Values, valuesRead}
 use Rattle.sheet_rules.specs.Judging.{ownLengths, bodyRows, readingAfter}
 use Rattle.sheet_rules.proofs.Accepted.{head-found}
 use Rattle.pass_rules.specs.FirstPass.{firstRows}
 use Rattle.pass_rules.specs.SecondPass.{SineEntries, sineEntries, secondRows}
-use Rattle.pass_sheet.specs.Worked.{WorkedSheet, firstSheetLengths, secondSheetLengths, refusedSheet, shownIf, firstShown, firstSheet, secondShown, secondSheet, entriesOf, workedRead, workedLook, workedOf, entriesIn}
+use Rattle.pass_sheet.specs.Worked.{WorkedSheet, firstSheetLengths, secondSheetLengths, refusedSheet, shownIf, firstShown, firstSheet, secondShown, secondSheet, entriesOf, workedPass, workedRead, workedLook, workedOf, entriesIn}
 
 pub record FirstShown (worked : WorkedSheet) : Type 0 where
   pub figure : Figure
@@ -77,16 +78,15 @@ module _ (sheet : List ℕ) where
       }))
       go (Failed refusal) failed = refused-shown refusal
 
+  pass-shown : (pass : Pass) (f : Figure) (limitOrTolerance : ℕ) (v : Values) → entriesIn sheet ≡ entriesOf v
+      → ShownAs sheet (workedPass pass f limitOrTolerance (v .angles) (v .fixed) (entriesOf v))
+  pass-shown Pass.First f limit v held = first-shown f limit (v .angles) (v .fixed)
+  pass-shown Pass.Second f tolerance v held = second-shown f tolerance (v .angles) (entriesOf v) held
+
   read-shown : (kind : Kind) (f : Figure) → entriesIn sheet ≡ entriesOf (valuesRead kind f sheet) → (v : Verdict)
       → ShownAs sheet (workedRead (readingAfter v kind f sheet) sheet)
-  read-shown FirstPass f held Passed =
-      first-shown f (valuesRead FirstPass f sheet .limitOrTolerance) (valuesRead FirstPass f sheet .angles)
-      (valuesRead FirstPass f sheet .fixed)
-  read-shown FirstPass f held (Failed refusal) = refused-shown refusal
-  read-shown SecondPass f held Passed =
-      second-shown f (valuesRead SecondPass f sheet .limitOrTolerance) (valuesRead SecondPass f sheet .angles)
-      (entriesOf (valuesRead SecondPass f sheet)) held
-  read-shown SecondPass f held (Failed refusal) = refused-shown refusal
+  read-shown kind f held Passed = pass-shown (passOf kind) f _ (valuesRead kind f sheet) held
+  read-shown kind f held (Failed refusal) = refused-shown refusal
 
   look-shown : (found : Look) → lookOf sheet ≡ found → ShownAs sheet (workedLook found sheet)
   look-shown (Head kind f) e =

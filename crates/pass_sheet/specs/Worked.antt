@@ -14,16 +14,18 @@ use Rattle.figures.specs.Numerators.{mostAngles, mostSides}
 use Rattle.figures.specs.declared.Figure.{Figure}
 use Rattle.figures.specs.Figure.{angleCount}
 use Rattle.sheet_layout.specs.declared.Kind.{Kind}
-use Rattle.sheet_layout.specs.declared.Kind.the-variants.{FirstPass, SecondPass}
+use Rattle.sheet_layout.specs.declared.Pass.{Pass}
 use Rattle.sheet_layout.specs.declared.head.Look.{Look}
 use Rattle.sheet_layout.specs.declared.head.Look.the-variants.{Head}
 use Rattle.sheet_layout.specs.Head.{headRows, lookOf, ofHead}
+use Rattle.sheet_layout.specs.Kinds.{passOf, defaultOf}
 use Rattle.sheet_layout.specs.Layout.{fixedIn, sineEntriesIn, sidesIn}
 use Rattle.sheet_rules.specs.declared.Reading.{Reading}
 use Rattle.sheet_rules.specs.declared.Reading.the-variants.{Read}
 use Rattle.sheet_rules.specs.Judging.{ownLengths, bodyRows, readingOf, readingAfter, afterReading}
 use Rattle.sheet_rules.specs.Sheet.{Values, valuesRead}
 use Rattle.pass_sheet.specs.declared.SheetValues.{SheetValues}
+use Rattle.pass_rules.specs.Pass.{inForce}
 use Rattle.pass_rules.specs.FirstPass.{firstResultLengths, firstRows, misclosuresOf, numeratorsOf, roundedOf, correctedOf, restsOf}
 use Rattle.pass_rules.specs.SecondPass.{SineEntries, sineEntries, sineMisclosure, sideMisclosure, divisor, secondNumerator, secondResultLengths, secondRows, reducedOf, sideReducedOf, secondRoundedOf, adjustedOf, secondRestsOf}
 
@@ -100,7 +102,7 @@ abbrev pub shownIf : Verdict → WorkedSheet → WorkedSheet
 shownIf Passed shown = shown
 shownIf (Failed r) shown = refusedSheet r
 
--- kind 1: the first pass of the figure, with slices of the right lengths lent for the results
+-- kinds for the first pass: that of the figure, with slices of the right lengths lent for the results
 abbrev pub firstSheetLengths : Figure → (angles fixed : List ℕ) → List ℕ
 firstSheetLengths f angles fixed = length angles ∷ length fixed ∷ firstResultLengths f
 
@@ -121,7 +123,7 @@ secondShown f angles e = record {
   rests = secondRestsOf f e;
 }
 
--- kind 2: the second pass of the figure, with slices of the right lengths lent for the results
+-- kinds for the second pass: that of the figure, with slices of the right lengths lent for the results
 abbrev pub secondSheetLengths : Figure → (angles : List ℕ) → SineEntries → List ℕ
 secondSheetLengths f angles e =
     length angles ∷ length (e .logSines) ∷ length (e .differences) ∷ length (e .logSides) ∷ secondResultLengths f
@@ -132,13 +134,17 @@ secondSheet f tolerance angles e =
 
 -- ---- from what the reader answered
 
--- what a sheet of kind 2 has beside its angles
+-- what a sheet for the second pass has beside its angles
 abbrev pub entriesOf : Values → SineEntries
 entriesOf v = sineEntries (v .logSines) (v .differences) (v .logSides)
 
+abbrev pub workedPass : Pass → Figure → (limitOrTolerance : ℕ) → (angles fixed : List ℕ) → SineEntries → WorkedSheet
+workedPass Pass.First f limit angles fixed e = firstSheet f limit angles fixed
+workedPass Pass.Second f tolerance angles fixed e = secondSheet f tolerance angles e
+
+-- the pass is handed L or e in force, where 0 stands for the default of the sheet's kind (document 02, M-102)
 abbrev pub workedKind : Kind → Figure → (limitOrTolerance : ℕ) → (angles fixed : List ℕ) → SineEntries → WorkedSheet
-workedKind FirstPass f limit angles fixed e = firstSheet f limit angles fixed
-workedKind SecondPass f tolerance angles fixed e = secondSheet f tolerance angles e
+workedKind kind f limitOrTolerance angles fixed e = workedPass (passOf kind) f (inForce (defaultOf kind) limitOrTolerance) angles fixed e
 
 abbrev pub workedReading : Reading → (angles fixed : List ℕ) → SineEntries → WorkedSheet
 workedReading (Reading.Refused r) angles fixed e = refusedSheet r
@@ -165,9 +171,12 @@ workedOf sheet = workedLook (lookOf sheet) sheet
 
 -- ---- the order of a sheet worked through: the reader's rows, in slices of the right lengths, and then those of the pass that its kind is for
 
+abbrev pub rowsOfPass : Pass → Figure → (limitOrTolerance : ℕ) → Values → List Row
+rowsOfPass Pass.First f limit v = firstRows f limit (v .angles) (v .fixed) (firstSheetLengths f (v .angles) (v .fixed))
+rowsOfPass Pass.Second f tolerance v = secondRows f tolerance (v .angles) (entriesOf v) (secondSheetLengths f (v .angles) (entriesOf v))
+
 abbrev pub passRows : Kind → Figure → Values → List Row
-passRows FirstPass f v = firstRows f (v .limitOrTolerance) (v .angles) (v .fixed) (firstSheetLengths f (v .angles) (v .fixed))
-passRows SecondPass f v = secondRows f (v .limitOrTolerance) (v .angles) (entriesOf v) (secondSheetLengths f (v .angles) (entriesOf v))
+passRows kind f v = rowsOfPass (passOf kind) f (inForce (defaultOf kind) (v .limitOrTolerance)) v
 
 unfoldable pub sheetRows : List ℕ → List Row
 sheetRows sheet =

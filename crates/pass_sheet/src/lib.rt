@@ -14,12 +14,16 @@ use lines::refused_lines;
 use lines::second_lines;
 use pass_first::first_pass_of;
 use pass_rules::SecondAnswer;
+use pass_rules::in_force;
 use pass_rules::second_result_lengths;
 use pass_second::second_pass_of;
 use refusals::Verdict;
 use sheet_rules::Kind;
 use sheet_rules::Look;
+use sheet_rules::Pass;
 use sheet_rules::Reading;
+use sheet_rules::default_of;
+use sheet_rules::pass_of;
 
 // No figure has more fixed angles.
 const MOST_FIXED: usize = 4;
@@ -67,7 +71,7 @@ fn values_of(sheet: &[u8], kind: Kind, figure: Figure) -> SheetValues
     }
 }
 
-// A sheet of kind 1.
+// A sheet for the first pass.
 fn first_sheet(
     buffer: &mut [u8],
     figure: Figure,
@@ -112,7 +116,7 @@ fn first_sheet(
     }
 }
 
-// A sheet of kind 2.
+// A sheet for the second pass.
 fn second_sheet(
     buffer: &mut [u8],
     figure: Figure,
@@ -174,7 +178,7 @@ fn second_sheet(
     }
 }
 
-// What the reader stored, worked by the pass of the kind that it read.
+// What the reader stored, worked by the pass of the kind that it read, with the kind's default where the sheet has 0.
 fn values_lines(buffer: &mut [u8], kind: Kind, figure: Figure, values: SheetValues) -> usize
     requires { ⌜ FullArrays values ⌝ }
     ensures { λ next. ⌜ Holds (now (buffer .entry)) (textOf (workedFrom kind figure values)) (now (buffer .exit)) next ⌝ }
@@ -196,24 +200,21 @@ fn values_lines(buffer: &mut [u8], kind: Kind, figure: Figure, values: SheetValu
             kind: read,
             figure: f,
             limit_or_tolerance,
-        } => match read {
-            Kind::FirstPass => first_sheet(
-                buffer,
-                f,
-                limit_or_tolerance,
-                &angles[..n],
-                &fixed[..k],
-            ),
-            Kind::SecondPass => second_sheet(
-                buffer,
-                f,
-                limit_or_tolerance,
-                &angles[..n],
-                &log_sines[..m],
-                &differences[..m],
-                &log_sides[..s],
-            ),
-        },
+        } => {
+            let bound = in_force(limit_or_tolerance, default_of(read));
+            match pass_of(read) {
+                Pass::First => first_sheet(buffer, f, bound, &angles[..n], &fixed[..k]),
+                Pass::Second => second_sheet(
+                    buffer,
+                    f,
+                    bound,
+                    &angles[..n],
+                    &log_sines[..m],
+                    &differences[..m],
+                    &log_sides[..s],
+                ),
+            }
+        }
     }
 }
 

@@ -39,7 +39,7 @@ pub enum Refusal {
     SineMisclosureBeyondTolerance,
     // 10: S is 0.
     SumOfSquaresIsZero,
-    // 11: kind is neither 1 nor 2.
+    // 11: kind is none of the kinds.
     NoSuchKind,
     // 12: sheet too short or too long.
     WrongSheetLength,

@@ -67,7 +67,7 @@ result-digits : (k : ℕ) (g : ℕ → ℤ) (count : ℕ) → ((i : ℕ) → i <
     → Digits k count (naturals (listed count (λ i. natAbs (g i))))
 result-digits k g count h i b = subst (λ (m : ℕ). m < 10 ^ k) (sym (getD-listed count (λ l. natAbs (g l)) i 0 b)) (h i b)
 
--- ---- kind 1
+-- ---- the first pass
 
 module _ (f : Figure) (limit : ℕ) (angles fixed : List ℕ) where
   module _ (ok : First.Accepted f limit angles fixed (firstSheetLengths f angles fixed)) where
@@ -89,7 +89,7 @@ module _ (f : Figure) (limit : ℕ) (angles fixed : List ℕ) where
         (listed-digits 10 (firstRest f angles fixed) (conditionCount f)
         (λ j b. omega (arith, first-rest-small f limit angles fixed lent ok j b)))
 
--- ---- kind 2
+-- ---- the second pass
 
 module _ (f : Figure) (tolerance : ℕ) (angles : List ℕ) (e : SineEntries) where
   module _ (ok : Accepted f tolerance angles e (secondSheetLengths f angles e)) where

@@ -15,7 +15,8 @@ use Rattle.figures.specs.Figure.{angleCount, conditionCount}
 use Rattle.figures.specs.Numerators.{mostAngles}
 use Rattle.figures.proofs.Figures.{angle-bound, condition-bound}
 use Rattle.sheet_layout.specs.declared.Kind.{Kind}
-use Rattle.sheet_layout.specs.declared.Kind.the-variants.{FirstPass, SecondPass}
+use Rattle.sheet_layout.specs.declared.Pass.{Pass}
+use Rattle.sheet_layout.specs.Kinds.{passOf}
 use Rattle.sheet_layout.specs.Layout.{fixedIn, sineEntriesIn, sidesIn}
 use Rattle.sheet_layout.specs.declared.head.Look.{Look}
 use Rattle.sheet_layout.specs.declared.head.Look.the-variants.{Head}
@@ -25,7 +26,7 @@ use Rattle.sheet_rules.specs.Sheet.{valuesRead}
 use Rattle.sheet_rules.specs.Judging.{ownLengths, bodyRows}
 use Rattle.pass_rules.specs.FirstPass.{firstLengths, firstRows, misclosure, corrected}
 use Rattle.pass_rules.specs.SecondPass.{SineEntries, secondLengths, secondRows, secondAdjusted}
-use Rattle.pass_sheet.specs.Worked.{entriesOf, passRows, sheetRows}
+use Rattle.pass_sheet.specs.Worked.{entriesOf, rowsOfPass, passRows, sheetRows}
 use Rattle.pass_sheet.proofs.SheetBounds as SheetBounds
 
 -- ---- the reader
@@ -89,14 +90,15 @@ second-within f tolerance angles e lent few = λ lengths range. (
 -- ---- a sheet worked through
 
 pass-within : (kind : Kind) (f : Figure) (sheet : List ℕ) → PlacesWithin mostAngles (passRows kind f (valuesRead kind f sheet))
-pass-within FirstPass f sheet =
-    first-within f (valuesRead FirstPass f sheet .limitOrTolerance) (valuesRead FirstPass f sheet .angles)
-    (valuesRead FirstPass f sheet .fixed) _
-    (λ lengths. (angles-few FirstPass f sheet, fixed-few FirstPass f sheet))
-pass-within SecondPass f sheet =
-    second-within f (valuesRead SecondPass f sheet .limitOrTolerance) (valuesRead SecondPass f sheet .angles)
-    (entriesOf (valuesRead SecondPass f sheet)) _
-    (λ lengths. (angles-few SecondPass f sheet, entries-few SecondPass f sheet))
+pass-within kind f sheet = go (passOf kind) _
+  where
+    go : (pass : Pass) (limitOrTolerance : ℕ) → PlacesWithin mostAngles (rowsOfPass pass f limitOrTolerance (valuesRead kind f sheet))
+    go Pass.First limit =
+        first-within f limit (valuesRead kind f sheet .angles) (valuesRead kind f sheet .fixed) _
+        (λ lengths. (angles-few kind f sheet, fixed-few kind f sheet))
+    go Pass.Second tolerance =
+        second-within f tolerance (valuesRead kind f sheet .angles) (entriesOf (valuesRead kind f sheet)) _
+        (λ lengths. (angles-few kind f sheet, entries-few kind f sheet))
 
 pub sheet-within : (sheet : List ℕ) → PlacesWithin mostAngles (sheetRows sheet)
 unfolding sheetRows

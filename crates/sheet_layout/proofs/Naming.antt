@@ -22,8 +22,9 @@ use Rattle.figures.specs.declared.Named.the-variants.{As, Nothing}
 use Rattle.figures.specs.Figure.{description, figureOf, figureNames}
 use Rattle.figures.proofs.Naming.{own-name, none-named, one-named}
 use Rattle.sheet_layout.specs.declared.Kind.{Kind}
-use Rattle.sheet_layout.specs.declared.Kind.the-variants.{FirstPass, SecondPass}
-use Rattle.sheet_layout.specs.Layout.{allKinds, numberOfKind, sort, numberOfItem, same, positionOf, held}
+use Rattle.sheet_layout.specs.declared.Kind.the-variants.{One, Two, Three}
+use Rattle.sheet_layout.specs.Kinds.{allKinds, numberOfKind}
+use Rattle.sheet_layout.specs.Layout.{sort, numberOfItem, same, positionOf, held}
 use Rattle.sheet_layout.specs.declared.head.NamedKind.{NamedKind}
 use Rattle.sheet_layout.specs.declared.head.NamedKind.the-variants.{Is, NoKind}
 use Rattle.sheet_layout.specs.declared.head.Look.{Look}
@@ -42,8 +43,9 @@ kind-among (k ∷ others) number kind e = choose (eqb number (numberOfKind k)) (
     choose false own rest e = rest e
 
 own-number : (kind : Kind) → kindOf (numberOfKind kind) ≡ Is kind
-own-number FirstPass = refl
-own-number SecondPass = refl
+own-number One = refl
+own-number Two = refl
+own-number Three = refl
 
 -- a number names a kind exactly if it is the kind's own
 pub kind-exactly : (number : ℕ) (kind : Kind) → (kindOf number ≡ Is kind) ↔ (number ≡ numberOfKind kind)

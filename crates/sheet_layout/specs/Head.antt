@@ -16,7 +16,8 @@ use Rattle.figures.specs.declared.Named.{Named}
 use Rattle.figures.specs.declared.Named.the-variants.{As, Nothing}
 use Rattle.figures.specs.Figure.{figureOf, figureNames}
 use Rattle.sheet_layout.specs.declared.Kind.{Kind}
-use Rattle.sheet_layout.specs.Layout.{allKinds, numberOfKind, theKind, theCode, theN, head, held}
+use Rattle.sheet_layout.specs.Kinds.{allKinds, numberOfKind}
+use Rattle.sheet_layout.specs.Layout.{theKind, theCode, theN, head, held}
 use Rattle.sheet_layout.specs.declared.head.NamedKind.{NamedKind}
 use Rattle.sheet_layout.specs.declared.head.NamedKind.the-variants.{Is, NoKind}
 use Rattle.sheet_layout.specs.declared.head.Look.{Look}

@@ -1,5 +1,6 @@
 -- The layout of a packed sheet: document 01, "Packed sheets". "Fields run on without gaps, most significant bit first; zero bits fill the last
--- byte." A kind's fields are one row of `layout`; the size of a sheet, the values that are read off it and its bytes all follow from that row.
+-- byte." A kind's fields are one row of `layout`, by the pass that it is for; the size of a sheet, the values that are read off it and its bytes all follow
+-- from that row.
 use Prim.Native.Nat.{ℕ, _+_}
 use mathlib.Core.Bool.{Bool, cond, _&&_}
 use mathlib.Core.List.{List, [], _∷_, _++_, map}
@@ -9,17 +10,9 @@ use Rattle.figures.specs.Figure.{angleCount, fixedCount, sideCount}
 use Rattle.figures.specs.Rows.{eachOf}
 use Rattle.bits.specs.Bits.{fieldAt, totalWidth, byteCount}
 use Rattle.sheet_layout.specs.declared.Kind.{Kind}
-use Rattle.sheet_layout.specs.declared.Kind.the-variants.{FirstPass, SecondPass}
 use Rattle.sheet_layout.specs.declared.Lengths.{Lengths}
-
--- ---- kinds
-
-abbrev pub numberOfKind : Kind → ℕ
-numberOfKind FirstPass = 1
-numberOfKind SecondPass = 2
-
-abbrev pub allKinds : List Kind
-allKinds = FirstPass ∷ SecondPass ∷ []
+use Rattle.sheet_layout.specs.declared.Pass.{Pass}
+use Rattle.sheet_layout.specs.Kinds.{passOf, ofPass}
 
 -- ---- what stands in a sheet, and in which width
 
@@ -51,35 +44,31 @@ widthOf (logSide i) = 27
 
 -- L or e
 abbrev pub limitOrToleranceItem : Kind → Item
-limitOrToleranceItem FirstPass = limit
-limitOrToleranceItem SecondPass = tolerance
+limitOrToleranceItem kind = ofPass (passOf kind) limit tolerance
 
 -- what stands in every sheet, of whatever kind
 abbrev pub head : List Item
 head = theKind ∷ theCode ∷ theN ∷ []
 
--- kind 1: each angle, then the fixed angles. Kind 2: the known log sides (M-100, "after e"), then per angle the angle, its log-sine and its
--- sine difference
-abbrev pub body : Kind → Figure → List Item
-body FirstPass f = eachOf (angleCount f) (λ i. angle i ∷ []) ++ eachOf (fixedCount f) (λ j. fixedAngle j ∷ [])
-body SecondPass f = eachOf (sideCount f) (λ j. logSide j ∷ []) ++ eachOf (angleCount f) (λ i. angle i ∷ logSine i ∷ difference i ∷ [])
+-- for the first pass, kinds 1 and 3: each angle, then the fixed angles. For the second, kind 2: the known log sides (M-100, "after e"), then per angle the
+-- angle, its log-sine and its sine difference
+abbrev pub body : Pass → Figure → List Item
+body Pass.First f = eachOf (angleCount f) (λ i. angle i ∷ []) ++ eachOf (fixedCount f) (λ j. fixedAngle j ∷ [])
+body Pass.Second f = eachOf (sideCount f) (λ j. logSide j ∷ []) ++ eachOf (angleCount f) (λ i. angle i ∷ logSine i ∷ difference i ∷ [])
 
 unfoldable pub layout : Kind → Figure → List Item
-layout kind f = head ++ (limitOrToleranceItem kind ∷ body kind f)
+layout kind f = head ++ (limitOrToleranceItem kind ∷ body (passOf kind) f)
 
 -- ---- how many of each, and how many bytes
 
 abbrev pub fixedIn : Kind → Figure → ℕ
-fixedIn FirstPass f = fixedCount f
-fixedIn SecondPass f = 0
+fixedIn kind f = ofPass (passOf kind) (fixedCount f) 0
 
 abbrev pub sineEntriesIn : Kind → Figure → ℕ
-sineEntriesIn FirstPass f = 0
-sineEntriesIn SecondPass f = angleCount f
+sineEntriesIn kind f = ofPass (passOf kind) 0 (angleCount f)
 
 abbrev pub sidesIn : Kind → Figure → ℕ
-sidesIn FirstPass f = 0
-sidesIn SecondPass f = sideCount f
+sidesIn kind f = ofPass (passOf kind) 0 (sideCount f)
 
 abbrev pub lengthsFrom : (angles fixed logSines differences logSides : ℕ) → Lengths
 lengthsFrom a f l d s = record { angles = a; fixed = f; «log_sines» = l; differences = d; «log_sides» = s }

@@ -1,7 +1,6 @@
 // The head of a packed sheet: document 01, "Packed sheets" and "Numbers given when a sheet is turned back". What its numbers name, and what
 // a look at it answers, stands in specs/Head.antt.
 ghost use mathlib.Core.Path.{_≡_};
-ghost use Rattle.sheet_layout.specs.Layout.{numberOfKind};
 ghost use Rattle.sheet_layout.specs.Head.{kindOf, headOf, lookOf};
 use crate::CODE_AT;
 use crate::CODE_WIDTH;
@@ -31,18 +30,10 @@ fn kind_of(number: u32) -> NamedKind
     ensures { λ named. ⌜ named ≡ kindOf number ⌝ }
 {
     match number {
-        1 => NamedKind::Is(Kind::FirstPass),
-        2 => NamedKind::Is(Kind::SecondPass),
+        1 => NamedKind::Is(Kind::One),
+        2 => NamedKind::Is(Kind::Two),
+        3 => NamedKind::Is(Kind::Three),
         _ => NamedKind::NoKind,
-    }
-}
-
-pub fn number_of_kind(kind: Kind) -> u32
-    ensures { λ number. ⌜ number ≡ numberOfKind kind ⌝ }
-{
-    match kind {
-        Kind::FirstPass => 1,
-        Kind::SecondPass => 2,
     }
 }
 

@@ -4,6 +4,7 @@ ghost use mathlib.Core.Path.{_≡_};
 ghost use Rattle.sheet_layout.specs.Layout.{lengthsOf, bitCount, sheetSize};
 
 mod head;
+mod kinds;
 
 use figure_tables::counts_of;
 use figures::Figure;
@@ -11,12 +12,28 @@ pub use head::Look;
 pub use head::NamedKind;
 pub use head::look_at;
 pub use head::named_head;
-pub use head::number_of_kind;
+pub use kinds::default_of;
+pub use kinds::number_of_kind;
+pub use kinds::pass_of;
 
-// What a sheet is for, and so which values it holds: kind 1 and kind 2.
+// The pass that a kind of sheet is for, and so which values it holds.
+pub enum Pass {
+    First,
+    Second,
+}
+
+// Kind 1, kind 2 and so on.
 pub enum Kind {
-    FirstPass,
-    SecondPass,
+    One,
+    Two,
+    Three,
+}
+
+// What a kind is; `default` is what L or e of 0 stands for in it.
+pub struct KindRow {
+    pub number: u32,
+    pub pass: Pass,
+    pub default: u32,
 }
 
 // How many values of each sort.
@@ -54,12 +71,12 @@ pub const N_AT: usize = CODE_AT + CODE_WIDTH as usize;
 
 pub const LIMIT_OR_TOLERANCE_AT: usize = N_AT + N_WIDTH as usize;
 
-// Where the body begins: kind 1 with the first angle, kind 2 with the first known log side, if the figure has any.
+// Where the body begins: for the first pass with the first angle, for the second with the first known log side, if the figure has any.
 pub const FIRST_PASS_BODY_AT: usize = LIMIT_OR_TOLERANCE_AT + LIMIT_WIDTH as usize;
 
 pub const SECOND_PASS_BODY_AT: usize = LIMIT_OR_TOLERANCE_AT + TOLERANCE_WIDTH as usize;
 
-// A known log side's bits in the body, and an angle's: kind 1 has the angle, kind 2 its log-sine and difference too.
+// A known log side's bits in the body, and an angle's: the angle, and for the second pass its log-sine and difference too.
 pub const LOG_SIDE_STEP: usize = LOG_SIDE_WIDTH as usize;
 
 pub const FIRST_PASS_STEP: usize = ANGLE_WIDTH as usize;
@@ -73,15 +90,15 @@ pub fn lengths_of(kind: Kind, figure: Figure) -> Lengths
     ensures { λ lengths. ⌜ lengths ≡ lengthsOf kind figure ⌝ }
 {
     let counts = counts_of(figure);
-    match kind {
-        Kind::FirstPass => Lengths {
+    match pass_of(kind) {
+        Pass::First => Lengths {
             angles: counts.angles,
             fixed: counts.fixed,
             log_sines: 0,
             differences: 0,
             log_sides: 0,
         },
-        Kind::SecondPass => Lengths {
+        Pass::Second => Lengths {
             angles: counts.angles,
             fixed: 0,
             log_sines: counts.angles,
@@ -96,9 +113,9 @@ pub fn bit_count(kind: Kind, figure: Figure) -> usize
     ensures { λ count. ⌜ count ≡ bitCount kind figure ⌝ }
 {
     let counts = counts_of(figure);
-    match kind {
-        Kind::FirstPass => FIRST_PASS_BODY_AT + FIRST_PASS_STEP * (counts.angles + counts.fixed),
-        Kind::SecondPass => {
+    match pass_of(kind) {
+        Pass::First => FIRST_PASS_BODY_AT + FIRST_PASS_STEP * (counts.angles + counts.fixed),
+        Pass::Second => {
             SECOND_PASS_BODY_AT + LOG_SIDE_STEP * counts.sides + SECOND_PASS_STEP * counts.angles
         }
     }

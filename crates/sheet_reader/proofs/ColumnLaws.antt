@@ -14,15 +14,16 @@ use Rattle.whole.proofs.Lists.{listed-ext}
 use Rattle.bits.specs.Bits.{fieldAt}
 use Rattle.bits.specs.Complement.{signedOf}
 use Rattle.figures.specs.declared.Figure.{Figure}
-use Rattle.figures.specs.Figure.{allFigures, angleCount}
+use Rattle.figures.specs.Figure.{allFigures, angleCount, fixedCount, sideCount}
 use Rattle.figures.proofs.Figures.{angle-bound}
 use Rattle.sheet_layout.specs.declared.Kind.{Kind}
-use Rattle.sheet_layout.specs.declared.Kind.the-variants.{FirstPass, SecondPass}
+use Rattle.sheet_layout.specs.declared.Pass.{Pass}
+use Rattle.sheet_layout.specs.Kinds.{allKinds, passOf, ofPass}
 use Rattle.sheet_layout.specs.declared.Lengths.{Lengths}
 use Rattle.sheet_layout.specs.Layout.{Item, angle, fixedAngle, logSine, difference, logSide, widthOf, layout, lengthsOf, limitOrToleranceItem, fixedIn, sineEntriesIn, sidesIn, sort, numberOfItem, same, positionOf, held}
+use Rattle.sheet_layout.proofs.EachKind.{each}
 use Rattle.sheet_layout.proofs.Sizes.{fixed-bound, side-bound}
 use Rattle.sheet_rules.specs.Sheet.{valuesRead}
-use Rattle.sheet_rules.proofs.Positions.{each}
 use Rattle.sheet_reader.specs.declared.columns.Column.{Column}
 use Rattle.sheet_reader.specs.Columns.{angleColumn, fixedColumn, logSineColumn, differenceColumn, logSideColumn, ColumnFits, columnValues, signedColumnValues}
 
@@ -42,7 +43,7 @@ module _ (item : ℕ → Item) (count : Kind → Figure → ℕ) (column : Kind 
   isColumn : Kind → Figure → Bool
   isColumn kind f = everyBelow (count kind f) (isInColumn kind f)
 
-  in-column : T (every (isColumn FirstPass) allFigures && every (isColumn SecondPass) allFigures)
+  in-column : T (every (λ kind. every (isColumn kind) allFigures) allKinds)
       → (kind : Kind) (f : Figure) (i : ℕ) → i < count kind f → InColumn kind f (item (suc i)) (column kind f) i
   unfolding isColumn isInColumn
   in-column t kind f i h =
@@ -55,9 +56,9 @@ module _ (item : ℕ → Item) (count : Kind → Figure → ℕ) (column : Kind 
         width = eqb→eq (widthOf p) (column kind f .width) (and-right first second all);
       }
 
-pub angle-in-column : (kind : Kind) (f : Figure) (i : ℕ) → i < angleCount f → InColumn kind f (angle (suc i)) (angleColumn kind f) i
+pub angle-in-column : (kind : Kind) (f : Figure) (i : ℕ) → i < angleCount f → InColumn kind f (angle (suc i)) (angleColumn (passOf kind) f) i
 unfolding layout positionOf same sort numberOfItem isColumn isInColumn
-angle-in-column = in-column angle (λ kind f. angleCount f) angleColumn tt
+angle-in-column = in-column angle (λ kind f. angleCount f) (λ kind f. angleColumn (passOf kind) f) tt
 
 pub fixed-in-column : (kind : Kind) (f : Figure) (i : ℕ) → i < fixedIn kind f → InColumn kind f (fixedAngle (suc i)) (fixedColumn f) i
 unfolding layout positionOf same sort numberOfItem isColumn isInColumn
@@ -90,9 +91,9 @@ column-read kind f s item c count stands =
     (λ i h. held-in-column kind f s (item (suc i)) c i (stands i h))
 
 module _ (kind : Kind) (f : Figure) (s : List ℕ) where
-  pub angles-read : valuesRead kind f s .angles ≡ columnValues s (angleColumn kind f) (angleCount f)
+  pub angles-read : valuesRead kind f s .angles ≡ columnValues s (angleColumn (passOf kind) f) (angleCount f)
   unfolding valuesRead
-  angles-read = column-read kind f s angle (angleColumn kind f) (angleCount f) (angle-in-column kind f)
+  angles-read = column-read kind f s angle (angleColumn (passOf kind) f) (angleCount f) (angle-in-column kind f)
 
   pub fixed-read : valuesRead kind f s .fixed ≡ columnValues s (fixedColumn f) (fixedIn kind f)
   unfolding valuesRead
@@ -116,61 +117,64 @@ module _ (kind : Kind) (f : Figure) (s : List ℕ) where
 -- L or e stands after the head
 pub limit-or-tolerance-read : (kind : Kind) (f : Figure) (s : List ℕ) → valuesRead kind f s .limitOrTolerance ≡ fieldAt s 12 (widthOf (limitOrToleranceItem kind))
 unfolding valuesRead held positionOf layout same sort numberOfItem
-limit-or-tolerance-read FirstPass f s = refl
-limit-or-tolerance-read SecondPass f s = refl
+limit-or-tolerance-read kind f s =
+    ap (λ (at : ℕ). fieldAt s at (widthOf (limitOrToleranceItem kind)))
+    (eqb→eq (positionOf (limitOrToleranceItem kind) (layout kind f)) 12
+    (each (λ k g. eqb (positionOf (limitOrToleranceItem k) (layout k g)) 12) tt kind f))
 
 -- ---- columns of a kind and a figure
 
 -- there are at most 24 values of each sort
 pub few-of-each : (kind : Kind) (f : Figure) {lengths : Lengths} → lengths ≡ lengthsOf kind f
     → (lengths .angles ≤ 24) × (lengths .fixed ≤ 24) × (lengths .«log_sines» ≤ 24) × (lengths .differences ≤ 24) × (lengths .«log_sides» ≤ 24)
-few-of-each kind f e = rw e (go kind)
+few-of-each kind f e = rw e (go (passOf kind))
   where
-    go : (kind : Kind)
-        → (angleCount f ≤ 24) × (fixedIn kind f ≤ 24) × (sineEntriesIn kind f ≤ 24) × (sineEntriesIn kind f ≤ 24) × (sidesIn kind f ≤ 24)
-    go FirstPass = omega (arith, angle-bound f, fixed-bound f)
-    go SecondPass = omega (arith, angle-bound f, side-bound f)
+    go : (pass : Pass)
+        → (angleCount f ≤ 24) × (ofPass pass (fixedCount f) 0 ≤ 24) × (ofPass pass 0 (angleCount f) ≤ 24) × (ofPass pass 0 (angleCount f) ≤ 24)
+        × (ofPass pass 0 (sideCount f) ≤ 24)
+    go Pass.First = omega (arith, angle-bound f, fixed-bound f)
+    go Pass.Second = omega (arith, angle-bound f, side-bound f)
 
 module _ (kind : Kind) (f : Figure) {lengths : Lengths} (is-lengths : lengths ≡ lengthsOf kind f) {c : Column} where
   -- they are short and end early
-  pub angles-fit : c ≡ angleColumn kind f → ColumnFits c (lengths .angles)
-  angles-fit e = rw (is-lengths, e) (go kind)
+  pub angles-fit : c ≡ angleColumn (passOf kind) f → ColumnFits c (lengths .angles)
+  angles-fit e = rw (is-lengths, e) (go (passOf kind))
     where
-      go : (kind : Kind) → ColumnFits (angleColumn kind f) (lengthsOf kind f .angles)
-      go FirstPass = (angle-bound f, omega (arith, angle-bound f))
-      go SecondPass = (angle-bound f, omega (arith, angle-bound f, side-bound f))
+      go : (pass : Pass) → ColumnFits (angleColumn pass f) (angleCount f)
+      go Pass.First = (angle-bound f, omega (arith, angle-bound f))
+      go Pass.Second = (angle-bound f, omega (arith, angle-bound f, side-bound f))
 
   pub fixed-fit : c ≡ fixedColumn f → ColumnFits c (lengths .fixed)
-  fixed-fit e = rw (is-lengths, e) (go kind)
+  fixed-fit e = rw (is-lengths, e) (go (passOf kind))
     where
-      go : (kind : Kind) → ColumnFits (fixedColumn f) (lengthsOf kind f .fixed)
-      go FirstPass = (omega (arith, fixed-bound f), omega (arith, angle-bound f, fixed-bound f))
-      go SecondPass = (omega arith, omega (arith, angle-bound f))
+      go : (pass : Pass) → ColumnFits (fixedColumn f) (ofPass pass (fixedCount f) 0)
+      go Pass.First = (omega (arith, fixed-bound f), omega (arith, angle-bound f, fixed-bound f))
+      go Pass.Second = (omega arith, omega (arith, angle-bound f))
 
   pub log-sines-fit : c ≡ logSineColumn f → ColumnFits c (lengths .«log_sines»)
-  log-sines-fit e = rw (is-lengths, e) (go kind)
+  log-sines-fit e = rw (is-lengths, e) (go (passOf kind))
     where
-      go : (kind : Kind) → ColumnFits (logSineColumn f) (lengthsOf kind f .«log_sines»)
-      go FirstPass = (omega arith, omega (arith, side-bound f))
-      go SecondPass = (angle-bound f, omega (arith, angle-bound f, side-bound f))
+      go : (pass : Pass) → ColumnFits (logSineColumn f) (ofPass pass 0 (angleCount f))
+      go Pass.First = (omega arith, omega (arith, side-bound f))
+      go Pass.Second = (angle-bound f, omega (arith, angle-bound f, side-bound f))
 
   pub differences-fit : c ≡ differenceColumn f → ColumnFits c (lengths .differences)
-  differences-fit e = rw (is-lengths, e) (go kind)
+  differences-fit e = rw (is-lengths, e) (go (passOf kind))
     where
-      go : (kind : Kind) → ColumnFits (differenceColumn f) (lengthsOf kind f .differences)
-      go FirstPass = (omega arith, omega (arith, side-bound f))
-      go SecondPass = (angle-bound f, omega (arith, angle-bound f, side-bound f))
+      go : (pass : Pass) → ColumnFits (differenceColumn f) (ofPass pass 0 (angleCount f))
+      go Pass.First = (omega arith, omega (arith, side-bound f))
+      go Pass.Second = (angle-bound f, omega (arith, angle-bound f, side-bound f))
 
   pub log-sides-fit : c ≡ logSideColumn → ColumnFits c (lengths .«log_sides»)
-  log-sides-fit e = rw (is-lengths, e) (go kind)
+  log-sides-fit e = rw (is-lengths, e) (go (passOf kind))
     where
-      go : (kind : Kind) → ColumnFits logSideColumn (lengthsOf kind f .«log_sides»)
-      go FirstPass = (omega arith, omega arith)
-      go SecondPass = (omega (arith, side-bound f), omega (arith, side-bound f))
+      go : (pass : Pass) → ColumnFits logSideColumn (ofPass pass 0 (sideCount f))
+      go Pass.First = (omega arith, omega arith)
+      go Pass.Second = (omega (arith, side-bound f), omega (arith, side-bound f))
 
   -- and hold the values of the sheet
   module _ (s values : List ℕ) where
-    pub angles-held : c ≡ angleColumn kind f → take (lengths .angles) values ≡ columnValues s c (lengths .angles)
+    pub angles-held : c ≡ angleColumn (passOf kind) f → take (lengths .angles) values ≡ columnValues s c (lengths .angles)
         → take (angleCount f) values ≡ valuesRead kind f s .angles
     angles-held e is = (rw (is-lengths, e) at is) ∙ sym (angles-read kind f s)
 

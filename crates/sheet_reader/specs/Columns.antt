@@ -11,7 +11,7 @@ use Rattle.figures.specs.Numerators.{mostAngles}
 use Rattle.bits.specs.Bits.{fieldAt}
 use Rattle.bits.specs.Complement.{signedOf}
 use Rattle.sheet_layout.specs.declared.Kind.{Kind}
-use Rattle.sheet_layout.specs.declared.Kind.the-variants.{FirstPass, SecondPass}
+use Rattle.sheet_layout.specs.declared.Pass.{Pass}
 use Rattle.sheet_layout.specs.Layout.{fixedIn, sineEntriesIn, sidesIn}
 use Rattle.sheet_rules.specs.Sheet.{Values, valuesFrom, mostBits}
 use Rattle.sheet_rules.specs.Promises.{Slices, slices}
@@ -20,13 +20,13 @@ use Rattle.sheet_reader.specs.declared.columns.Column.{Column}
 abbrev pub columnFrom : (start step width : ℕ) → Column
 columnFrom a b w = record { start = a; step = b; width = w }
 
--- where the rows of kind 2 begin, after the known log sides
+-- where the rows for the second pass begin, after the known log sides
 abbrev pub rowsStart : Figure → ℕ
 rowsStart f = 18 + 27 * sideCount f
 
-abbrev pub angleColumn : Kind → Figure → Column
-angleColumn FirstPass f = columnFrom 22 23 23
-angleColumn SecondPass f = columnFrom (rowsStart f) 65 23
+abbrev pub angleColumn : Pass → Figure → Column
+angleColumn Pass.First f = columnFrom 22 23 23
+angleColumn Pass.Second f = columnFrom (rowsStart f) 65 23
 
 abbrev pub fixedColumn : Figure → Column
 fixedColumn f = columnFrom (22 + 23 * angleCount f) 23 23

@@ -12,10 +12,10 @@ use sheet_layout::ANGLE_WIDTH;
 use sheet_layout::DIFFERENCE_WIDTH;
 use sheet_layout::FIRST_PASS_BODY_AT;
 use sheet_layout::FIRST_PASS_STEP;
-use sheet_layout::Kind;
 use sheet_layout::LOG_SIDE_STEP;
 use sheet_layout::LOG_SIDE_WIDTH;
 use sheet_layout::LOG_SINE_WIDTH;
+use sheet_layout::Pass;
 use sheet_layout::SECOND_PASS_BODY_AT;
 use sheet_layout::SECOND_PASS_STEP;
 
@@ -26,28 +26,28 @@ pub(crate) struct Column {
     pub(crate) width: u32,
 }
 
-// Where the log-sine and the difference stand in a row of kind 2, after the angle.
+// Where the log-sine and the difference stand in a row for the second pass, after the angle.
 const LOG_SINE_IN_ROW: usize = 23;
 
 const DIFFERENCE_IN_ROW: usize = 50;
 
-// Where the rows of kind 2 begin, after the known log sides.
+// Where the rows for the second pass begin, after the known log sides.
 fn rows_at(figure: Figure) -> usize
     ensures { λ start. ⌜ start ≡ rowsStart figure ⌝ }
 {
     SECOND_PASS_BODY_AT + LOG_SIDE_STEP * counts_of(figure).sides
 }
 
-pub(crate) fn angle_column(kind: Kind, figure: Figure) -> Column
-    ensures { λ column. ⌜ column ≡ angleColumn kind figure ⌝ }
+pub(crate) fn angle_column(pass: Pass, figure: Figure) -> Column
+    ensures { λ column. ⌜ column ≡ angleColumn pass figure ⌝ }
 {
-    match kind {
-        Kind::FirstPass => Column {
+    match pass {
+        Pass::First => Column {
             start: FIRST_PASS_BODY_AT,
             step: FIRST_PASS_STEP,
             width: ANGLE_WIDTH,
         },
-        Kind::SecondPass => Column {
+        Pass::Second => Column {
             start: rows_at(figure),
             step: SECOND_PASS_STEP,
             width: ANGLE_WIDTH,
@@ -55,7 +55,7 @@ pub(crate) fn angle_column(kind: Kind, figure: Figure) -> Column
     }
 }
 
-// Fixed angles stand after the angles, in kind 1 only.
+// Fixed angles stand after the angles, for the first pass only.
 pub(crate) fn fixed_column(figure: Figure) -> Column
     ensures { λ column. ⌜ column ≡ fixedColumn figure ⌝ }
 {
@@ -86,7 +86,7 @@ pub(crate) fn difference_column(figure: Figure) -> Column
     }
 }
 
-// Known log sides stand before the rows, in kind 2 only.
+// Known log sides stand before the rows, for the second pass only.
 pub(crate) fn log_side_column() -> Column
     ensures { λ column. ⌜ column ≡ logSideColumn ⌝ }
 {

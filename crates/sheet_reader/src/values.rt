@@ -26,17 +26,19 @@ use refusals::Verdict;
 use sheet_layout::Kind;
 use sheet_layout::LIMIT_OR_TOLERANCE_AT;
 use sheet_layout::LIMIT_WIDTH;
+use sheet_layout::Pass;
 use sheet_layout::TOLERANCE_WIDTH;
 use sheet_layout::lengths_of;
+use sheet_layout::pass_of;
 use sheet_rules::values_verdict;
 
 // L or e as packed, which stands after the head whatever the figure.
 pub(crate) fn limit_or_tolerance_in(sheet: &[u8], kind: Kind) -> u32
     ensures { λ held. ⌜ ((f : Figure) → held ≡ valuesRead kind f (now (sheet .entry)) .limitOrTolerance) ⌝ }
 {
-    match kind {
-        Kind::FirstPass => field(sheet, LIMIT_OR_TOLERANCE_AT, LIMIT_WIDTH),
-        Kind::SecondPass => field(sheet, LIMIT_OR_TOLERANCE_AT, TOLERANCE_WIDTH),
+    match pass_of(kind) {
+        Pass::First => field(sheet, LIMIT_OR_TOLERANCE_AT, LIMIT_WIDTH),
+        Pass::Second => field(sheet, LIMIT_OR_TOLERANCE_AT, TOLERANCE_WIDTH),
     }
 }
 
@@ -45,7 +47,7 @@ pub(crate) fn angles_in(sheet: &[u8], kind: Kind, figure: Figure) -> [u32; MOST_
 {
     column_values(
         sheet,
-        angle_column(kind, figure),
+        angle_column(pass_of(kind), figure),
         lengths_of(kind, figure).angles,
     )
 }

@@ -13,7 +13,7 @@ use Rattle.figures.specs.declared.Figure.{Figure}
 use Rattle.figures.specs.declared.Figure.the-variants.{Quadrilateral, PointInTriangle, CentralTriangle}
 use Rattle.figures.specs.Figure.{figureOf}
 use Rattle.sheet_layout.specs.declared.Kind.{Kind}
-use Rattle.sheet_layout.specs.declared.Kind.the-variants.{FirstPass, SecondPass}
+use Rattle.sheet_layout.specs.declared.Kind.the-variants.{One, Two}
 use Rattle.sheet_layout.specs.Layout.{layout, bitCount, sheetSize, sort, numberOfItem, same, positionOf, held}
 use Rattle.sheet_layout.specs.Head.{headOf, headRows, lookOf}
 use Rattle.sheet_rules.specs.declared.Reading.{Reading}
@@ -32,7 +32,7 @@ pub record Sample : Type 0 where
 -- the first printed sheet of document 01, "Sheets worked through": kind 1, code 1, L = 0, angle 1 of 1620004 and seven of 1620000
 abbrev printed : Sample
 printed = record {
-  kind = FirstPass;
+  kind = One;
   figure = Quadrilateral;
   values =
       valuesFrom 0 (1620004 ∷ 1620000 ∷ 1620000 ∷ 1620000 ∷ 1620000 ∷ 1620000 ∷ 1620000 ∷ 1620000 ∷ []) [] [] [] [];
@@ -44,7 +44,7 @@ printed = record {
 -- the values of sheets/point-in-triangle-first.sheet and so on, packed by tests/packed.py, one with the largest L and one with the largest e
 abbrev point-first : Sample
 point-first = record {
-  kind = FirstPass;
+  kind = One;
   figure = PointInTriangle;
   values =
       valuesFrom 600 (4540265 ∷ 950457 ∷ 989272 ∷ 4174479 ∷ 1116755 ∷ 1188767 ∷ 4245251 ∷ 1174924 ∷ 1059792 ∷ [])
@@ -56,7 +56,7 @@ point-first = record {
 
 abbrev point-second : Sample
 point-second = record {
-  kind = SecondPass;
+  kind = Two;
   figure = PointInTriangle;
   values =
       valuesFrom 0 (4540268 ∷ 950455 ∷ 989277 ∷ 4174473 ∷ 1116751 ∷ 1188775 ∷ 4245259 ∷ 1174946 ∷ 1059796 ∷ []) []
@@ -71,7 +71,7 @@ point-second = record {
 
 abbrev polygon-first : Sample
 polygon-first = record {
-  kind = FirstPass;
+  kind = One;
   figure = CentralTriangle;
   values =
       valuesFrom 0 (4258721 ∷ 1129342 ∷ 1091899 ∷ 4179504 ∷ 1086150 ∷ 1214352 ∷ 4521768 ∷ 1015872 ∷ 942384 ∷ []) [] [] [] [];
@@ -82,7 +82,7 @@ polygon-first = record {
 
 abbrev polygon-second : Sample
 polygon-second = record {
-  kind = SecondPass;
+  kind = Two;
   figure = CentralTriangle;
   values =
       valuesFrom 50 (4258735 ∷ 1129354 ∷ 1091911 ∷ 4179503 ∷ 1086147 ∷ 1214349 ∷ 4521761 ∷ 1015863 ∷ 942375 ∷ []) []
@@ -118,20 +118,20 @@ unfolding readingOf readerRows lookOf headOf headRows bodyRows answerOf held pos
 one-byte-too-many lent = refl
 
 -- the last bit is a filling bit; L is 1,023 and every angle is 0, but 13 comes before 3 and 4
-filling-bit : readingOf (0x11 ∷ 0x0f ∷ 0xfc ∷ (replicate 22 0 ++ (1 ∷ []))) (ownLengths FirstPass Quadrilateral) ≡ Reading.Refused Refusal.FillingBitSet
+filling-bit : readingOf (0x11 ∷ 0x0f ∷ 0xfc ∷ (replicate 22 0 ++ (1 ∷ []))) (ownLengths One Quadrilateral) ≡ Reading.Refused Refusal.FillingBitSet
 unfolding readingOf readerRows lookOf headOf headRows bodyRows answerOf held positionOf same sort numberOfItem fieldAt inside value digit bitsOf bits odd figureOf sheetSize bitCount layout totalWidth byteCount
 filling-bit = refl
 
-limit-601 : readingOf (packedSheet FirstPass Quadrilateral (valuesFrom 601 (replicate 8 1620000) [] [] [] [])) (ownLengths FirstPass Quadrilateral)
+limit-601 : readingOf (packedSheet One Quadrilateral (valuesFrom 601 (replicate 8 1620000) [] [] [] [])) (ownLengths One Quadrilateral)
     ≡ Reading.Refused Refusal.LimitOrToleranceOutOfRange
 unfolding readingOf readerRows lookOf headOf headRows bodyRows answerOf held positionOf same sort numberOfItem fieldAt inside value digit bitsOf bits odd figureOf sheetSize bitCount layout totalWidth byteCount packedSheet packedBits bytesOf bytesFrom firstByte valuesRead
 limit-601 = refl
 
 -- −10,000 at angle 3
 difference-below-range :
-    readingOf (packedSheet SecondPass Quadrilateral
+    readingOf (packedSheet Two Quadrilateral
     (valuesFrom 0 (replicate 8 1620000) [] (replicate 8 98494850) (pos 300 ∷ pos 169 ∷ negℤ (pos 10000) ∷ replicate 5 (pos 100)) []))
-    (ownLengths SecondPass Quadrilateral)
+    (ownLengths Two Quadrilateral)
     ≡ Reading.Refused (Refusal.SineEntryOutOfRange 3)
 unfolding readingOf readerRows lookOf headOf headRows bodyRows answerOf lowestPlace held positionOf same sort numberOfItem fieldAt inside value digit bitsOf bits odd figureOf sheetSize bitCount layout totalWidth byteCount packedSheet packedBits bytesOf bytesFrom firstByte valuesRead listed signedOf twosComplement fitsSigned halfRange
 difference-below-range = refl

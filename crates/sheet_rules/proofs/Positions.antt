@@ -12,9 +12,9 @@ use Rattle.whole.proofs.Computed.{and-left, and-right, every-at, every-below}
 use Rattle.bits.specs.Bits.{totalWidth}
 use Rattle.figures.specs.declared.Figure.{Figure}
 use Rattle.figures.specs.Figure.{allFigures, angleCount}
-use Rattle.figures.proofs.Figures.{each-figure}
 use Rattle.sheet_layout.specs.declared.Kind.{Kind}
-use Rattle.sheet_layout.specs.declared.Kind.the-variants.{FirstPass, SecondPass}
+use Rattle.sheet_layout.specs.Kinds.{allKinds}
+use Rattle.sheet_layout.proofs.EachKind.{each}
 use Rattle.sheet_layout.specs.Layout.{Item, theKind, theCode, theN, limit, tolerance, angle, fixedAngle, logSine, difference, logSide, widthOf, head, layout, limitOrToleranceItem, fixedIn, sineEntriesIn, sidesIn, sort, numberOfItem, same, positionOf, held}
 
 -- ---- items and their indexes
@@ -74,10 +74,6 @@ item-at-index p (q ∷ l) other h = go (same p q) (same-item p q) (item-at-index
 
 -- ---- tests over all kinds and figures
 
-pub each : (test : Kind → Figure → Bool) → T (every (test FirstPass) allFigures && every (test SecondPass) allFigures) → (kind : Kind) (f : Figure) → T (test kind f)
-each test t FirstPass f = each-figure (test FirstPass) (and-left (every (test FirstPass) allFigures) (every (test SecondPass) allFigures) t) f
-each test t SecondPass f = each-figure (test SecondPass) (and-right (every (test FirstPass) allFigures) (every (test SecondPass) allFigures) t) f
-
 -- no item stands twice
 pub stands-once : (kind : Kind) (f : Figure) (k : ℕ) → k < length (layout kind f) → indexOf (getD (layout kind f) k theKind) (layout kind f) ≡ k
 unfolding layout indexOf same sort numberOfItem
@@ -134,8 +130,9 @@ n-stands kind f = suc-le-suc (suc-le-suc (suc-le-suc zero-le))
 
 pub limit-stands : (kind : Kind) (f : Figure) → indexOf (limitOrToleranceItem kind) (layout kind f) < length (layout kind f)
 unfolding layout indexOf same sort numberOfItem
-limit-stands FirstPass f = suc-le-suc (suc-le-suc (suc-le-suc (suc-le-suc zero-le)))
-limit-stands SecondPass f = suc-le-suc (suc-le-suc (suc-le-suc (suc-le-suc zero-le)))
+limit-stands kind f =
+    ltb→lt (indexOf (limitOrToleranceItem kind) (layout kind f)) (length (layout kind f))
+    (each (λ k g. ltb (indexOf (limitOrToleranceItem k) (layout k g)) (length (layout k g))) tt kind f)
 
 -- and so does each value that is counted
 module _ (item : ℕ → Item) (count : Kind → Figure → ℕ) where
@@ -145,7 +142,7 @@ module _ (item : ℕ → Item) (count : Kind → Figure → ℕ) where
   allStand : Kind → Figure → Bool
   allStand kind f = everyBelow (count kind f) (stands kind f)
 
-  each-stands : T (every (allStand FirstPass) allFigures && every (allStand SecondPass) allFigures)
+  each-stands : T (every (λ kind. every (allStand kind) allFigures) allKinds)
       → (kind : Kind) (f : Figure) (i : ℕ) → i < count kind f → indexOf (item (suc i)) (layout kind f) < length (layout kind f)
   unfolding allStand stands
   each-stands t kind f i h =

@@ -24,7 +24,8 @@ use Rattle.figures.specs.declared.Figure.{Figure}
 use Rattle.figures.specs.Figure.{description, angleCount}
 use Rattle.figures.proofs.Naming.{named-exactly}
 use Rattle.sheet_layout.specs.declared.Kind.{Kind}
-use Rattle.sheet_layout.specs.Layout.{Item, theKind, theCode, theN, limit, tolerance, angle, fixedAngle, logSine, difference, logSide, widthOf, limitOrToleranceItem, layout, fixedIn, sineEntriesIn, sidesIn, bitCount, sheetSize, numberOfKind, positionOf, held}
+use Rattle.sheet_layout.specs.Kinds.{numberOfKind}
+use Rattle.sheet_layout.specs.Layout.{Item, theKind, theCode, theN, limit, tolerance, angle, fixedAngle, logSine, difference, logSide, widthOf, limitOrToleranceItem, layout, fixedIn, sineEntriesIn, sidesIn, bitCount, sheetSize, positionOf, held}
 use Rattle.sheet_layout.specs.Head.{kindNumberIn, codeIn, nIn}
 use Rattle.sheet_layout.proofs.Sizes.{bits-within}
 use Rattle.sheet_layout.proofs.Naming.{kind-exactly, own-head}

@@ -24,10 +24,13 @@ use Rattle.figures.specs.Figure.{description, angleCount}
 use Rattle.figures.proofs.Figures.{each-figure}
 use Rattle.figures.proofs.Naming.{named-exactly}
 use Rattle.sheet_layout.specs.declared.Kind.{Kind}
-use Rattle.sheet_layout.specs.declared.Kind.the-variants.{FirstPass, SecondPass}
-use Rattle.sheet_layout.specs.Layout.{Item, theKind, theCode, theN, limit, tolerance, angle, fixedAngle, logSine, difference, logSide, widthOf, limitOrToleranceItem, layout, fixedIn, sineEntriesIn, sidesIn, bitCount, sheetSize, numberOfKind, positionOf, held}
+use Rattle.refusals.specs.Ranges.{mostLimit, mostTolerance}
+use Rattle.sheet_layout.specs.declared.Pass.{Pass}
+use Rattle.sheet_layout.specs.Kinds.{numberOfKind, passOf, ofPass}
+use Rattle.sheet_layout.specs.Layout.{Item, theKind, theCode, theN, limit, tolerance, angle, fixedAngle, logSine, difference, logSide, widthOf, limitOrToleranceItem, layout, fixedIn, sineEntriesIn, sidesIn, bitCount, sheetSize, positionOf, held}
 use Rattle.sheet_layout.specs.declared.head.Look.the-variants.{Head}
 use Rattle.sheet_layout.specs.Head.{kindNumberIn, codeIn, nIn, headOf}
+use Rattle.sheet_layout.proofs.EachKind.{each-kind, each}
 use Rattle.sheet_layout.proofs.Naming.{kind-exactly}
 use Rattle.sheet_rules.specs.declared.Reading.{Reading}
 use Rattle.sheet_rules.specs.declared.Reading.the-variants.{Read}
@@ -50,8 +53,7 @@ n-small : (f : Figure) → description f .n < 16
 n-small f = ltb→lt (description f .n) 16 (each-figure (λ g. ltb (description g .n) 16) tt f)
 
 kind-small : (kind : Kind) → numberOfKind kind < 16
-kind-small FirstPass = lit< tt
-kind-small SecondPass = lit< tt
+kind-small kind = ltb→lt (numberOfKind kind) 16 (each-kind (λ k. ltb (numberOfKind k) 16) tt kind)
 
 -- a value by its number, where every value is at most `most`
 numbered-fits : (values : List ℕ) (most w count i : ℕ) → most < 2 ^ w → length values ≡ count → ((j : ℕ) → j < length values → getD values j 0 ≤ most)
@@ -62,11 +64,11 @@ numbered-fits values most w count (suc j) m e h t =
 
 module _ (kind : Kind) (f : Figure) (v : Values) (lengths : AsMany kind f v) (range : InRange kind v) where
   limit-fits : (p : Item) → p ≡ limitOrToleranceItem kind → v .limitOrTolerance < 2 ^ widthOf p
-  limit-fits p e = subst (λ (q : Item). v .limitOrTolerance < 2 ^ widthOf q) (sym e) (go kind (range .limitOrTolerance))
+  limit-fits p e = subst (λ (q : Item). v .limitOrTolerance < 2 ^ widthOf q) (sym e) (go (passOf kind) (range .limitOrTolerance))
     where
-      go : (kind : Kind) → v .limitOrTolerance ≤ mostLimitOrTolerance kind → v .limitOrTolerance < 2 ^ widthOf (limitOrToleranceItem kind)
-      go FirstPass h = omega arith
-      go SecondPass h = omega arith
+      go : (pass : Pass) → v .limitOrTolerance ≤ ofPass pass mostLimit mostTolerance → v .limitOrTolerance < 2 ^ widthOf (ofPass pass limit tolerance)
+      go Pass.First h = omega arith
+      go Pass.Second h = omega arith
 
   number-fits : (p : Item) → T (counted kind f p) → numberAt kind f v p < 2 ^ widthOf p
   number-fits theKind t = kind-small kind
@@ -108,8 +110,11 @@ module _ (kind : Kind) (f : Figure) (v : Values) (lengths : AsMany kind f v) (ra
 -- ---- the values are read back
 
 limit-number : (kind : Kind) (f : Figure) (v : Values) → numberAt kind f v (limitOrToleranceItem kind) ≡ v .limitOrTolerance
-limit-number FirstPass f v = refl
-limit-number SecondPass f v = refl
+limit-number kind f v = go (passOf kind)
+  where
+    go : (pass : Pass) → numberAt kind f v (ofPass pass limit tolerance) ≡ v .limitOrTolerance
+    go Pass.First = refl
+    go Pass.Second = refl
 
 listed-back : {A : Type 0} (count : ℕ) (values : List A) (g : ℕ → A) (d : A) → length values ≡ count → ((i : ℕ) → i < count → g i ≡ getD values i d) → listed count g ≡ values
 listed-back count values g d e h =
@@ -187,8 +192,7 @@ module _ (kind : Kind) (f : Figure) (v : Values) (lengths : AsMany kind f v) (ra
 
 long-enough : (kind : Kind) (f : Figure) → 2 ≤ sheetSize kind f
 unfolding sheetSize byteCount bitCount layout totalWidth
-long-enough FirstPass f = leb→le 2 (sheetSize FirstPass f) (each-figure (λ g. leb 2 (sheetSize FirstPass g)) tt f)
-long-enough SecondPass f = leb→le 2 (sheetSize SecondPass f) (each-figure (λ g. leb 2 (sheetSize SecondPass g)) tt f)
+long-enough kind f = leb→le 2 (sheetSize kind f) (each (λ k g. leb 2 (sheetSize k g)) tt kind f)
 
 -- what the reader answers to a sheet, and leaves in the slices that are lent to it: the kind and the figure that the numbers name, L or e, and the values
 pub record ReadsBack (kind code n : ℕ) (v : Values) (sheet : List ℕ) (lent : Slices) : Type 0 where

@@ -13,7 +13,7 @@ use Rattle.refusals.specs.Table.{lengthsRow, limitOrToleranceRow, anglesRow, fi
 use Rattle.figures.specs.declared.Figure.{Figure}
 use Rattle.bits.specs.Bits.{bitsOf}
 use Rattle.sheet_layout.specs.declared.Kind.{Kind}
-use Rattle.sheet_layout.specs.declared.Kind.the-variants.{FirstPass, SecondPass}
+use Rattle.sheet_layout.specs.Kinds.{passOf, ofPass}
 use Rattle.sheet_layout.specs.Layout.{lengthsOf, bitCount, sheetSize}
 use Rattle.sheet_layout.specs.declared.head.Look.{Look}
 use Rattle.sheet_layout.specs.declared.head.Look.the-variants.{Head}
@@ -24,10 +24,9 @@ use Rattle.sheet_rules.specs.Sheet.{Values, valuesRead, packedSheet}
 
 -- ---- the values: 3, 4, 5, 14, 8
 
--- L in kind 1, e in kind 2
+-- L for the first pass, e for the second
 abbrev pub mostLimitOrTolerance : Kind → ℕ
-mostLimitOrTolerance FirstPass = mostLimit
-mostLimitOrTolerance SecondPass = mostTolerance
+mostLimitOrTolerance kind = ofPass (passOf kind) mostLimit mostTolerance
 
 -- number 8 asks of the angles' entries, and then of the known log sides, which have the places after them (M-100)
 abbrev pub valueRows : Kind → Values → List Row

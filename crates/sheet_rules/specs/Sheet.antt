@@ -9,7 +9,8 @@ use Rattle.figures.specs.Figure.{description, angleCount}
 use Rattle.bits.specs.Bits.{Field, bytesOf, packedBits}
 use Rattle.bits.specs.Complement.{signedOf, twosComplement}
 use Rattle.sheet_layout.specs.declared.Kind.{Kind}
-use Rattle.sheet_layout.specs.Layout.{Item, theKind, theCode, theN, limit, tolerance, angle, fixedAngle, logSine, difference, logSide, numberOfKind, widthOf, limitOrToleranceItem, layout, fixedIn, sineEntriesIn, sidesIn, held}
+use Rattle.sheet_layout.specs.Kinds.{numberOfKind}
+use Rattle.sheet_layout.specs.Layout.{Item, theKind, theCode, theN, limit, tolerance, angle, fixedAngle, logSine, difference, logSide, widthOf, limitOrToleranceItem, layout, fixedIn, sineEntriesIn, sidesIn, held}
 
 -- ---- the values of a sheet, and its bytes
 

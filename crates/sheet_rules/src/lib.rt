@@ -17,8 +17,11 @@ use refusals::Verdict;
 use refusals::first_to_fail;
 pub use sheet_layout::Kind;
 pub use sheet_layout::Look;
+pub use sheet_layout::Pass;
+pub use sheet_layout::default_of;
 pub use sheet_layout::lengths_of;
 pub use sheet_layout::look_at;
+pub use sheet_layout::pass_of;
 pub use sheet_layout::sheet_size;
 
 // What the reader answers: L or e as packed, so that 0 stays 0.
@@ -34,9 +37,9 @@ pub enum Reading {
 fn most_limit_or_tolerance(kind: Kind) -> u32
     ensures { λ most. ⌜ most ≡ mostLimitOrTolerance kind ⌝ }
 {
-    match kind {
-        Kind::FirstPass => MOST_LIMIT,
-        Kind::SecondPass => MOST_TOLERANCE,
+    match pass_of(kind) {
+        Pass::First => MOST_LIMIT,
+        Pass::Second => MOST_TOLERANCE,
     }
 }
 

@@ -14,8 +14,7 @@ use Rattle.bits.proofs.Bytes.{AreBytes, length-bitsOf}
 use Rattle.bits.proofs.Fields.{is-inside, length-withField, withField-bytes}
 use Rattle.bits.proofs.Packed.{totalWidth-append, widths-append, packed-more, packed-filled}
 use Rattle.figures.specs.Rows.{eachOf}
-use Rattle.sheet_layout.specs.declared.Kind.{Kind}
-use Rattle.sheet_layout.specs.declared.Kind.the-variants.{FirstPass, SecondPass}
+use Rattle.sheet_layout.specs.declared.Pass.{Pass}
 use Rattle.sheet_rules.specs.Sheet.{Values}
 use Rattle.sheet_writer.specs.Parts.{putAll, fieldFrom, columnFields, bodyFields, bodyStart, BodyFits}
 
@@ -157,13 +156,10 @@ column-then s start width values later a b =
     let whole = rows-width (λ i. fieldFrom width (numbered values i 0) ∷ []) width (one-width width values) (length values) in
     b ∙ ap₂ (λ (x : List ℕ) (w : ℕ). putAll x (start + w) later) a (sym whole) ∙ sym (put-append s start (columnFields width values) later)
 
-module _ {kind : Kind} (v : Values) where
-  pub first-fits : kind ≡ FirstPass → BodyFits kind v → BodyFits FirstPass v
-  first-fits e h = subst (λ (k : Kind). BodyFits k v) e h
+-- of the pass that was told
+module _ {pass told : Pass} (v : Values) (e : pass ≡ told) where
+  pub fits-of : BodyFits pass v → BodyFits told v
+  fits-of h = subst (λ (p : Pass). BodyFits p v) e h
 
-  pub second-fits : kind ≡ SecondPass → BodyFits kind v → BodyFits SecondPass v
-  second-fits e h = subst (λ (k : Kind). BodyFits k v) e h
-
-  -- the body of the kind that was told
-  pub body-of : (s : List ℕ) {told : Kind} {x : List ℕ} → kind ≡ told → x ≡ putAll s (bodyStart told) (bodyFields told v) → x ≡ putAll s (bodyStart kind) (bodyFields kind v)
-  body-of s {x} e is = subst (λ (k : Kind). x ≡ putAll s (bodyStart k) (bodyFields k v)) (sym e) is
+  pub body-of : (s : List ℕ) {x : List ℕ} → x ≡ putAll s (bodyStart told) (bodyFields told v) → x ≡ putAll s (bodyStart pass) (bodyFields pass v)
+  body-of s {x} is = subst (λ (p : Pass). x ≡ putAll s (bodyStart p) (bodyFields p v)) (sym e) is

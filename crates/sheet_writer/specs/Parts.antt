@@ -13,7 +13,8 @@ use Rattle.bits.specs.Complement.{twosComplement}
 use Rattle.figures.specs.declared.Figure.{Figure}
 use Rattle.figures.specs.Rows.{eachOf}
 use Rattle.sheet_layout.specs.declared.Kind.{Kind}
-use Rattle.sheet_layout.specs.declared.Kind.the-variants.{FirstPass, SecondPass}
+use Rattle.sheet_layout.specs.declared.Pass.{Pass}
+use Rattle.sheet_layout.specs.Kinds.{ofPass}
 use Rattle.sheet_layout.specs.Layout.{theKind, theCode, theN, widthOf}
 use Rattle.sheet_rules.specs.Sheet.{Values, packedSheet, mostBits}
 use Rattle.sheet_rules.specs.Judging.{givenRows, afterWriting}
@@ -26,8 +27,8 @@ putAll sheet at (f ∷ later) = putAll (withField sheet at (f .width) (f .holds)
 abbrev pub fieldFrom : (width holds : ℕ) → Field
 fieldFrom w v = record { width = w; holds = v }
 
--- the fields of a sheet, part by part: the head; L or e; angles or fixed angles of kind 1, or log sides of kind 2; an angle, its log-sine
--- and its difference, angle by angle
+-- the fields of a sheet, part by part: the head; L or e; angles or fixed angles for the first pass, or log sides for the second; an angle,
+-- its log-sine and its difference, angle by angle
 abbrev pub headFields : (kind code n : ℕ) → List Field
 headFields kind code n = fieldFrom (widthOf theKind) kind ∷ fieldFrom (widthOf theCode) code ∷ fieldFrom (widthOf theN) n ∷ []
 
@@ -41,19 +42,18 @@ abbrev pub rowFields : List ℕ → List ℕ → List ℤ → List Field
 rowFields angles logSines differences =
     eachOf (length angles) (λ i. rowOf (numbered angles i 0) (numbered logSines i 0) (numbered differences i (pos 0)))
 
-abbrev pub bodyFields : Kind → Values → List Field
-bodyFields FirstPass v = columnFields 23 (v .angles) ++ columnFields 23 (v .fixed)
-bodyFields SecondPass v = columnFields 27 (v .logSides) ++ rowFields (v .angles) (v .logSines) (v .differences)
+abbrev pub bodyFields : Pass → Values → List Field
+bodyFields Pass.First v = columnFields 23 (v .angles) ++ columnFields 23 (v .fixed)
+bodyFields Pass.Second v = columnFields 27 (v .logSides) ++ rowFields (v .angles) (v .logSines) (v .differences)
 
 -- where the body begins
-abbrev pub bodyStart : Kind → ℕ
-bodyStart FirstPass = 22
-bodyStart SecondPass = 18
+abbrev pub bodyStart : Pass → ℕ
+bodyStart pass = ofPass pass 22 18
 
--- the slices of a body are short, and in kind 2 there is a log-sine and a difference for each angle
-abbrev pub BodyFits : Kind → Values → Type 0
-BodyFits FirstPass v = 22 + 23 * length (v .angles) + 23 * length (v .fixed) ≤ mostBits
-BodyFits SecondPass v =
+-- the slices of a body are short, and for the second pass there is a log-sine and a difference for each angle
+abbrev pub BodyFits : Pass → Values → Type 0
+BodyFits Pass.First v = 22 + 23 * length (v .angles) + 23 * length (v .fixed) ≤ mostBits
+BodyFits Pass.Second v =
     (18 + 27 * length (v .logSides) + 65 * length (v .angles) ≤ mostBits)
     × (length (v .logSines) ≡ length (v .angles)) × (length (v .differences) ≡ length (v .angles))
 

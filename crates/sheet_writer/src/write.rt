@@ -7,7 +7,8 @@ ghost use Rattle.refusals.specs.Order.{verdictOf};
 ghost use Rattle.refusals.specs.Table.{lengthsRow};
 ghost use Rattle.bits.specs.Bits.{withField, fillingWidth};
 ghost use Rattle.figures.specs.Figure.{description};
-ghost use Rattle.sheet_layout.specs.Layout.{numberOfKind, limitOrToleranceItem, widthOf, bitCount, sheetSize};
+ghost use Rattle.sheet_layout.specs.Kinds.{numberOfKind, ofPass};
+ghost use Rattle.sheet_layout.specs.Layout.{limit, tolerance, widthOf, bitCount, sheetSize};
 ghost use Rattle.sheet_rules.specs.Sheet.{valuesFrom, packedSheet, mostBits};
 ghost use Rattle.sheet_rules.specs.Judging.{lengthsGiven, ownLengths};
 ghost use Rattle.sheet_rules.specs.Promises.{WriterPromise};
@@ -35,6 +36,7 @@ use sheet_layout::LOG_SINE_WIDTH;
 use sheet_layout::Look;
 use sheet_layout::N_AT;
 use sheet_layout::N_WIDTH;
+use sheet_layout::Pass;
 use sheet_layout::SECOND_PASS_BODY_AT;
 use sheet_layout::SECOND_PASS_STEP;
 use sheet_layout::TOLERANCE_WIDTH;
@@ -42,6 +44,7 @@ use sheet_layout::bit_count;
 use sheet_layout::lengths_of;
 use sheet_layout::named_head;
 use sheet_layout::number_of_kind;
+use sheet_layout::pass_of;
 use sheet_layout::sheet_size;
 use sheet_rules::values_verdict;
 
@@ -75,16 +78,16 @@ fn put_head(sheet: &mut [u8], kind: Kind, figure: Figure)
     put_field(sheet, N_AT, N_WIDTH, name.n);
 }
 
-fn put_limit_or_tolerance(sheet: &mut [u8], kind: Kind, value: u32)
-    ensures { λ _. ⌜ now (sheet .exit) ≡ putAll (now (sheet .entry)) 12 (fieldFrom (widthOf (limitOrToleranceItem kind)) value ∷ []) ⌝ }
+fn put_limit_or_tolerance(sheet: &mut [u8], pass: Pass, value: u32)
+    ensures { λ _. ⌜ now (sheet .exit) ≡ putAll (now (sheet .entry)) 12 (fieldFrom (widthOf (ofPass pass limit tolerance)) value ∷ []) ⌝ }
 {
-    match kind {
-        Kind::FirstPass => put_field(sheet, LIMIT_OR_TOLERANCE_AT, LIMIT_WIDTH, value),
-        Kind::SecondPass => put_field(sheet, LIMIT_OR_TOLERANCE_AT, TOLERANCE_WIDTH, value),
+    match pass {
+        Pass::First => put_field(sheet, LIMIT_OR_TOLERANCE_AT, LIMIT_WIDTH, value),
+        Pass::Second => put_field(sheet, LIMIT_OR_TOLERANCE_AT, TOLERANCE_WIDTH, value),
     }
 }
 
-// Angles or fixed angles of kind 1, or log sides of kind 2: values of one width without gaps.
+// Angles or fixed angles for the first pass, or log sides for the second: values of one width without gaps.
 fn put_column(sheet: &mut [u8], start: usize, width: u32, values: &[u32])
     requires { ⌜ start + width * length (now values) ≤ mostBits ⌝ }
     ensures { λ _. ⌜ now (sheet .exit) ≡ putAll (now (sheet .entry)) start (columnFields width (now (values .entry))) ⌝ }
@@ -98,7 +101,7 @@ fn put_column(sheet: &mut [u8], start: usize, width: u32, values: &[u32])
     }
 }
 
-// An angle of kind 2, its log-sine and its difference.
+// An angle for the second pass, its log-sine and its difference.
 fn put_row(sheet: &mut [u8], at: usize, angle: u32, log_sine: u32, difference: i32)
     requires { ⌜ at ≤ mostBits ⌝ }
     ensures { λ _. ⌜ now (sheet .exit) ≡ putAll (now (sheet .entry)) at (rowOf angle «log_sine» difference) ⌝ }
@@ -131,24 +134,24 @@ fn put_rows(sheet: &mut [u8], start: usize, angles: &[u32], log_sines: &[u32], d
 
 fn put_body(
     sheet: &mut [u8],
-    kind: Kind,
+    pass: Pass,
     angles: &[u32],
     fixed: &[u32],
     log_sines: &[u32],
     differences: &[i32],
     log_sides: &[u32],
 )
-    requires { ⌜ BodyFits kind (valuesFrom 0 (now angles) (now fixed) (now «log_sines») (now differences) (now «log_sides»)) ⌝ }
-    ensures { λ _. ⌜ now (sheet .exit) ≡ putAll (now (sheet .entry)) (bodyStart kind) (bodyFields kind (valuesFrom 0
+    requires { ⌜ BodyFits pass (valuesFrom 0 (now angles) (now fixed) (now «log_sines») (now differences) (now «log_sides»)) ⌝ }
+    ensures { λ _. ⌜ now (sheet .exit) ≡ putAll (now (sheet .entry)) (bodyStart pass) (bodyFields pass (valuesFrom 0
         (now (angles .entry)) (now (fixed .entry)) (now («log_sines» .entry)) (now (differences .entry)) (now («log_sides» .entry)))) ⌝ }
 {
-    match kind {
-        Kind::FirstPass => {
+    match pass {
+        Pass::First => {
             put_column(sheet, FIRST_PASS_BODY_AT, ANGLE_WIDTH, angles);
             let fixed_at = FIRST_PASS_BODY_AT + FIRST_PASS_STEP * angles.len();
             put_column(sheet, fixed_at, ANGLE_WIDTH, fixed);
         }
-        Kind::SecondPass => {
+        Pass::Second => {
             put_column(sheet, SECOND_PASS_BODY_AT, LOG_SIDE_WIDTH, log_sides);
             let rows_at = SECOND_PASS_BODY_AT + LOG_SIDE_STEP * log_sides.len();
             put_rows(sheet, rows_at, angles, log_sines, differences);
@@ -182,11 +185,12 @@ fn pack(
     ensures { λ _. ⌜ now (sheet .exit) ≡ packedSheet kind figure (valuesFrom bound
         (now (angles .entry)) (now (fixed .entry)) (now («log_sines» .entry)) (now (differences .entry)) (now («log_sides» .entry))) ⌝ }
 {
+    let pass = pass_of(kind);
     put_head(sheet, kind, figure);
-    put_limit_or_tolerance(sheet, kind, bound);
+    put_limit_or_tolerance(sheet, pass, bound);
     put_body(
         sheet,
-        kind,
+        pass,
         angles,
         fixed,
         log_sines,

@@ -1,5 +1,5 @@
 -- `pass_sheet::values_lines` meets its contract: the pass of the kind that was read, on the values at the start of each array.
-use mathlib.Core.Path.{_≡_, sym, ap, _∙_, subst}
+use mathlib.Core.Path.{_≡_, sym, ap, ap₂, _∙_, subst}
 use Prim.Native.Nat.{ℕ, _≤_}
 use mathlib.Core.List.{List}
 use borrow.Author.Needs.{needs}
@@ -9,11 +9,14 @@ use Rattle.text.specs.Holds.{Holds}
 use Rattle.figures.specs.declared.Figure.{Figure}
 use Rattle.sheet_layout.specs.declared.Kind.{Kind}
 use Rattle.sheet_layout.specs.declared.Lengths.{Lengths}
+use Rattle.sheet_layout.specs.declared.Pass.{Pass}
+use Rattle.sheet_layout.specs.Kinds.{passOf, defaultOf}
 use Rattle.sheet_rules.specs.declared.Reading.{Reading}
-use Rattle.pass_rules.specs.SecondPass.{sineEntries}
+use Rattle.pass_rules.specs.Pass.{inForce}
+use Rattle.pass_rules.specs.SecondPass.{SineEntries, sineEntries}
 use Rattle.pass_sheet.specs.declared.SheetValues.{SheetValues}
 use Rattle.pass_sheet.specs.Texts.{textOf}
-use Rattle.pass_sheet.specs.Worked.{WorkedSheet, workedReading, workedFrom}
+use Rattle.pass_sheet.specs.Worked.{WorkedSheet, workedPass, workedKind, workedReading, workedFrom}
 use Rattle.pass_sheet.proofs.SheetBounds.{angles-few, fixed-few, log-sines-few, log-sides-few}
 use Rattle.pass_sheet.proofs.values_lines.Statement.{statement}
 use Rattle.pass_sheet.proofs.values_lines.Tie as tie
@@ -81,24 +84,52 @@ returns c =
     let read = c .before .before .before .before .before in
     shown (read .before .before) _ (read .reading .given .1) (c .before .before .refused-lines .ensures)
 
--- the reading that was told, with its kind
+-- a pass with L or e in force is the kind's own
+by-kind : (kind : Kind) (f : Figure) (value : ℕ) (angles fixed : List ℕ) (e : SineEntries) {pass told : Pass} {default bound : ℕ}
+    → pass ≡ passOf kind → pass ≡ told → default ≡ defaultOf kind → bound ≡ inForce default value
+    → workedPass told f bound angles fixed e ≡ workedKind kind f value angles fixed e
+by-kind kind f value angles fixed e own is default-is bound-is =
+    ap₂ (λ (p : Pass) (l : ℕ). workedPass p f l angles fixed e) (sym is ∙ own) (bound-is ∙ ap (λ (d : ℕ). inForce d value) default-is)
+
+module _ (c : tie.After-pass-of) where
+  abbrev read : tie.After-reading2
+  read = c .before .before .before .before
+
+  abbrev sides : tie.After-log-sides
+  sides = read .before .before
+
+  abbrev readKind : Kind
+  readKind = read .reading2 .given .0 .0
+
+  abbrev readFigure : Figure
+  readFigure = read .reading2 .given .0 .1 .0
+
+  abbrev readValue : ℕ
+  readValue = read .reading2 .given .0 .1 .1 .0
+
+  -- what the pass that was told shows is what the kind that was read shows
+  of-pass : (told : Pass) → c .pass-of .result ≡ told → {start buffer : List ℕ} {end : ℕ}
+      → Holds start
+      (textOf (workedPass told readFigure (c .before .in-force .result) (take (lengths sides .angles) (values sides .angles))
+      (take (lengths sides .fixed) (values sides .fixed))
+      (sineEntries (take (lengths sides .«log_sines») (values sides .«log_sines»)) (take (lengths sides .«log_sines») (values sides .differences))
+      (take (lengths sides .«log_sides») (values sides .«log_sides»))))) buffer end
+      → Holds start (textOf (workedFrom (kind sides) (figure sides) (values sides))) buffer end
+  of-pass told e {start} {buffer} {end} held =
+      shown sides (Reading.Read readKind readFigure readValue) (read .reading2 .given .1)
+      (subst (λ (s : WorkedSheet). Holds start (textOf s) buffer end)
+      (by-kind readKind readFigure readValue _ _ _ (c .pass-of .ensures) e (c .before .before .default-of .ensures) (c .before .in-force .ensures))
+      held)
+
 returns-2 : tie.Need-returns-2
 returns-2 c =
     let told = c .before .before .before .before .before .before in
-    let read = told .before .before .before in
-    let head = read .reading2 .given .0 in
-    shown (read .before .before) (Reading.Read Kind.FirstPass (head .1 .0) (head .1 .1 .0))
-    (read .reading2 .given .1 ∙ ap (λ (κ : Kind). Reading.Read κ (head .1 .0) (head .1 .1 .0)) (told .enum-told .given .1))
-    (c .before .before .first-sheet .ensures)
+    of-pass (told .before .before) Pass.First (told .enum-told .given .1) (c .before .before .first-sheet .ensures)
 
 returns-3 : tie.Need-returns-3
 returns-3 c =
     let told = c .before .before .before .before .before .before .before .before in
-    let read = told .before .before .before in
-    let head = read .reading2 .given .0 in
-    shown (read .before .before) (Reading.Read Kind.SecondPass (head .1 .0) (head .1 .1 .0))
-    (read .reading2 .given .1 ∙ ap (λ (κ : Kind). Reading.Read κ (head .1 .0) (head .1 .1 .0)) (told .enum-told2 .given .1))
-    (c .before .before .second-sheet .ensures)
+    of-pass (told .before .before) Pass.Second (told .enum-told2 .given .1) (c .before .before .second-sheet .ensures)
 
 pub values-lines-spec : {M : Type 1} → statement M
 values-lines-spec =
@@ -108,21 +139,24 @@ values-lines-spec =
     (λ c. search needs)
     (λ c κs. search needs)
     (λ c. search needs)
-    (λ c. search needs)
-    (λ c. few-angles (c .before .before .before .before .before .before))
-    (λ c. sym (length-take-le _ _ (few-angles (c .before .before .before .before .before .before .before))))
-    (λ c. few-fixed (c .before .before .before .before .before .before .before))
-    (λ c. sym (length-take-le _ _ (few-fixed (c .before .before .before .before .before .before .before .before))))
+    (λ c κs. search needs)
+    (λ c κs. search needs)
     (λ c κs. search needs)
     (λ c. search needs)
-    (λ c. few-angles (c .before .before .before .before .before .before))
-    (λ c. sym (length-take-le _ _ (few-angles (c .before .before .before .before .before .before .before))))
-    (λ c. few-log-sines (c .before .before .before .before .before .before .before))
-    (λ c. sym (length-take-le _ _ (few-log-sines (c .before .before .before .before .before .before .before .before))))
-    (λ c. few-differences (c .before .before .before .before .before .before .before .before))
-    (λ c. sym (length-take-le _ _ (few-differences (c .before .before .before .before .before .before .before .before .before))))
-    (λ c. few-log-sides (c .before .before .before .before .before .before .before .before .before))
-    (λ c. sym (length-take-le _ _ (few-log-sides (c .before .before .before .before .before .before .before .before .before .before))))
+    (λ c. few-angles (sides (c .before .before .before)))
+    (λ c. sym (length-take-le _ _ (few-angles (sides (c .before .before .before .before)))))
+    (λ c. few-fixed (sides (c .before .before .before .before)))
+    (λ c. sym (length-take-le _ _ (few-fixed (sides (c .before .before .before .before .before)))))
+    (λ c κs. search needs)
+    (λ c. search needs)
+    (λ c. few-angles (sides (c .before .before .before)))
+    (λ c. sym (length-take-le _ _ (few-angles (sides (c .before .before .before .before)))))
+    (λ c. few-log-sines (sides (c .before .before .before .before)))
+    (λ c. sym (length-take-le _ _ (few-log-sines (sides (c .before .before .before .before .before)))))
+    (λ c. few-differences (sides (c .before .before .before .before .before)))
+    (λ c. sym (length-take-le _ _ (few-differences (sides (c .before .before .before .before .before .before)))))
+    (λ c. few-log-sides (sides (c .before .before .before .before .before .before)))
+    (λ c. sym (length-take-le _ _ (few-log-sides (sides (c .before .before .before .before .before .before .before)))))
     (λ c κs. search needs)
     (λ c. search needs)
     returns

@@ -1,4 +1,4 @@
--- `sheet_layout::head::kind_of` meets its contract: at 1 and 2 the definition computes, and any other number passes both tests of it.
+-- `sheet_layout::head::kind_of` meets its contract: at 1, 2 and 3 the definition computes, and any other number passes every test of it.
 use mathlib.Core.Path.{sym, ap}
 use borrow.Author.Tests.{ne-eqb}
 use Rattle.sheet_layout.specs.Head.{kindOf}
@@ -12,7 +12,10 @@ returns-2 : tie.Need-returns-2
 returns-2 c = sym (ap kindOf (c .match .keys2))
 
 returns-3 : tie.Need-returns-3
-returns-3 c = simp (ne-eqb _ 1 (c .match .rest .0 .1), ne-eqb _ 2 (c .match .rest .1))
+returns-3 c = sym (ap kindOf (c .match .keys3))
+
+returns-4 : tie.Need-returns-4
+returns-4 c = simp (ne-eqb _ 1 (c .match .rest .0 .0 .1), ne-eqb _ 2 (c .match .rest .0 .1), ne-eqb _ 3 (c .match .rest .1))
 
 pub kind-of-spec : {M : Type 1} → statement M
-kind-of-spec = tie.close (tie.spec returns returns-2 returns-3)
+kind-of-spec = tie.close (tie.spec returns returns-2 returns-3 returns-4)

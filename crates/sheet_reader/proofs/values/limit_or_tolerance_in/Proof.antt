@@ -1,4 +1,4 @@
--- `sheet_reader::values::limit_or_tolerance_in` meets its contract: the arms have the widths of the two kinds.
+-- `sheet_reader::values::limit_or_tolerance_in` meets its contract: the arms have the widths of L and of e.
 use Prim.Native.Nat.{ℕ}
 use mathlib.Core.List.{List}
 use mathlib.Core.Path.{_≡_, sym, ap, _∙_}
@@ -6,17 +6,22 @@ use borrow.Author.Needs.{needs}
 use Rattle.bits.specs.Bits.{fieldAt}
 use Rattle.figures.specs.declared.Figure.{Figure}
 use Rattle.sheet_layout.specs.declared.Kind.{Kind}
-use Rattle.sheet_layout.specs.declared.Kind.the-variants.{FirstPass, SecondPass}
-use Rattle.sheet_layout.specs.Layout.{limitOrToleranceItem, widthOf}
+use Rattle.sheet_layout.specs.declared.Pass.{Pass}
+use Rattle.sheet_layout.specs.Kinds.{passOf, ofPass}
+use Rattle.sheet_layout.specs.Layout.{limit, tolerance, widthOf}
 use Rattle.sheet_rules.specs.Sheet.{valuesRead}
 use Rattle.sheet_reader.proofs.ColumnLaws.{limit-or-tolerance-read}
 use Rattle.sheet_reader.proofs.values.limit_or_tolerance_in.Statement.{statement}
 use Rattle.sheet_reader.proofs.values.limit_or_tolerance_in.Tie as tie
 
--- the field of the kind that was told
-of-kind : {kind : Kind} (told : Kind) (f : Figure) (s : List ℕ) {held : ℕ} → kind ≡ told → held ≡ fieldAt s 12 (widthOf (limitOrToleranceItem told))
-    → held ≡ valuesRead kind f s .limitOrTolerance
-of-kind told f s e is = is ∙ sym (limit-or-tolerance-read told f s) ∙ sym (ap (λ (k : Kind). valuesRead k f s .limitOrTolerance) e)
+-- the field of the pass that was told
+of-pass : {pass : Pass} (kind : Kind) (told : Pass) (f : Figure) (s : List ℕ) {held : ℕ} → pass ≡ passOf kind → pass ≡ told
+    → held ≡ fieldAt s 12 (widthOf (ofPass told limit tolerance)) → held ≡ valuesRead kind f s .limitOrTolerance
+of-pass kind told f s own e is =
+    is ∙ ap (λ (p : Pass). fieldAt s 12 (widthOf (ofPass p limit tolerance))) (sym e ∙ own) ∙ sym (limit-or-tolerance-read kind f s)
+
+pass-of-requires : tie.Need-pass-of-requires
+pass-of-requires c κs = search needs
 
 enum-told : tie.Need-enum-told
 enum-told c = search needs
@@ -31,11 +36,17 @@ field-requires-2 : tie.Need-field-requires-2
 field-requires-2 c κs = search needs
 
 returns : tie.Need-returns
-returns c = λ f. of-kind FirstPass f (c .before .before .before .before .args .sheet .now) (c .before .enum-told .given .1) (c .field .ensures)
+returns c =
+    let pass = c .before .before .before in
+    let a = pass .before .before .args in
+    λ f. of-pass (a .kind) Pass.First f (a .sheet .now) (pass .pass-of .ensures) (c .before .enum-told .given .1) (c .field .ensures)
 
 returns-2 : tie.Need-returns-2
-returns-2 c = λ f. of-kind SecondPass f (c .before .before .before .before .args .sheet .now) (c .before .enum-told2 .given .1) (c .field2 .ensures)
+returns-2 c =
+    let pass = c .before .before .before in
+    let a = pass .before .before .args in
+    λ f. of-pass (a .kind) Pass.Second f (a .sheet .now) (pass .pass-of .ensures) (c .before .enum-told2 .given .1) (c .field2 .ensures)
 
 pub limit-or-tolerance-in-spec : {M : Type 1} → statement M
 limit-or-tolerance-in-spec =
-    tie.close (tie.spec enum-told field-requires enum-told-2 field-requires-2 returns returns-2)
+    tie.close (tie.spec pass-of-requires enum-told field-requires enum-told-2 field-requires-2 returns returns-2)

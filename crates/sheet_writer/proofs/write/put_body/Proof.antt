@@ -1,10 +1,10 @@
--- `sheet_writer::write::put_body` meets its contract: the arms are the bodies of the two kinds, and a body is short.
+-- `sheet_writer::write::put_body` meets its contract: the arms are the bodies for the two passes, and a body is short.
 use borrow.Author.Needs.{needs}
 use native.Mathlib.Omega.{arith}
-use Rattle.sheet_layout.specs.declared.Kind.the-variants.{FirstPass, SecondPass}
+use Rattle.sheet_layout.specs.declared.Pass.{Pass}
 use Rattle.sheet_rules.specs.Sheet.{Values, valuesFrom}
 use Rattle.sheet_writer.specs.Parts.{columnFields, rowFields, BodyFits}
-use Rattle.sheet_writer.proofs.Packing.{column-then, first-fits, second-fits, body-of}
+use Rattle.sheet_writer.proofs.Packing.{column-then, fits-of, body-of}
 use Rattle.sheet_writer.proofs.write.put_body.Statement.{statement}
 use Rattle.sheet_writer.proofs.write.put_body.Tie as tie
 
@@ -12,11 +12,11 @@ abbrev given : tie.Start → Values
 given start = let a = start .args in valuesFrom 0 (a .angles .now) (a .fixed .now) (a .log-sines .now) (a .differences .now) (a .log-sides .now)
 
 -- what each arm knows of the body
-first : (c : tie.After-enum-told) → BodyFits FirstPass (given (c .before .before .before .before .before .before .before))
-first c = let start = c .before .before .before .before .before .before .before in first-fits (given start) (c .enum-told .given .1) (start .pre)
+first : (c : tie.After-enum-told) → BodyFits Pass.First (given (c .before .before .before .before .before .before .before))
+first c = let start = c .before .before .before .before .before .before .before in fits-of (given start) (c .enum-told .given .1) (start .pre)
 
-second : (c : tie.After-enum-told2) → BodyFits SecondPass (given (c .before .before .before .before .before .before .before))
-second c = let start = c .before .before .before .before .before .before .before in second-fits (given start) (c .enum-told2 .given .1) (start .pre)
+second : (c : tie.After-enum-told2) → BodyFits Pass.Second (given (c .before .before .before .before .before .before .before))
+second c = let start = c .before .before .before .before .before .before .before in fits-of (given start) (c .enum-told2 .given .1) (start .pre)
 
 put-column-requires : tie.Need-put-column-requires
 put-column-requires c κs = omega (arith, first (c .before))
@@ -49,7 +49,7 @@ returns c =
     let told = angles .before .before in
     let start = told .before .before .before .before .before .before .before in
     let a = start .args in
-    body-of (given start) (a .sheet .now) (told .enum-told .given .1)
+    body-of (given start) (told .enum-told .given .1) (a .sheet .now)
     (column-then (a .sheet .now) 22 23 (a .angles .now) (columnFields 23 (a .fixed .now)) (angles .put-column .ensures) (fixed .put-column2 .ensures))
 
 returns-2 : tie.Need-returns-2
@@ -59,7 +59,7 @@ returns-2 c =
     let told = sides .before .before in
     let start = told .before .before .before .before .before .before .before in
     let a = start .args in
-    body-of (given start) (a .sheet .now) (told .enum-told2 .given .1)
+    body-of (given start) (told .enum-told2 .given .1) (a .sheet .now)
     (column-then (a .sheet .now) 18 27 (a .log-sides .now) (rowFields (a .angles .now) (a .log-sines .now) (a .differences .now))
     (sides .put-column3 .ensures) (rows .put-rows .ensures))
 

@@ -6,7 +6,7 @@ use borrow.Author.Needs.{needs}
 use Rattle.bits.specs.Bits.{withField}
 use Rattle.figures.specs.declared.Name.{Name}
 use Rattle.figures.specs.Figure.{description}
-use Rattle.sheet_layout.specs.Layout.{numberOfKind}
+use Rattle.sheet_layout.specs.Kinds.{numberOfKind}
 use Rattle.sheet_writer.specs.Parts.{fieldFrom}
 use Rattle.sheet_writer.proofs.Packing.{put-three}
 use Rattle.sheet_writer.proofs.write.put_head.Statement.{statement}

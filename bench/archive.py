@@ -11,7 +11,7 @@ from pathlib import Path
 
 PARTS = (".text", ".rodata")  # what a controller must keep in its memory: machine code, and tables
 SHOWN = 5
-GOAL = 36 * 1024
+GOAL = 32 * 1024
 
 
 def said(*command):

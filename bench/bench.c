@@ -31,11 +31,12 @@ struct turn {
 static const struct {
     double time, instructions;
 } goals[OPERATIONS] = {
-    [READ] = {6, 0},
+    [READ] = {1.2, 0},
+    [WRITE] = {1.2, 0},
     [FIRST_PASS] = {1.35, 1.6},
     [SECOND_PASS] = {1.35, 1.6},
     [TWO_SINES] = {3, 0},
-    [REPORT] = {2.2, 0},
+    [REPORT] = {1.5, 0},
 };
 
 /* Both on the same sheet, with every byte that they may store compared, and with it what they leave alone. */

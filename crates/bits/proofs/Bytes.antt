@@ -7,7 +7,7 @@ use native.Mathlib.Decide.{decLe}
 use native.Mathlib.Nat.{lt-of-not-le}
 use native.Mathlib.Omega.{arith}
 use lib.ListN.{length, take, drop, getD, length-append, length-take, length-drop, length-replicate, replicate, replicate-append-replicate, take-append-drop, drop-of-length-le}
-use lib.Seq.{take-at, drop-at, take-append-le, take-append-add}
+use lib.Seq.{take-at, drop-at, take-append-le, take-append-add, length-take-le}
 use Rattle.bits.specs.Bits.{bits, value, bitsOf, firstByte, bytesFrom, byteCount, fillingWidth, bytesOf}
 use Rattle.bits.proofs.Numbers.{length-bits, value-bits, value-lt, bits-value}
 
@@ -19,6 +19,9 @@ pub length-bitsOf : (s : List ℕ) → length (bitsOf s) ≡ 8 * length s
 unfolding bitsOf
 length-bitsOf [] = refl
 length-bitsOf (x ∷ s) = omega (arith, length-append (bits 8 x) (bitsOf s), length-bits 8 x, length-bitsOf s)
+
+pub length-bitsOf-take : (s : List ℕ) (n : ℕ) → n ≤ length s → length (bitsOf (take n s)) ≡ 8 * n
+length-bitsOf-take s n h = omega (arith, length-bitsOf (take n s), length-take-le n s h)
 
 pub bitsOf-append : (s t : List ℕ) → bitsOf (s ++ t) ≡ bitsOf s ++ bitsOf t
 unfolding bitsOf

@@ -131,3 +131,7 @@ module _ (s : List ℕ) (at w : ℕ) where
       by-test (inside s at w)
       (λ e. rw (fieldAt-is e) (subst (λ (n : ℕ). value (take w (drop at (bitsOf s))) < 2 ^ n) (field-length e) (value-lt (take w (drop at (bitsOf s))))))
       (λ e. rw (fieldAt-outside e) (pow-pos w))
+
+  -- a field of no bits holds 0
+  pub fieldAt-empty : w ≡ 0 → fieldAt s at w ≡ 0
+  fieldAt-empty e = omega (arith, subst (λ (n : ℕ). fieldAt s at w < 2 ^ n) e fieldAt-lt)

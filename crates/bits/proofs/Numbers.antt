@@ -3,13 +3,13 @@ use mathlib.Core.Bool.{Bool, true, false}
 use mathlib.Core.List.{List, [], _∷_, _++_, append-assoc, append-nil}
 use mathlib.Core.Path.{_≡_, refl, sym, ap, ap₂, _∙_}
 use Prim.Native.Nat.{ℕ, zero, suc, _+_, _*_, _/_, _%_, _^_, _<_}
-use native.Mathlib.Nat.{add-zero, add-suc, mod-one, pow-suc, mod-eq-of-lt, mul-assoc}
+use native.Mathlib.Nat.{add-zero, add-suc, add-mul, mod-one, pow-suc, mod-eq-of-lt, mul-assoc}
 use native.Mathlib.Numerals.{add-one, one-add}
 use native.Mathlib.Omega.{arith}
 use lib.Bits.{block-half, block-odd}
 use lib.Dec.{eqb}
 use lib.ListN.{length, length-append, replicate, replicate-append-replicate}
-use lib.Pow.{mod-pow-add}
+use lib.Pow.{pow-add, mod-pow-add}
 use Rattle.bits.specs.Bits.{odd, bits, digit, value}
 
 pub length-bits : (w n : ℕ) → length (bits w n) ≡ w
@@ -24,16 +24,21 @@ digit-of (suc zero) h = refl
 digit-of (suc (suc m)) h = absurd (omega arith)
 
 -- the last bit counts what the number leaves over 2
-pub digit-odd : (n : ℕ) → digit (odd n) ≡ n % 2
+digit-odd : (n : ℕ) → digit (odd n) ≡ n % 2
 unfolding odd
 digit-odd n = digit-of (n % 2) (omega arith)
 
--- a bit more at the end doubles the number and adds the bit
-pub value-last : (b : List Bool) (x : Bool) → value (b ++ (x ∷ [])) ≡ value b * 2 + digit x
+-- runs of bits joined: the first counts 2 to the length of the second times as much
+pub value-append : (a b : List Bool) → value (a ++ b) ≡ value a * 2 ^ length b + value b
 unfolding value
-value-last [] x = omega arith
-value-last (c ∷ b) x =
-    rw (value-last b x, length-append b (x ∷ []), add-one, pow-suc, ← mul-assoc) (omega arith)
+value-append [] b = omega arith
+value-append (c ∷ a) b =
+    rw (value-append a b, length-append a b, pow-add 2 (length a) (length b), ← mul-assoc, add-mul) (omega arith)
+
+-- a bit more at the end doubles the number and adds the bit
+value-last : (b : List Bool) (x : Bool) → value (b ++ (x ∷ [])) ≡ value b * 2 + digit x
+unfolding value
+value-last b x = omega (arith, value-append b (x ∷ []))
 
 pub half-below : (w v : ℕ) → v < 2 ^ suc w → v / 2 < 2 ^ w
 half-below w v l = let l′ : v < 2 ^ w * 2 = rw pow-suc at l in omega arith

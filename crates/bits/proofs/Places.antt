@@ -1,21 +1,20 @@
--- One bit of a number, and one bit of bytes: where it stands, what it is, and the number or the bytes with another bit in its place.
+-- One bit of a number, and one bit of bytes: where it stands, and the number or the bytes with another bit in its place.
 -- In j + 1 + m bits the bit at place j counts 2 ^ m. Assumes nothing.
-use mathlib.Core.Bool.{Bool, false}
+use mathlib.Core.Bool.{Bool}
 use mathlib.Core.List.{List, [], _∷_, _++_}
 use mathlib.Core.Path.{_≡_, sym, ap, ap₂, _∙_, subst}
 use Prim.Native.Nat.{ℕ, zero, suc, _+_, _-_, _*_, _/_, _%_, _^_, _≤_, _<_}
-use native.Mathlib.Nat.{zero-add, add-zero, add-suc, suc-add, mod-lt, pow-suc, lt-of-lt-of-le}
-use native.Mathlib.Numerals.{add-one}
+use native.Mathlib.Nat.{zero-add, add-zero, add-suc, suc-add, mod-lt, pow-suc}
 use native.Mathlib.Omega.{arith}
 use lib.Arith.{digits-lt}
 use lib.Dec.{eqb}
-use lib.ListN.{length, take, drop, getD, set, length-drop, length-take, take-append-drop, List·getD-append}
-use lib.Pow.{pow-pos, pow-mono, pow-add, shr-lt, split}
-use lib.Seq.{append-snoc, getD-at, set-at, split-at, set-split, take-suc, getD-drop, getD-append-add, set-append-left, take-set-le, drop-at, length-take-le}
-use Rattle.bits.specs.Bits.{odd, bits, digit, value, bitsOf}
-use Rattle.bits.proofs.Bytes.{length-bitsOf, bitsOf-append}
+use lib.ListN.{length, take, drop, getD, set, take-append-drop}
+use lib.Pow.{pow-pos, pow-add, shr-lt, split}
+use lib.Seq.{append-snoc, set-at, split-at, set-split, set-append-left, take-set-le, drop-at, length-take-le}
+use Rattle.bits.specs.Bits.{odd, bits, bitsOf}
+use Rattle.bits.proofs.Bytes.{length-bitsOf-take, bitsOf-append}
 use Rattle.bits.proofs.Fields.{laid}
-use Rattle.bits.proofs.Numbers.{length-bits, bits-append, digit-odd, half-below, value-last, value-lt}
+use Rattle.bits.proofs.Numbers.{length-bits, bits-append, half-below}
 
 -- ---- a bit of a number
 
@@ -34,14 +33,6 @@ parted j m n =
     let whole : n ≡ (n / 2 ^ m / 2 * 2 + n / 2 ^ m % 2) * 2 ^ m + n % 2 ^ m =
     sym (split n m) ∙ ap (λ (q : ℕ). q * 2 ^ m + n % 2 ^ m) (omega arith) in
     ap (bits (j + suc m)) whole ∙ joined j m (n / 2 ^ m / 2) (n / 2 ^ m % 2) (n % 2 ^ m) (omega arith) (mod-lt n (pow-pos m))
-
--- the bit at a place
-pub place-bit : (j m n : ℕ) → n / 2 ^ m % 2 ≡ digit (getD (bits (j + suc m) n) j false)
-place-bit j m n =
-    let own : odd (n / 2 ^ m % 2) ≡ getD (bits (j + suc m) n) j false =
-    sym (ap (λ (b : List Bool). getD b j false) (parted j m n)
-    ∙ getD-at (bits j (n / 2 ^ m / 2)) (odd (n / 2 ^ m % 2)) (bits m (n % 2 ^ m)) false j (length-bits j (n / 2 ^ m / 2))) in
-    omega (arith, digit-odd (n / 2 ^ m % 2), ap digit own)
 
 -- the number with another bit there
 pub place-set : (j m n c : ℕ) → c < 2 → bits (j + suc m) ((n / 2 ^ m / 2 * 2 + c) * 2 ^ m + n % 2 ^ m) ≡ set (bits (j + suc m) n) j (odd c)
@@ -67,10 +58,6 @@ module _ (place counts n : ℕ) (within : place < 8) (power : counts ≡ 2 ^ (7 
   eight : place + suc (7 - place) ≡ 8
   eight = omega arith
 
-  pub bit-of-byte : n / counts % 2 ≡ digit (getD (bits 8 n) place false)
-  bit-of-byte =
-      rw power (subst (λ (w : ℕ). n / 2 ^ (7 - place) % 2 ≡ digit (getD (bits w n) place false)) eight (place-bit place (7 - place) n))
-
   pub byte-with-bit : (c : ℕ) → c < 2 → bits 8 ((n / counts / 2 * 2 + c) * counts + n % counts) ≡ set (bits 8 n) place (odd c)
   byte-with-bit c h =
       rw power
@@ -93,7 +80,7 @@ set-append-add (x ∷ xs) ys n c =
 
 module _ (s : List ℕ) (i : ℕ) (within : i < length s) where
   before-length : length (bitsOf (take i s)) ≡ 8 * i
-  before-length = omega (arith, length-bitsOf (take i s), length-take-le i s (omega arith))
+  before-length = length-bitsOf-take s i (omega arith)
 
   -- bits before a byte, the byte's, those after it
   around : (x : ℕ) → bitsOf (take i s ++ x ∷ drop (suc i) s) ≡ bitsOf (take i s) ++ (bits 8 x ++ bitsOf (drop (suc i) s))
@@ -102,14 +89,6 @@ module _ (s : List ℕ) (i : ℕ) (within : i < length s) where
 
   whole : bitsOf s ≡ bitsOf (take i s) ++ (bits 8 (getD s i 0) ++ bitsOf (drop (suc i) s))
   whole = ap bitsOf (split-at s i 0 within) ∙ around (getD s i 0)
-
-  -- a bit of bytes is a bit of one byte
-  pub byte-bit : (j : ℕ) → j < 8 → getD (bitsOf s) (8 * i + j) false ≡ getD (bits 8 (getD s i 0)) j false
-  byte-bit j h =
-      let there : 8 * i + j ≡ length (bitsOf (take i s)) + j = ap (λ (n : ℕ). n + j) (sym before-length) in
-      ap₂ (λ (b : List Bool) (n : ℕ). getD b n false) whole there
-      ∙ getD-append-add (bitsOf (take i s)) (bits 8 (getD s i 0) ++ bitsOf (drop (suc i) s)) j false
-      ∙ List·getD-append (bits 8 (getD s i 0)) (bitsOf (drop (suc i) s)) false j (omega (arith, length-bits 8 (getD s i 0)))
 
   -- a byte with another bit at a place makes bytes with that bit there
   pub byte-set : (j x : ℕ) (c : Bool) → j < 8 → bits 8 x ≡ set (bits 8 (getD s i 0)) j c → bitsOf (set s i x) ≡ set (bitsOf s) (8 * i + j) c
@@ -137,27 +116,8 @@ module _ (s : List ℕ) (at further : ℕ) (within : at + further < 8 * length s
   in-bytes : index < length s
   in-bytes = omega arith
 
-  pub bit-further : getD (bits 8 (getD s index 0)) place false ≡ getD (bitsOf s) (at + further) false
-  bit-further = sym (byte-bit s index in-bytes place (omega arith)) ∙ ap (λ (n : ℕ). getD (bitsOf s) n false) there
-
   pub set-further : (x : ℕ) (c : Bool) → bits 8 x ≡ set (bits 8 (getD s index 0)) place c → bitsOf (set s index x) ≡ set (bitsOf s) (at + further) c
   set-further x c e = byte-set s index in-bytes place x c (omega arith) e ∙ ap (λ (n : ℕ). set (bitsOf s) n c) there
-
--- ---- a run of bits, read from its start
-
-module _ (b : List Bool) (at k : ℕ) where
-  -- one bit more doubles what was read and adds the bit
-  pub value-more : at + k < length b → value (take (k + 1) (drop at b)) ≡ value (take k (drop at b)) * 2 + digit (getD b (at + k) false)
-  value-more h =
-      ap (λ (n : ℕ). value (take n (drop at b))) (add-one k)
-      ∙ ap value (take-suc (drop at b) k false (omega (arith, length-drop at b)))
-      ∙ value-last (take k (drop at b)) (getD (drop at b) k false)
-      ∙ ap (λ (x : Bool). value (take k (drop at b)) * 2 + digit x) (getD-drop at b k false)
-
-  pub value-narrow : k ≤ 32 → value (take k (drop at b)) < 2 ^ 32
-  value-narrow h =
-      let short : length (take k (drop at b)) ≤ 32 = omega (arith, length-take k (drop at b)) in
-      lt-of-lt-of-le (value-lt (take k (drop at b))) (pow-mono short)
 
 -- ---- a run of bits, written from its end
 

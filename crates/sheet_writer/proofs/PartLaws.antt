@@ -1,28 +1,29 @@
 -- The fields of a layout, part by part as the writer writes them. Assumes nothing.
-use Prim.Native.Nat.{ℕ, zero, suc}
+use Prim.Native.Nat.{ℕ, zero, suc, _+_, _*_, _≤_}
 use mathlib.Core.List.{List, [], _∷_, _++_, map, map-append}
-use mathlib.Core.Path.{_≡_, refl, sym, ap, ap₂, _∙_}
-use native.Mathlib.Nat.{zero-add}
+use mathlib.Core.Path.{_≡_, refl, sym, ap, ap₂, subst, _∙_}
+use native.Mathlib.Nat.{zero-add, add-zero}
 use native.Mathlib.Omega.{arith}
 use lib.ListN.{length}
 use Rattle.refusals.specs.Numbers.{numbered}
-use Rattle.bits.specs.Bits.{Field, widths, totalWidth, byteCount, fillingWidth, withField}
-use Rattle.bits.proofs.Bytes.{AreBytes}
+use Rattle.bits.specs.Bits.{Field, bits, bitsOf, bytesOf, widths, totalWidth, byteCount}
+use Rattle.bits.proofs.Packed.{totalWidth-append, widths-append}
 use Rattle.figures.specs.declared.Figure.{Figure}
 use Rattle.figures.specs.Figure.{description, angleCount, fixedCount, sideCount}
 use Rattle.figures.specs.Rows.{eachOf}
-use Rattle.figures.proofs.Figures.{angle-bound}
 use Rattle.sheet_layout.specs.declared.Kind.{Kind}
 use Rattle.sheet_layout.specs.declared.Pass.{Pass}
 use Rattle.sheet_layout.specs.Kinds.{numberOfKind, passOf, ofPass}
-use Rattle.sheet_layout.specs.Layout.{Item, limit, tolerance, angle, fixedAngle, logSine, difference, logSide, widthOf, limitOrToleranceItem, body, layout, bitCount, sheetSize}
-use Rattle.sheet_layout.proofs.Sizes.{fixed-bound, side-bound}
+use Rattle.sheet_layout.specs.Layout.{Item, limit, tolerance, angle, fixedAngle, logSine, difference, logSide, widthOf, limitOrToleranceItem, body, layout, sheetSize}
+use Rattle.sheet_layout.proofs.Sizes.{bitsFor, pass-bits, bits-within}
 use Rattle.sheet_rules.specs.Sheet.{Values, valuesFrom, fieldOf, packedSheet}
-use Rattle.sheet_writer.specs.Parts.{putAll, fieldFrom, headFields, bodyFields, bodyStart, BodyFits}
+use Rattle.sheet_writer.specs.declared.packer.Packer.{Packer}
+use Rattle.sheet_writer.specs.Packer.{nonePacked, packedSoFar, packedCount, WellHeld, HasRoom, Packs}
+use Rattle.sheet_writer.specs.Parts.{fieldFrom, headFields, columnFields, rowFields, bodyFields, BodyFits}
 use Rattle.sheet_rules.proofs.Accepted.{AsMany}
-use Rattle.sheet_rules.proofs.Positions.{narrow}
 use Rattle.sheet_rules.proofs.Layouts.{fields-bits}
-use Rattle.sheet_writer.proofs.Packing.{put-append, Narrow, filling, packed}
+use Rattle.sheet_writer.proofs.Packing.{rows-width, one-width, row-width}
+use Rattle.sheet_writer.proofs.PackerLaws.{packs-then}
 
 map-each : {A B : Type 0} (g : A → B) (n : ℕ) (r : ℕ → List A) → map g (eachOf n r) ≡ eachOf n (λ i. map g (r i))
 map-each g zero r = refl
@@ -59,29 +60,60 @@ layout-fields kind f v e =
     ap (λ (l : List Field). headFields (numberOfKind kind) (description f .code) (description f .n) ++ l)
     (fields-for (passOf kind) kind f v (e .angles) (e .fixed) (e .logSides))
 
--- ---- short and narrow
+-- ---- room
 
-pub body-fits : (kind : Kind) (f : Figure) (v : Values) → AsMany kind f v → BodyFits (passOf kind) v
-body-fits kind f v e = go (passOf kind) (e .fixed) (e .logSines) (e .differences) (e .logSides)
-  where
-    go : (pass : Pass) → length (v .fixed) ≡ ofPass pass (fixedCount f) 0 → length (v .logSines) ≡ ofPass pass 0 (angleCount f)
-        → length (v .differences) ≡ ofPass pass 0 (angleCount f) → length (v .logSides) ≡ ofPass pass 0 (sideCount f) → BodyFits pass v
-    go Pass.First fixed-many sine-many difference-many side-many = omega (arith, angle-bound f, fixed-bound f, e .angles, fixed-many)
-    go Pass.Second fixed-many sine-many difference-many side-many =
-        (omega (arith, angle-bound f, side-bound f, e .angles, side-many), sine-many ∙ sym (e .angles), difference-many ∙ sym (e .angles))
+-- how many bits the body takes, for either pass
+body-width : (pass : Pass) (v : Values)
+    → totalWidth (widths (bodyFields pass v))
+    ≡ ofPass pass (23 * length (v .angles) + 23 * length (v .fixed)) (27 * length (v .logSides) + 65 * length (v .angles))
+body-width Pass.First v =
+    ap totalWidth (widths-append (columnFields 23 (v .angles)) (columnFields 23 (v .fixed)))
+    ∙ totalWidth-append (widths (columnFields 23 (v .angles))) (widths (columnFields 23 (v .fixed)))
+    ∙ ap₂ _+_ (rows-width _ 23 (one-width 23 (v .angles)) (length (v .angles))) (rows-width _ 23 (one-width 23 (v .fixed)) (length (v .fixed)))
+body-width Pass.Second v =
+    ap totalWidth (widths-append (columnFields 27 (v .logSides)) (rowFields (v .angles) (v .logSines) (v .differences)))
+    ∙ totalWidth-append (widths (columnFields 27 (v .logSides))) (widths (rowFields (v .angles) (v .logSines) (v .differences)))
+    ∙ ap₂ _+_ (rows-width _ 27 (one-width 27 (v .logSides)) (length (v .logSides))) (rows-width _ 65 (row-width (v .angles) (v .logSines) (v .differences)) (length (v .angles)))
 
-fields-narrow : (kind : Kind) (f : Figure) (v : Values) (ps : List Item) → Narrow (map (fieldOf kind f v) ps)
-fields-narrow kind f v [] = tt
-fields-narrow kind f v (p ∷ ps) = (narrow p, fields-narrow kind f v ps)
+module _ (kind : Kind) (f : Figure) (v : Values) (lengths : AsMany kind f v) (s : List ℕ) (size : length s ≡ sheetSize kind f) where
+  abbrev Sizes : Pass → Type 0
+  Sizes pass =
+      (length (v .fixed) ≡ ofPass pass (fixedCount f) 0) × (length (v .logSines) ≡ ofPass pass 0 (angleCount f))
+      × (length (v .differences) ≡ ofPass pass 0 (angleCount f)) × (length (v .logSides) ≡ ofPass pass 0 (sideCount f))
+      × (bitsFor pass f ≤ 8 * length s)
 
--- ---- a sheet that is written part by part
+  sizes : {pass : Pass} → pass ≡ passOf kind → Sizes pass
+  sizes e =
+      subst Sizes (sym e)
+      (lengths .fixed, lengths .logSines, lengths .differences, lengths .logSides, omega (arith, size, pass-bits kind f, bits-within kind f))
 
-body-after-head : (pass : Pass) (s : List ℕ) (limitOrTolerance : ℕ) (v w : Values) → bodyFields pass v ≡ bodyFields pass w
-    → putAll (putAll s 12 (fieldFrom (widthOf (ofPass pass limit tolerance)) limitOrTolerance ∷ [])) (bodyStart pass) (bodyFields pass v)
-    ≡ putAll s 12 (fieldFrom (widthOf (ofPass pass limit tolerance)) limitOrTolerance ∷ bodyFields pass w)
-unfolding putAll
-body-after-head Pass.First s l v w e = ap (putAll (withField s 12 10 l) 22) e
-body-after-head Pass.Second s l v w e = ap (putAll (withField s 12 6 l) 18) e
+  pub head-fits : 12 ≤ 8 * length s
+  head-fits = go (passOf kind) (sizes refl .4)
+    where
+      go : (pass : Pass) → bitsFor pass f ≤ 8 * length s → 12 ≤ 8 * length s
+      go Pass.First h = omega arith
+      go Pass.Second h = omega arith
+
+  -- after the head, L or e
+  pub limit-fits : (t : List ℕ) (p : Packer) {pass : Pass} → pass ≡ passOf kind → length t ≡ length s → WellHeld p → packedCount p ≡ 12
+      → HasRoom t p (widthOf (ofPass pass limit tolerance))
+  limit-fits t p {pass} e same well counted = record { well = well; enough = go pass (sizes e .4) }
+    where
+      go : (pass : Pass) → bitsFor pass f ≤ 8 * length s → packedCount p + widthOf (ofPass pass limit tolerance) ≤ 8 * length t
+      go Pass.First h = omega (arith, same, counted)
+      go Pass.Second h = omega (arith, same, counted)
+
+  -- and after that the body
+  pub body-fits : (t : List ℕ) (p : Packer) {pass : Pass} → pass ≡ passOf kind → length t ≡ length s → WellHeld p
+      → packedCount p ≡ 12 + widthOf (ofPass pass limit tolerance) → BodyFits t p pass v
+  body-fits t p {pass} e same well counted = go pass (sizes e) counted
+    where
+      go : (pass : Pass) → Sizes pass → packedCount p ≡ 12 + widthOf (ofPass pass limit tolerance) → BodyFits t p pass v
+      go Pass.First h c = record { well = well; enough = omega (arith, h .0, h .4, c, same, lengths .angles) }
+      go Pass.Second h c =
+          (record { well = well; enough = omega (arith, h .3, h .4, c, same, lengths .angles) }, h .1 ∙ sym (lengths .angles), h .2 ∙ sym (lengths .angles))
+
+-- ---- a sheet that is packed part by part
 
 -- the body has no use for L or e
 same-body : (pass : Pass) (l m : ℕ) (v : Values)
@@ -89,38 +121,43 @@ same-body : (pass : Pass) (l m : ℕ) (v : Values)
 same-body Pass.First l m v = refl
 same-body Pass.Second l m v = refl
 
-module _ (kind : Kind) (f : Figure) (v : Values) (s : List ℕ) (bytes : AreBytes s) (size : length s ≡ sheetSize kind f) (lengths : AsMany kind f v) where
+module _ (kind : Kind) (f : Figure) (v : Values) (lengths : AsMany kind f v) (s : List ℕ) {pass : Pass} (own : pass ≡ passOf kind) where
   abbrev heading : List Field
   heading = headFields (numberOfKind kind) (description f .code) (description f .n)
 
-  whole : (w : Values) → bodyFields (passOf kind) w ≡ bodyFields (passOf kind) v
-      → putAll (putAll (putAll s 0 heading) 12 (fieldFrom (widthOf (limitOrToleranceItem kind)) (v .limitOrTolerance) ∷ [])) (bodyStart (passOf kind)) (bodyFields (passOf kind) w)
-      ≡ putAll s 0 (map (fieldOf kind f v) (layout kind f))
+  abbrev bound : List Field
+  bound = fieldFrom (widthOf (ofPass pass limit tolerance)) (v .limitOrTolerance) ∷ []
+
+  abbrev w₀ : Values
+  w₀ = valuesFrom 0 (v .angles) (v .fixed) (v .logSines) (v .differences) (v .logSides)
+
+  all-fields : heading ++ (bound ++ bodyFields pass w₀) ≡ map (fieldOf kind f v) (layout kind f)
+  all-fields =
+      ap (λ (l : List Field). heading ++ (bound ++ l)) (same-body pass 0 (v .limitOrTolerance) v)
+      ∙ ap (λ (q : Pass). heading ++ (fieldFrom (widthOf (ofPass q limit tolerance)) (v .limitOrTolerance) ∷ bodyFields q v)) own
+      ∙ sym (layout-fields kind f v lengths)
+
+  pub count-after-head : {a : List ℕ} {p : Packer} → Packs s nonePacked heading a p → packedCount p ≡ 12
   unfolding totalWidth widths
-  whole w e =
-      body-after-head (passOf kind) (putAll s 0 heading) (v .limitOrTolerance) w v e
-      ∙ sym (ap (putAll s 0) (layout-fields kind f v lengths)
-      ∙ put-append s 0 heading (fieldFrom (widthOf (limitOrToleranceItem kind)) (v .limitOrTolerance) ∷ bodyFields (passOf kind) v))
+  count-after-head head = head .counted
 
-  filled : withField (putAll s 0 (map (fieldOf kind f v) (layout kind f))) (bitCount kind f) (fillingWidth (bitCount kind f)) 0 ≡ packedSheet kind f v
-  unfolding packedSheet putAll sheetSize
-  filled =
-      let fs : List Field = map (fieldOf kind f v) (layout kind f) in
-      let total : totalWidth (widths fs) ≡ bitCount kind f = fields-bits kind f v in
-      ap₂ (λ (at n : ℕ). withField (putAll s 0 fs) at (fillingWidth n) 0) (sym (zero-add (totalWidth (widths fs)) ∙ total)) (sym total)
-      ∙ sym (put-append s 0 fs (filling fs ∷ []))
-      ∙ packed s fs bytes (size ∙ ap byteCount (sym total)) (fields-narrow kind f v (layout kind f))
+  pub count-after-bound : {a b : List ℕ} {p q : Packer} → Packs s nonePacked heading a p → Packs a p bound b q
+      → packedCount q ≡ 12 + widthOf (ofPass pass limit tolerance)
+  unfolding totalWidth widths
+  count-after-bound head limited =
+      limited .counted ∙ ap₂ _+_ (count-after-head head) (add-zero (widthOf (ofPass pass limit tolerance)))
 
-  pub packed-in-parts : {pass : Pass} {a b c d : List ℕ} → pass ≡ passOf kind
-      → a ≡ putAll s 0 heading
-      → b ≡ putAll a 12 (fieldFrom (widthOf (ofPass pass limit tolerance)) (v .limitOrTolerance) ∷ [])
-      → c ≡ putAll b (bodyStart pass) (bodyFields pass (valuesFrom 0 (v .angles) (v .fixed) (v .logSines) (v .differences) (v .logSides)))
-      → d ≡ withField c (bitCount kind f) (fillingWidth (bitCount kind f)) 0
-      → d ≡ packedSheet kind f v
-  packed-in-parts {pass} {a} {b} is x y z w =
-      let w₀ : Values = valuesFrom 0 (v .angles) (v .fixed) (v .logSines) (v .differences) (v .logSides) in
-      let limit-put : Pass → List ℕ → List ℕ = λ p s. putAll s 12 (fieldFrom (widthOf (ofPass p limit tolerance)) (v .limitOrTolerance) ∷ []) in
-      let body-put : Pass → List ℕ → List ℕ = λ p s. putAll s (bodyStart p) (bodyFields p w₀) in
-      w ∙ ap (λ (c : List ℕ). withField c (bitCount kind f) (fillingWidth (bitCount kind f)) 0)
-      (z ∙ ap₂ body-put is (y ∙ ap₂ limit-put is x) ∙ whole w₀ (same-body (passOf kind) 0 (v .limitOrTolerance) v))
-      ∙ filled
+  module _ {a b c : List ℕ} {p q r : Packer}
+      (head : Packs s nonePacked heading a p) (limited : Packs a p bound b q) (bodied : Packs b q (bodyFields pass w₀) c r) where
+    all-packed : Packs s nonePacked (map (fieldOf kind f v) (layout kind f)) c r
+    all-packed =
+        subst (λ (fs : List Field). Packs s nonePacked fs c r) all-fields
+        (packs-then s nonePacked heading (bound ++ bodyFields pass w₀) head (packs-then a p bound (bodyFields pass w₀) limited bodied))
+
+    pub all-counted : byteCount (packedCount r) ≡ sheetSize kind f
+    unfolding sheetSize
+    all-counted = ap byteCount (all-packed .counted ∙ zero-add _ ∙ fields-bits kind f v)
+
+    pub sheet-packed : bytesOf (packedSoFar c r) ≡ packedSheet kind f v
+    unfolding packedSheet bitsOf bits
+    sheet-packed = ap bytesOf (all-packed .holds)

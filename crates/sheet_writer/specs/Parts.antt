@@ -8,21 +8,17 @@ use Rattle.refusals.specs.declared.Verdict.{Verdict}
 use Rattle.refusals.specs.Numbers.{numbered}
 use Rattle.refusals.specs.Order.{judged}
 use Rattle.refusals.specs.Promise.{Promised}
-use Rattle.bits.specs.Bits.{Field, withField}
+use Rattle.bits.specs.Bits.{Field}
 use Rattle.bits.specs.Complement.{twosComplement}
 use Rattle.figures.specs.declared.Figure.{Figure}
 use Rattle.figures.specs.Rows.{eachOf}
 use Rattle.sheet_layout.specs.declared.Kind.{Kind}
 use Rattle.sheet_layout.specs.declared.Pass.{Pass}
-use Rattle.sheet_layout.specs.Kinds.{ofPass}
 use Rattle.sheet_layout.specs.Layout.{theKind, theCode, theN, widthOf}
-use Rattle.sheet_rules.specs.Sheet.{Values, packedSheet, mostBits}
+use Rattle.sheet_rules.specs.Sheet.{Values, packedSheet}
 use Rattle.sheet_rules.specs.Judging.{givenRows, afterWriting}
-
--- fields that are written one after the other, from a position on
-unfoldable pub putAll : List ℕ → ℕ → List Field → List ℕ
-putAll sheet at [] = sheet
-putAll sheet at (f ∷ later) = putAll (withField sheet at (f .width) (f .holds)) (at + f .width) later
+use Rattle.sheet_writer.specs.declared.packer.Packer.{Packer}
+use Rattle.sheet_writer.specs.Packer.{HasRoom}
 
 abbrev pub fieldFrom : (width holds : ℕ) → Field
 fieldFrom w v = record { width = w; holds = v }
@@ -46,15 +42,11 @@ abbrev pub bodyFields : Pass → Values → List Field
 bodyFields Pass.First v = columnFields 23 (v .angles) ++ columnFields 23 (v .fixed)
 bodyFields Pass.Second v = columnFields 27 (v .logSides) ++ rowFields (v .angles) (v .logSines) (v .differences)
 
--- where the body begins
-abbrev pub bodyStart : Pass → ℕ
-bodyStart pass = ofPass pass 22 18
-
--- the slices of a body are short, and for the second pass there is a log-sine and a difference for each angle
-abbrev pub BodyFits : Pass → Values → Type 0
-BodyFits Pass.First v = 22 + 23 * length (v .angles) + 23 * length (v .fixed) ≤ mostBits
-BodyFits Pass.Second v =
-    (18 + 27 * length (v .logSides) + 65 * length (v .angles) ≤ mostBits)
+-- there is room for a body, and for the second pass there is a log-sine and a difference for each angle
+abbrev pub BodyFits : (sheet : List ℕ) → Packer → Pass → Values → Type 0
+BodyFits sheet p Pass.First v = HasRoom sheet p (23 * length (v .angles) + 23 * length (v .fixed))
+BodyFits sheet p Pass.Second v =
+    HasRoom sheet p (27 * length (v .logSides) + 65 * length (v .angles))
     × (length (v .logSines) ≡ length (v .angles)) × (length (v .differences) ≡ length (v .angles))
 
 -- what the writer promises once kind and figure are known

@@ -1,46 +1,39 @@
 // The writer of packed sheets: it judges what it is given first, and writes only what it has accepted.
 ghost use mathlib.Core.Path.{_≡_};
 ghost use mathlib.Core.List.{[], _∷_, _++_};
-ghost use Prim.Native.Nat.{_+_, _*_, _≤_};
+ghost use Prim.Native.Nat.{_*_, _≤_};
 ghost use lib.ListN.{length};
 ghost use Rattle.refusals.specs.Order.{verdictOf};
 ghost use Rattle.refusals.specs.Table.{lengthsRow};
-ghost use Rattle.bits.specs.Bits.{withField, fillingWidth};
 ghost use Rattle.figures.specs.Figure.{description};
 ghost use Rattle.sheet_layout.specs.Kinds.{numberOfKind, ofPass};
-ghost use Rattle.sheet_layout.specs.Layout.{limit, tolerance, widthOf, bitCount, sheetSize};
-ghost use Rattle.sheet_rules.specs.Sheet.{valuesFrom, packedSheet, mostBits};
+ghost use Rattle.sheet_layout.specs.Layout.{limit, tolerance, widthOf, sheetSize};
+ghost use Rattle.sheet_rules.specs.Sheet.{valuesFrom, packedSheet};
 ghost use Rattle.sheet_rules.specs.Judging.{lengthsGiven, ownLengths};
 ghost use Rattle.sheet_rules.specs.Promises.{WriterPromise};
-ghost use Rattle.sheet_writer.specs.Parts.{putAll, fieldFrom, headFields, columnFields, rowOf, rowFields, bodyFields, bodyStart};
+ghost use Rattle.sheet_writer.specs.Packer.{nonePacked, HasRoom, Packs};
+ghost use Rattle.sheet_writer.specs.Parts.{fieldFrom, headFields, columnFields, rowOf, rowFields, bodyFields};
 ghost use Rattle.sheet_writer.specs.Parts.{BodyFits, GivenPromise};
-use bits::put_field;
+use crate::packer::Packer;
+use crate::packer::finish;
+use crate::packer::put;
 use bits::twos_complement;
 use figures::Figure;
 use figures::name_of;
 use judging::lengths_verdict;
 use refusals::Verdict;
 use sheet_layout::ANGLE_WIDTH;
-use sheet_layout::CODE_AT;
 use sheet_layout::CODE_WIDTH;
 use sheet_layout::DIFFERENCE_WIDTH;
-use sheet_layout::FIRST_PASS_BODY_AT;
-use sheet_layout::FIRST_PASS_STEP;
 use sheet_layout::KIND_WIDTH;
 use sheet_layout::Kind;
-use sheet_layout::LIMIT_OR_TOLERANCE_AT;
 use sheet_layout::LIMIT_WIDTH;
-use sheet_layout::LOG_SIDE_STEP;
 use sheet_layout::LOG_SIDE_WIDTH;
 use sheet_layout::LOG_SINE_WIDTH;
 use sheet_layout::Look;
-use sheet_layout::N_AT;
 use sheet_layout::N_WIDTH;
 use sheet_layout::Pass;
-use sheet_layout::SECOND_PASS_BODY_AT;
-use sheet_layout::SECOND_PASS_STEP;
 use sheet_layout::TOLERANCE_WIDTH;
-use sheet_layout::bit_count;
 use sheet_layout::lengths_of;
 use sheet_layout::named_head;
 use sheet_layout::number_of_kind;
@@ -68,103 +61,112 @@ fn given_lengths_verdict(given: &[usize], kind: Kind, figure: Figure) -> Verdict
     )
 }
 
-fn put_head(sheet: &mut [u8], kind: Kind, figure: Figure)
-    ensures { λ _. ⌜ now (sheet .exit) ≡ putAll (now (sheet .entry)) 0
-        (headFields (numberOfKind kind) (description figure .code) (description figure .n)) ⌝ }
+// The first fields of a sheet.
+fn put_head(sheet: &mut [u8], kind: Kind, figure: Figure) -> Packer
+    requires { ⌜ 12 ≤ 8 * length (now sheet) ⌝ }
+    ensures { λ after. ⌜ Packs (now (sheet .entry)) nonePacked
+        (headFields (numberOfKind kind) (description figure .code) (description figure .n)) (now (sheet .exit)) after ⌝ }
 {
     let name = name_of(figure);
-    put_field(sheet, 0, KIND_WIDTH, number_of_kind(kind));
-    put_field(sheet, CODE_AT, CODE_WIDTH, name.code);
-    put_field(sheet, N_AT, N_WIDTH, name.n);
+    let start = Packer {
+        held: 0,
+        count: 0,
+        at: 0,
+    };
+    let with_kind = put(sheet, start, KIND_WIDTH, number_of_kind(kind));
+    let with_code = put(sheet, with_kind, CODE_WIDTH, name.code);
+    put(sheet, with_code, N_WIDTH, name.n)
 }
 
-fn put_limit_or_tolerance(sheet: &mut [u8], pass: Pass, value: u32)
-    ensures { λ _. ⌜ now (sheet .exit) ≡ putAll (now (sheet .entry)) 12 (fieldFrom (widthOf (ofPass pass limit tolerance)) value ∷ []) ⌝ }
+fn put_limit_or_tolerance(sheet: &mut [u8], packer: Packer, pass: Pass, value: u32) -> Packer
+    requires { ⌜ HasRoom (now sheet) packer (widthOf (ofPass pass limit tolerance)) ⌝ }
+    ensures { λ after. ⌜ Packs (now (sheet .entry)) packer (fieldFrom (widthOf (ofPass pass limit tolerance)) value ∷ []) (now (sheet .exit)) after ⌝ }
 {
     match pass {
-        Pass::First => put_field(sheet, LIMIT_OR_TOLERANCE_AT, LIMIT_WIDTH, value),
-        Pass::Second => put_field(sheet, LIMIT_OR_TOLERANCE_AT, TOLERANCE_WIDTH, value),
+        Pass::First => put(sheet, packer, LIMIT_WIDTH, value),
+        Pass::Second => put(sheet, packer, TOLERANCE_WIDTH, value),
     }
 }
 
 // Angles or fixed angles for the first pass, or log sides for the second: values of one width without gaps.
-fn put_column(sheet: &mut [u8], start: usize, width: u32, values: &[u32])
-    requires { ⌜ start + width * length (now values) ≤ mostBits ⌝ }
-    ensures { λ _. ⌜ now (sheet .exit) ≡ putAll (now (sheet .entry)) start (columnFields width (now (values .entry))) ⌝ }
+fn put_column(sheet: &mut [u8], start: Packer, width: u32, values: &[u32]) -> Packer
+    requires { ⌜ HasRoom (now sheet) start (width * length (now values)) ⌝ }
+    requires { ⌜ width ≤ 32 ⌝ }
+    ensures { λ after. ⌜ Packs (now (sheet .entry)) start (columnFields width (now (values .entry))) (now (sheet .exit)) after ⌝ }
 {
-    let mut at = start;
-    let mut put = 0;
-    while put < values.len() {
-        put_field(sheet, at, width, values[put]);
-        at += width as usize;
-        put += 1;
+    let mut packer = start;
+    let mut done = 0;
+    while done < values.len() {
+        packer = put(sheet, packer, width, values[done]);
+        done += 1;
     }
+    packer
 }
 
 // An angle for the second pass, its log-sine and its difference.
-fn put_row(sheet: &mut [u8], at: usize, angle: u32, log_sine: u32, difference: i32)
-    requires { ⌜ at ≤ mostBits ⌝ }
-    ensures { λ _. ⌜ now (sheet .exit) ≡ putAll (now (sheet .entry)) at (rowOf angle «log_sine» difference) ⌝ }
+fn put_row(sheet: &mut [u8], start: Packer, angle: u32, log_sine: u32, difference: i32) -> Packer
+    requires { ⌜ HasRoom (now sheet) start 65 ⌝ }
+    ensures { λ after. ⌜ Packs (now (sheet .entry)) start (rowOf angle «log_sine» difference) (now (sheet .exit)) after ⌝ }
 {
-    put_field(sheet, at, ANGLE_WIDTH, angle);
-    let log_sine_at = at + ANGLE_WIDTH as usize;
-    put_field(sheet, log_sine_at, LOG_SINE_WIDTH, log_sine);
-    put_field(
-        sheet,
-        log_sine_at + LOG_SINE_WIDTH as usize,
-        DIFFERENCE_WIDTH,
-        twos_complement(difference, DIFFERENCE_WIDTH),
-    );
+    let with_angle = put(sheet, start, ANGLE_WIDTH, angle);
+    let with_log_sine = put(sheet, with_angle, LOG_SINE_WIDTH, log_sine);
+    let complement = twos_complement(difference, DIFFERENCE_WIDTH);
+    put(sheet, with_log_sine, DIFFERENCE_WIDTH, complement)
 }
 
-fn put_rows(sheet: &mut [u8], start: usize, angles: &[u32], log_sines: &[u32], differences: &[i32])
-    requires { ⌜ start + 65 * length (now angles) ≤ mostBits ⌝ }
+fn put_rows(
+    sheet: &mut [u8],
+    start: Packer,
+    angles: &[u32],
+    log_sines: &[u32],
+    differences: &[i32],
+) -> Packer
+    requires { ⌜ HasRoom (now sheet) start (65 * length (now angles)) ⌝ }
     requires { ⌜ (length (now «log_sines») ≡ length (now angles)) × (length (now differences) ≡ length (now angles)) ⌝ }
-    ensures { λ _. ⌜ now (sheet .exit) ≡ putAll (now (sheet .entry)) start
-        (rowFields (now (angles .entry)) (now («log_sines» .entry)) (now (differences .entry))) ⌝ }
+    ensures { λ after. ⌜ Packs (now (sheet .entry)) start
+        (rowFields (now (angles .entry)) (now («log_sines» .entry)) (now (differences .entry))) (now (sheet .exit)) after ⌝ }
 {
-    let mut at = start;
-    let mut put = 0;
-    while put < angles.len() {
-        put_row(sheet, at, angles[put], log_sines[put], differences[put]);
-        at += SECOND_PASS_STEP;
-        put += 1;
+    let mut packer = start;
+    let mut done = 0;
+    while done < angles.len() {
+        packer = put_row(
+            sheet,
+            packer,
+            angles[done],
+            log_sines[done],
+            differences[done],
+        );
+        done += 1;
     }
+    packer
 }
 
 fn put_body(
     sheet: &mut [u8],
+    start: Packer,
     pass: Pass,
     angles: &[u32],
     fixed: &[u32],
     log_sines: &[u32],
     differences: &[i32],
     log_sides: &[u32],
-)
-    requires { ⌜ BodyFits pass (valuesFrom 0 (now angles) (now fixed) (now «log_sines») (now differences) (now «log_sides»)) ⌝ }
-    ensures { λ _. ⌜ now (sheet .exit) ≡ putAll (now (sheet .entry)) (bodyStart pass) (bodyFields pass (valuesFrom 0
-        (now (angles .entry)) (now (fixed .entry)) (now («log_sines» .entry)) (now (differences .entry)) (now («log_sides» .entry)))) ⌝ }
+) -> Packer
+    requires { ⌜ BodyFits (now sheet) start pass
+        (valuesFrom 0 (now angles) (now fixed) (now «log_sines») (now differences) (now «log_sides»)) ⌝ }
+    ensures { λ after. ⌜ Packs (now (sheet .entry)) start (bodyFields pass (valuesFrom 0
+        (now (angles .entry)) (now (fixed .entry)) (now («log_sines» .entry)) (now (differences .entry)) (now («log_sides» .entry))))
+        (now (sheet .exit)) after ⌝ }
 {
     match pass {
         Pass::First => {
-            put_column(sheet, FIRST_PASS_BODY_AT, ANGLE_WIDTH, angles);
-            let fixed_at = FIRST_PASS_BODY_AT + FIRST_PASS_STEP * angles.len();
-            put_column(sheet, fixed_at, ANGLE_WIDTH, fixed);
+            let with_angles = put_column(sheet, start, ANGLE_WIDTH, angles);
+            put_column(sheet, with_angles, ANGLE_WIDTH, fixed)
         }
         Pass::Second => {
-            put_column(sheet, SECOND_PASS_BODY_AT, LOG_SIDE_WIDTH, log_sides);
-            let rows_at = SECOND_PASS_BODY_AT + LOG_SIDE_STEP * log_sides.len();
-            put_rows(sheet, rows_at, angles, log_sines, differences);
+            let with_sides = put_column(sheet, start, LOG_SIDE_WIDTH, log_sides);
+            put_rows(sheet, with_sides, angles, log_sines, differences)
         }
     }
-}
-
-fn put_filling(sheet: &mut [u8], kind: Kind, figure: Figure)
-    ensures { λ _. ⌜ now (sheet .exit) ≡ withField (now (sheet .entry)) (bitCount kind figure) (fillingWidth (bitCount kind figure)) 0 ⌝ }
-{
-    let end = bit_count(kind, figure);
-    let left = 8 * sheet_size(kind, figure) - end;
-    put_field(sheet, end, left as u32, 0);
 }
 
 // The fields of a sheet one after the other, and zero bits up to the end of its last byte.
@@ -186,10 +188,11 @@ fn pack(
         (now (angles .entry)) (now (fixed .entry)) (now («log_sines» .entry)) (now (differences .entry)) (now («log_sides» .entry))) ⌝ }
 {
     let pass = pass_of(kind);
-    put_head(sheet, kind, figure);
-    put_limit_or_tolerance(sheet, pass, bound);
-    put_body(
+    let with_head = put_head(sheet, kind, figure);
+    let with_bound = put_limit_or_tolerance(sheet, with_head, pass, bound);
+    let packed = put_body(
         sheet,
+        with_bound,
         pass,
         angles,
         fixed,
@@ -197,7 +200,7 @@ fn pack(
         differences,
         log_sides,
     );
-    put_filling(sheet, kind, figure);
+    finish(sheet, packed);
 }
 
 // What follows once kind and figure are known; `bound` is L or e.

@@ -1,108 +1,108 @@
--- `bits::field` meets its contract. The loop's invariant: what is held is the number that the bits taken so far stand for.
--- The measure is how many are left.
-use mathlib.Core.Bool.{Bool, true, false}
-use mathlib.Core.List.{List}
-use mathlib.Core.Path.{_≡_, refl, sym, ap, _∙_}
-use Prim.Native.Nat.{ℕ, _+_, _-_, _*_, _^_, _≤_, _<_}
+-- `bits::field` meets its contract: the field is a part of the number of the bytes that were taken, eight or as many as it straddles.
+use mathlib.Core.Path.{sym, _∙_}
+use Prim.Native.Nat.{_+_, _*_, _/_, _%_, _≤_}
 use native.Mathlib.Omega.{arith}
 use borrow.Author.Needs.{needs}
 use borrow.Author.Tests.{not-true, not-false}
-use lib.ListN.{length, take, drop, getD}
-use Rattle.bits.specs.Bits.{digit, value, bitsOf, inside}
-use Rattle.bits.proofs.Bytes.{length-bitsOf}
-use Rattle.bits.proofs.Fields.{inside-within, inside-narrow, fieldAt-is, fieldAt-outside}
-use Rattle.bits.proofs.Places.{value-more, value-narrow}
+use lib.ListN.{length}
+use Rattle.bits.proofs.Fields.{inside-within, inside-wide, fieldAt-outside, fieldAt-empty}
+use Rattle.bits.proofs.Runs.{field-part}
 use Rattle.bits.proofs.field.Statement.{statement}
 use Rattle.bits.proofs.field.Tie as tie
 
-abbrev Inv-loop : tie.InvT-loop
-Inv-loop bytes at width held₀ taken₀ held taken = (taken ≤ width) × (held ≡ value (take taken (drop at (bitsOf bytes))))
+returns : tie.Need-returns
+returns c =
+    let a = c .before .before .args in
+    sym (fieldAt-empty (a .bytes .now) (a .at) (a .width) (c .if1 .taken))
 
-abbrev μ-loop : tie.MeasureT-loop
-μ-loop bytes at width held₀ taken₀ held taken = width - taken
+returns-2 : tie.Need-returns-2
+returns-2 c =
+    let a = c .before .before .before .args in
+    sym (fieldAt-outside (a .bytes .now) (a .at) (a .width) (inside-wide (a .bytes .now) (a .at) (a .width) (c .if2 .taken)))
 
-is-inside-requires : tie.Need-is-inside-requires Inv-loop μ-loop
+cast-end : tie.Need-cast-end
+cast-end c = search needs
+
+add-end : tie.Need-add-end
+add-end c = search needs
+
+add-if3 : tie.Need-add-if3
+add-if3 c = search needs
+
+window-requires : tie.Need-window-requires
+window-requires c κs = search needs
+
+sub-part : tie.Need-sub-part
+sub-part c = search needs
+
+part-requires : tie.Need-part-requires
+part-requires c κs = search needs
+
+returns-3 : tie.Need-returns-3
+returns-3 c =
+    let a = c .before .before .before .before .before .before .args in
+    c .part .ensures
+    ∙ field-part (a .bytes .now) (a .at) (a .width) 8 (c .before .window .ensures) (omega arith) (omega arith) (omega arith) (omega arith)
+
+is-inside-requires : tie.Need-is-inside-requires
 is-inside-requires c κs = search needs
 
-returns : tie.Need-returns Inv-loop μ-loop
-returns c =
-    let a = c .before .before .before .args in
-    sym (fieldAt-outside (a .bytes .now) (a .at) (a .width) (sym (c .before .is-inside .ensures) ∙ not-true _ (c .if1 .taken)))
+returns-4 : tie.Need-returns-4
+returns-4 c =
+    let a = c .before .before .before .before .before .before .args in
+    sym (fieldAt-outside (a .bytes .now) (a .at) (a .width) (sym (c .before .is-inside .ensures) ∙ not-true _ (c .if4 .taken)))
 
-loop-holds : tie.Need-loop-holds Inv-loop μ-loop
-unfolding value
-loop-holds c = (omega arith, refl)
+add-spanned : tie.Need-add-spanned
+add-spanned c = search needs
+
+cast-number-of : tie.Need-cast-number-of
+cast-number-of c = search needs
 
 -- the field lies within the bytes
-found : (c : tie.At-loop Inv-loop μ-loop) → (let a = c .before .before .before .before .args in inside (a .bytes .now) (a .at) (a .width) ≡ true)
-found c = sym (c .before .before .is-inside .ensures) ∙ not-false _ (c .before .if1 .left)
+room : (c : tie.Else4) → (let a = c .before .before .before .before .before .before .args in a .at + a .width ≤ 8 * length (a .bytes .now))
+room c =
+    let a = c .before .before .before .before .before .before .args in
+    inside-within (a .bytes .now) (a .at) (a .width) (sym (c .before .is-inside .ensures) ∙ not-false _ (c .if4 .left))
 
--- what is held after the next bit, and that it fits
-module _ (c : tie.In-loop Inv-loop μ-loop) where
-  abbrev b : List Bool
-  b = bitsOf (c .before .before .before .before .before .args .bytes .now)
+number-of-requires : tie.Need-number-of-requires
+number-of-requires c κs = omega (arith, room c)
 
-  abbrev at : ℕ
-  at = c .before .before .before .before .before .args .at
+mul-part : tie.Need-mul-part
+mul-part c = search needs
 
-  abbrev width : ℕ
-  width = c .before .before .before .before .before .args .width
+sub-part-2 : tie.Need-sub-part-2
+sub-part-2 c = search needs
 
-  abbrev taken : ℕ
-  taken = c .before .loop .taken
+part-requires-2 : tie.Need-part-requires-2
+part-requires-2 c κs = search needs
 
-  inside-bits : at + width ≤ length b
-  inside-bits =
-      let s = c .before .before .before .before .before .args .bytes .now in
-      omega (arith, length-bitsOf s, inside-within s at width (found (c .before)))
-
-  next : c .before .loop .held * 2 + digit (getD b (at + taken) false) ≡ value (take (taken + 1) (drop at b))
-  next = ap (λ (n : ℕ). n * 2 + digit (getD b (at + taken) false)) (c .before .loop .inv .1) ∙ sym (value-more b at taken (omega (arith, inside-bits)))
-
-  next-fits : value (take (taken + 1) (drop at b)) < 2 ^ 32
-  next-fits = value-narrow b at (taken + 1) (omega (arith, inside-narrow _ at width (found (c .before))))
-
-mul-held : tie.Need-mul-held Inv-loop μ-loop
-mul-held c = omega (arith, next c, next-fits c)
-
-bit-at-requires : tie.Need-bit-at-requires Inv-loop μ-loop
-bit-at-requires c κs =
-    let a = c .before .before .before .before .before .args in
-    omega (arith, inside-within (a .bytes .now) (a .at) (a .width) (found (c .before)), inside-narrow (a .bytes .now) (a .at) (a .width) (found (c .before)))
-
-add-held : tie.Need-add-held Inv-loop μ-loop
-add-held c = omega (arith, c .bit-at .ensures, next (c .before), next-fits (c .before))
-
-add-taken : tie.Need-add-taken Inv-loop μ-loop
-add-taken c = omega arith
-
-loop-less : tie.Need-loop-less Inv-loop μ-loop
-loop-less c = omega arith
-
-loop-again : tie.Need-loop-again Inv-loop μ-loop
-loop-again c =
-    (omega arith, ap (λ (n : ℕ). c .before .before .loop .held * 2 + n) (c .bit-at .ensures) ∙ next (c .before))
-
-returns-2 : tie.Need-returns-2 Inv-loop μ-loop
-returns-2 c =
-    let a = c .before .before .before .before .before .args in
-    let all : c .before .loop .taken ≡ a .width = omega arith in
-    c .before .loop .inv .1 ∙ ap (λ (n : ℕ). value (take n (drop (a .at) (bitsOf (a .bytes .now))))) all
-    ∙ sym (fieldAt-is (a .bytes .now) (a .at) (a .width) (found (c .before)))
+returns-5 : tie.Need-returns-5
+returns-5 c =
+    let at-call = c .before .before in
+    let a = at-call .before .before .before .before .before .before .args in
+    c .part2 .ensures
+    ∙ field-part (a .bytes .now) (a .at) (a .width) ((a .at % 8 + a .width + 7) / 8) (c .before .number-of .ensures)
+    (omega (arith, room at-call)) (omega arith) (omega arith) (omega arith)
 
 pub field-spec : {M : Type 1} → statement M
 field-spec =
     tie.close
     (tie.spec
-    Inv-loop
-    μ-loop
-    is-inside-requires
     returns
-    loop-holds
-    mul-held
-    bit-at-requires
-    add-held
-    add-taken
-    loop-less
-    loop-again
-    returns-2)
+    returns-2
+    cast-end
+    add-end
+    add-if3
+    window-requires
+    sub-part
+    part-requires
+    returns-3
+    is-inside-requires
+    returns-4
+    add-spanned
+    cast-number-of
+    number-of-requires
+    mul-part
+    sub-part-2
+    part-requires-2
+    returns-5)

@@ -1,4 +1,4 @@
--- `bits::power_of_two` meets its contract: below 32 a shift of 1 loses no bit.
+-- `bits::power_of_two` meets its contract: below 64 a shift of 1 loses no bit.
 use mathlib.Core.Path.{_∙_}
 use Prim.Native.Nat.{_^_}
 use native.Mathlib.Nat.{one-mul}
@@ -12,7 +12,7 @@ shl-result : tie.Need-shl-result
 shl-result c = search needs
 
 returns : tie.Need-returns
-returns c = shl-exact 1 (c .args .exponent) 32 (omega arith) (omega arith) ∙ one-mul (2 ^ c .args .exponent)
+returns c = shl-exact 1 (c .args .exponent) 64 (omega arith) (omega arith) ∙ one-mul (2 ^ c .args .exponent)
 
 pub power-of-two-spec : {M : Type 1} → statement M
 power-of-two-spec = tie.close (tie.spec shl-result returns)

@@ -1,58 +1,98 @@
--- `sheet_writer::write::pack` meets its contract: the parts that are written one after the other are the fields of the layout, and the filling.
+-- `sheet_writer::write::pack` meets its contract: the parts that are packed one after the other are the fields of the layout.
+use mathlib.Core.List.{List}
+use mathlib.Core.Path.{_≡_, sym, _∙_}
+use Prim.Native.Nat.{ℕ}
 use borrow.Author.Needs.{needs}
-use mathlib.Core.Path.{sym}
-use Rattle.sheet_rules.specs.Sheet.{valuesFrom}
-use Rattle.sheet_rules.proofs.Accepted.{as-many}
-use Rattle.sheet_writer.proofs.Packing.{fits-of}
-use Rattle.sheet_writer.proofs.PartLaws.{body-fits, packed-in-parts}
+use denote.Ref.{now}
+use lib.ListN.{length}
+use Rattle.sheet_layout.specs.declared.Kind.{Kind}
+use Rattle.figures.specs.declared.Figure.{Figure}
+use Rattle.sheet_layout.specs.Layout.{sheetSize}
+use Rattle.sheet_rules.specs.Sheet.{Values, valuesFrom}
+use Rattle.sheet_rules.proofs.Accepted.{AsMany, as-many}
+use Rattle.sheet_writer.proofs.PartLaws.{head-fits, limit-fits, body-fits, count-after-head, count-after-bound, all-counted, sheet-packed}
 use Rattle.sheet_writer.proofs.write.pack.Statement.{statement}
 use Rattle.sheet_writer.proofs.write.pack.Tie as tie
 
-pass-of-requires : tie.Need-pass-of-requires
-pass-of-requires c κs = search needs
+module _ (c : tie.After-pass-of) where
+  abbrev start : tie.Start
+  start = c .before .before .before .before .before .before
+
+  abbrev kind : Kind
+  kind = start .args .kind
+
+  abbrev figure : Figure
+  figure = start .args .figure
+
+  abbrev sheet : List ℕ
+  sheet = now (start .args .sheet)
+
+  -- with the limit or the tolerance, and as the body is packed
+  abbrev values : ℕ → Values
+  values bound =
+      let a = start .args in
+      valuesFrom bound (a .angles .now) (a .fixed .now) (a .log-sines .now) (a .differences .now) (a .log-sides .now)
+
+  many : (bound : ℕ) → AsMany kind figure (values bound)
+  many bound = as-many kind figure (values bound) (start .pre .0)
+
+  size : length sheet ≡ sheetSize kind figure
+  size = start .pre .1
 
 put-head-requires : tie.Need-put-head-requires
-put-head-requires c κs = search needs
+put-head-requires c κs = let m = c .before in head-fits (kind m) (figure m) (values m 0) (many m 0) (sheet m) (size m)
 
 put-limit-or-tolerance-requires : tie.Need-put-limit-or-tolerance-requires
-put-limit-or-tolerance-requires c κs = search needs
+put-limit-or-tolerance-requires c κs =
+    let head = c .before .before .before in
+    let m = head .before .before in
+    let packs = head .put-head .ensures in
+    limit-fits (kind m) (figure m) (values m 0) (many m 0) (sheet m) (size m) _ _ (m .pass-of .ensures) (head .put-head .kept .0) (packs .well)
+    (count-after-head (kind m) (figure m) (values m 0) (many m 0) (sheet m) (m .pass-of .ensures) packs)
 
 put-body-requires : tie.Need-put-body-requires
 put-body-requires c κs =
-    let pass = c .before .before .before .before .before .before .before .before .before in
-    let start = pass .before .before .before .before .before .before in
-    let a = start .args in
-    let v = valuesFrom 0 (a .angles .now) (a .fixed .now) (a .log-sines .now) (a .differences .now) (a .log-sides .now) in
-    fits-of v (sym (pass .pass-of .ensures)) (body-fits (a .kind) (a .figure) v (as-many (a .kind) (a .figure) v (start .pre .0)))
+    let limited = c .before .before .before in
+    let head = limited .before .before .before .before in
+    let m = head .before .before in
+    let bound = start m .args .bound in
+    body-fits (kind m) (figure m) (values m 0) (many m 0) (sheet m) (size m) _ _ (m .pass-of .ensures)
+    (limited .put-limit-or-tolerance .kept .0 ∙ head .put-head .kept .0) (limited .put-limit-or-tolerance .ensures .well)
+    (count-after-bound (kind m) (figure m) (values m bound) (many m bound) (sheet m) (m .pass-of .ensures) (head .put-head .ensures) (limited .put-limit-or-tolerance .ensures))
 
-put-filling-requires : tie.Need-put-filling-requires
-put-filling-requires c κs = search needs
-
-same-length : tie.Need-same-length
-same-length c = search needs
+finish-requires : tie.Need-finish-requires
+finish-requires c κs =
+    let body = c .before .before .before in
+    let limited = body .before .before .before .before in
+    let head = limited .before .before .before .before in
+    let m = head .before .before in
+    let bound = start m .args .bound in (
+      body .put-body .ensures .well,
+      all-counted (kind m) (figure m) (values m bound) (many m bound) (sheet m) (m .pass-of .ensures) (head .put-head .ensures) (limited .put-limit-or-tolerance .ensures)
+          (body .put-body .ensures)
+          ∙ sym (body .put-body .kept .0 ∙ limited .put-limit-or-tolerance .kept .0 ∙ head .put-head .kept .0 ∙ size m),
+    )
 
 returns : tie.Need-returns
 returns c =
-    let filled = c .before .before in
-    let body = filled .before .before .before .before in
-    let limit = body .before .before .before .before in
-    let head = limit .before .before .before .before in
-    let pass = head .before .before in
-    let known = pass .before .before .before .before in
-    let start = known .before .before in
-    let a = start .args in
-    let v = valuesFrom (a .bound) (a .angles .now) (a .fixed .now) (a .log-sines .now) (a .differences .now) (a .log-sides .now) in
-    packed-in-parts (a .kind) (a .figure) v (a .sheet .now) (λ i. known .before .slice-known .given i .fits) (start .pre .1) (as-many (a .kind) (a .figure) v (start .pre .0))
-    (pass .pass-of .ensures) (head .put-head .ensures) (limit .put-limit-or-tolerance .ensures) (body .put-body .ensures) (filled .put-filling .ensures)
+    let finished = c .before .before in
+    let body = finished .before .before .before .before in
+    let limited = body .before .before .before .before in
+    let head = limited .before .before .before .before in
+    let m = head .before .before in
+    let bound = start m .args .bound in
+    finished .finish .ensures
+    ∙ sheet-packed (kind m) (figure m) (values m bound) (many m bound) (sheet m) (m .pass-of .ensures) (head .put-head .ensures) (limited .put-limit-or-tolerance .ensures)
+    (body .put-body .ensures)
 
 pub pack-spec : {M : Type 1} → statement M
 pack-spec =
     tie.close
     (tie.spec
-    pass-of-requires
+    (λ c κs. search needs)
     put-head-requires
     put-limit-or-tolerance-requires
     put-body-requires
-    put-filling-requires
-    same-length
+    finish-requires
+    (λ c. search needs)
     returns)

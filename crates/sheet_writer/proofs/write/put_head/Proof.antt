@@ -1,37 +1,26 @@
--- `sheet_writer::write::put_head` meets its contract: each field begins where the one before it ends.
-use Prim.Native.Nat.{ℕ}
-use mathlib.Core.List.{List}
-use mathlib.Core.Path.{_≡_, ap, _∙_}
+-- `sheet_writer::write::put_head` meets its contract: each field is packed after the one before it.
+use mathlib.Core.List.{[], _∷_}
+use mathlib.Core.Path.{_≡_, ap}
+use native.Mathlib.Omega.{arith}
 use borrow.Author.Needs.{needs}
-use Rattle.bits.specs.Bits.{withField}
+use denote.Ref.{now}
 use Rattle.figures.specs.declared.Name.{Name}
 use Rattle.figures.specs.Figure.{description}
 use Rattle.sheet_layout.specs.Kinds.{numberOfKind}
+use Rattle.sheet_writer.specs.Packer.{nonePacked, HasRoom}
 use Rattle.sheet_writer.specs.Parts.{fieldFrom}
-use Rattle.sheet_writer.proofs.Packing.{put-three}
+use Rattle.sheet_writer.proofs.PackerLaws.{packs-then, room-less, room-after-one, holding}
 use Rattle.sheet_writer.proofs.write.put_head.Statement.{statement}
 use Rattle.sheet_writer.proofs.write.put_head.Tie as tie
 
-holds : (s : List ℕ) (at w : ℕ) {v u : ℕ} {x : List ℕ} → v ≡ u → x ≡ withField s at w v → x ≡ withField s at w u
-holds s at w e is = is ∙ ap (withField s at w) e
+-- room for the two fields after the kind's, and for the one after the code's
+after-kind : (c : tie.After-put) → HasRoom (c .put .last .0) (c .put .result) 8
+after-kind c =
+    room-after-one 4 _ 8 (c .put .ensures) (c .put .kept .0)
+    (record { well = (omega arith, omega arith); enough = omega (arith, c .before .before .before .before .before .pre) })
 
-name-of-requires : tie.Need-name-of-requires
-name-of-requires c κs = search needs
-
-number-of-kind-requires : tie.Need-number-of-kind-requires
-number-of-kind-requires c κs = search needs
-
-put-field-requires : tie.Need-put-field-requires
-put-field-requires c κs = search needs
-
-put-field-requires-2 : tie.Need-put-field-requires-2
-put-field-requires-2 c κs = search needs
-
-put-field-requires-3 : tie.Need-put-field-requires-3
-put-field-requires-3 c κs = search needs
-
-same-length : tie.Need-same-length
-same-length c = search needs
+after-code : (c : tie.After-put2) → HasRoom (c .put2 .last .0) (c .put2 .result) 4
+after-code c = room-after-one 4 _ 4 (c .put2 .ensures) (c .put2 .kept .0) (after-kind (c .before .before .before .before))
 
 returns : tie.Need-returns
 returns c =
@@ -41,19 +30,19 @@ returns c =
     let named = first .before .before .before in
     let a = named .before .before .args in
     let name = named .name-of .ensures in
-    put-three (a .sheet .now) 0 (fieldFrom 4 (numberOfKind (a .kind))) (fieldFrom 4 (description (a .figure) .code)) (fieldFrom 4 (description (a .figure) .n))
-    (holds _ 0 4 (first .before .number-of-kind .ensures) (first .put-field .ensures))
-    (holds _ 4 4 (ap (λ (r : Name). r .code) name) (second .put-field2 .ensures))
-    (holds _ 8 4 (ap (λ (r : Name). r .n) name) (third .put-field3 .ensures))
+    packs-then (now (a .sheet)) nonePacked (fieldFrom 4 (numberOfKind (a .kind)) ∷ []) (fieldFrom 4 (description (a .figure) .code) ∷ fieldFrom 4 (description (a .figure) .n) ∷ [])
+    (holding 4 (first .before .number-of-kind .ensures) (first .put .ensures))
+    (packs-then _ _ (fieldFrom 4 (description (a .figure) .code) ∷ []) (fieldFrom 4 (description (a .figure) .n) ∷ [])
+    (holding 4 (ap (λ (r : Name). r .code) name) (second .put2 .ensures)) (holding 4 (ap (λ (r : Name). r .n) name) (third .put3 .ensures)))
 
 pub put-head-spec : {M : Type 1} → statement M
 put-head-spec =
     tie.close
     (tie.spec
-    name-of-requires
-    number-of-kind-requires
-    put-field-requires
-    put-field-requires-2
-    put-field-requires-3
-    same-length
+    (λ c κs. search needs)
+    (λ c κs. search needs)
+    (λ c κs. search needs)
+    (λ c κs. (room-less 4 (after-kind (c .before .before .before)) (omega arith), omega arith))
+    (λ c κs. (after-code (c .before .before .before), omega arith))
+    (λ c. search needs)
     returns)

@@ -1,64 +1,45 @@
--- `sheet_writer::write::put_row` meets its contract: each field begins where the one before it ends.
-use borrow.Author.Needs.{needs}
-use Prim.Native.Nat.{ℕ, _+_}
+-- `sheet_writer::write::put_row` meets its contract: each field is packed after the one before it.
+use mathlib.Core.List.{[], _∷_}
 use mathlib.Core.Path.{ap, _∙_}
 use mir.Syntax.{w32}
 use mir.ValLaws.{toZ-ofZ}
-use Rattle.bits.specs.Bits.{withField}
+use native.Mathlib.Omega.{arith}
+use borrow.Author.Needs.{needs}
+use denote.Ref.{now}
 use Rattle.bits.specs.Complement.{twosComplement}
+use Rattle.sheet_writer.specs.Packer.{HasRoom}
 use Rattle.sheet_writer.specs.Parts.{fieldFrom}
-use Rattle.sheet_writer.proofs.Packing.{put-three}
+use Rattle.sheet_writer.proofs.PackerLaws.{packs-then, room-less, room-after-one, holding}
 use Rattle.sheet_writer.proofs.write.put_row.Statement.{statement}
 use Rattle.sheet_writer.proofs.write.put_row.Tie as tie
 
-put-field-requires : tie.Need-put-field-requires
-put-field-requires c κs = search needs
+-- room for the two fields after the angle's, and for the one after the log-sine's
+after-angle : (c : tie.After-put) → HasRoom (c .put .last .0) (c .put .result) 42
+after-angle c = room-after-one 23 _ 42 (c .put .ensures) (c .put .kept .0) (c .before .before .before .pre)
 
-cast-log-sine-at : tie.Need-cast-log-sine-at
-cast-log-sine-at c = search needs
-
-add-log-sine-at : tie.Need-add-log-sine-at
-add-log-sine-at c = search needs
-
-put-field-requires-2 : tie.Need-put-field-requires-2
-put-field-requires-2 c κs = search needs
-
-cast-put-field : tie.Need-cast-put-field
-cast-put-field c = search needs
-
-add-put-field : tie.Need-add-put-field
-add-put-field c = search needs
-
-twos-complement-requires : tie.Need-twos-complement-requires
-twos-complement-requires c κs = search needs
-
-put-field-requires-3 : tie.Need-put-field-requires-3
-put-field-requires-3 c κs = search needs
-
-same-length : tie.Need-same-length
-same-length c = search needs
+after-log-sine : (c : tie.After-put2) → HasRoom (c .put2 .last .0) (c .put2 .result) 15
+after-log-sine c = room-after-one 27 _ 15 (c .put2 .ensures) (c .put2 .kept .0) (after-angle (c .before .before .before .before))
 
 returns : tie.Need-returns
 returns c =
-    let start = c .before .before .before .before .before .before .before .before .before .before .before .before .before .before in
+    let third = c .before .before in
+    let complement = third .before .before in
+    let second = complement .before .before .before in
+    let first = second .before .before .before .before in
+    let start = first .before .before .before in
     let a = start .args in
-    put-three (a .sheet .now) (a .at) (fieldFrom 23 (a .angle)) (fieldFrom 27 (a .log-sine)) (fieldFrom 15 (twosComplement 15 (a .difference)))
-    (c .before .before .before .before .before .before .before .before .before .before .before .put-field .ensures) (c .before .before .before .before .before .before .before .put-field2 .ensures)
-    (c .before .before .put-field3 .ensures
-    ∙ ap (λ (v : ℕ). withField (c .before .before .before .before .before .before .before .put-field2 .last .0) (a .at + 23 + 27) 15 v)
-    (c .before .before .before .twos-complement .ensures ∙ ap (twosComplement 15) (toZ-ofZ w32 _ (start .fits .difference))))
+    packs-then (now (a .sheet)) (a .start) (fieldFrom 23 (a .angle) ∷ []) (fieldFrom 27 (a .log-sine) ∷ fieldFrom 15 (twosComplement 15 (a .difference)) ∷ [])
+    (first .put .ensures)
+    (packs-then _ _ (fieldFrom 27 (a .log-sine) ∷ []) (fieldFrom 15 (twosComplement 15 (a .difference)) ∷ [])
+    (second .put2 .ensures) (holding 15 (complement .twos-complement .ensures ∙ ap (twosComplement 15) (toZ-ofZ w32 _ (start .fits .difference))) (third .put3 .ensures)))
 
 pub put-row-spec : {M : Type 1} → statement M
 put-row-spec =
     tie.close
     (tie.spec
-    put-field-requires
-    cast-log-sine-at
-    add-log-sine-at
-    put-field-requires-2
-    cast-put-field
-    add-put-field
-    twos-complement-requires
-    put-field-requires-3
-    same-length
+    (λ c κs. search needs)
+    (λ c κs. (room-less 27 (after-angle (c .before .before .before)) (omega arith), omega arith))
+    (λ c κs. search needs)
+    (λ c κs. (after-log-sine (c .before .before .before .before), omega arith))
+    (λ c. search needs)
     returns)

@@ -1,5 +1,5 @@
 -- Demand 3 of any numbers that are rows applied to misclosures, of an accepted first pass of code 2, and of any numbers that are the second pass's
--- numerators. Assumes nothing.
+-- numerators; and what an accepted second pass answers and stores. Assumes nothing.
 use Prim.Native.Nat.{ℕ, _<_}
 use mathlib.Core.List.{List, _∷_}
 use mathlib.Core.Path.{_≡_, refl, sym, ap, subst, _∙_}
@@ -74,3 +74,18 @@ sine-closes f e numerators are some =
       sine = over (signedIn (pole f) e) ∙ pole-cancelled f e;
       side-sine = λ both. over (signedIn (side f) e) ∙ side-cancelled f e both;
     }
+
+-- ---- what an accepted second pass answers and stores
+
+-- numerators, W of the pole and of the side condition, and S or the determinant, as the definitions give them
+pub record Exact (f : Figure) (e : SineEntries) (numerators : ℕ → ℤ) (w sideW over : ℤ) : Type 0 where
+  pub numerators-are : (i : ℕ) → i < angleCount f → numerators i ≡ secondNumerator f e i
+  pub w-is : sineMisclosure f e ≡ w
+  pub side-w-is : sideMisclosure f e ≡ sideW
+  pub divisor-is : divisor f e ≡ over
+  pub divisor-some : 0 < natAbs (divisor f e)
+
+pub exact-closes : {f : Figure} {e : SineEntries} {numerators : ℕ → ℤ} {w sideW over : ℤ} → Exact f e numerators w sideW over
+    → SineCloses f (e .differences) numerators w sideW over
+exact-closes {f} {e} {numerators} exact =
+    rw (← exact .w-is, ← exact .side-w-is, ← exact .divisor-is) (sine-closes f e numerators (exact .numerators-are) (exact .divisor-some))

@@ -16,7 +16,8 @@ use Rattle.refusals.specs.Promise.{stored}
 use Rattle.figures.specs.declared.Figure.{Figure}
 use Rattle.figures.specs.declared.Named.{Named}
 use Rattle.figures.specs.declared.Named.the-variants.{As}
-use Rattle.figures.specs.Figure.{SineCondition, description, noSine, ofNamed}
+use Rattle.figures.specs.Figure.{SineCondition, description, noSine, figureOf, ofNamed}
+use Rattle.pass_rules.specs.declared.second.SecondAnswer.the-variants.{Done}
 use Rattle.pass_rules.specs.FirstPass.{misclosure, firstRows, firstPassRows, firstPassVerdict}
 use Rattle.pass_rules.specs.SecondPass.{SineEntries, misclosureIn, sineMisclosure, sideMisclosure, divisor, secondRows, secondPassRows, secondPassVerdict}
 use Rattle.pass_rules.proofs.PassRows.{one-judged}
@@ -24,20 +25,20 @@ use Rattle.pass_rules.proofs.Refusals.{first-in-table}
 use Rattle.pass_rules.proofs.SecondAccepted.{accepted}
 use Rattle.pass_rules.proofs.SecondLaws.{divisor-natural}
 use Rattle.pass_rules.proofs.SineSums.{none-misclosure}
-use Rattle.pass_rules.specs.Promises.{FirstGiven, FirstLent, firstLengthsLent, firstRowsOf, FirstPromise, SecondGiven, secondLengthsLent, secondValues}
+use Rattle.pass_rules.specs.Promises.{FirstGiven, FirstLent, firstLengthsLent, firstRowsOf, FirstPromise, SecondGiven, SecondLent, secondLengthsLent, secondValues, SecondPromise}
 use Rattle.pass_sheet.specs.Worked.{Outcome, First, Second, WorkedSheet, workedOf, secondSheetLengths, entriesIn}
 use Rattle.pass_sheet.proofs.ShownAs.{FirstShown, SecondShown, RefusedShown, shown-as}
-use Rattle.controller.specs.Promises.{FirstPassPromise, sumsRows, sumsLengths, sumsValues, sineMisclosuresOf}
+use Rattle.controller.specs.Promises.{FirstPassPromise, SumsLent, sumsRows, sumsLengths, sumsValues, sineMisclosuresOf, SecondPassPromise}
 use Rattle.controller.proofs.Answers.{answered-done}
 use Rattle.controller.proofs.PlaceBounds.{first-within, sums-in-table, sums-within}
 use Rattle.demands.specs.Demand2.{numeratorsIn}
 use Rattle.demands.specs.Demand3.{LeastSquares, HorizonCloses, SineCloses, FirstPass, Horizon, SecondPass, FirstPass-C, Horizon-C, SecondPass-C, FirstSheet, SecondSheet}
-use Rattle.demands.proofs.Closing.{are-least-squares, horizon-closes, sine-closes}
+use Rattle.demands.proofs.Closing.{are-least-squares, horizon-closes, sine-closes, Exact, exact-closes}
 use Rattle.demands.proofs.Demand2 as values
 use Rattle.demands.proofs.WorkedValues.{exact, first-numerators, second-numerators, joined-numerators}
 
 -- a code and an n name one figure
-one-figure : {named : Named} {f g : Figure} → named ≡ As f → named ≡ As g → f ≡ g
+pub one-figure : {named : Named} {f g : Figure} → named ≡ As f → named ≡ As g → f ≡ g
 one-figure e h = cc
 
 -- ---- the first pass
@@ -49,7 +50,7 @@ first-pass given entry exit promise f named =
     (are-least-squares (done .figure) (vector (exit .misclosures)) (vector (exit .numerators)) (done .numerators))
 
 -- what C is answered is what the pass answers
-first-C : (given : FirstGiven) (entry exit : FirstLent) → FirstPassPromise given entry 0 exit → FirstPromise given entry Passed exit
+pub first-C : (given : FirstGiven) (entry exit : FirstLent) → FirstPassPromise given entry 0 exit → FirstPromise given entry Passed exit
 unfolding firstPassVerdict
 first-C given entry exit promise =
     let passed : judged (firstRowsOf given entry) ≡ Passed =
@@ -77,20 +78,11 @@ horizon-C given entry exit promise f named two = horizon given entry exit (first
 
 -- ---- the second pass
 
--- of the values of any figure's sheet that passes
-module _ (f : Figure) (given : SecondGiven) (lent : List ℕ)
-    (passed : judged (secondRows f (given .tolerance) (given .angles) (given .entries) lent) ≡ Passed) where
-  abbrev e : SineEntries
-  e = given .entries
-
-  values-close : SineCloses f (e .differences) (numeratorsIn (secondValues f given)) (sineMisclosure f e) (sideMisclosure f e) (divisor f e)
-  values-close =
-      sine-closes f e (numeratorsIn (secondValues f given)) (λ i h. joined-numerators f e i ∙ second-numerators f e i h)
-      (accepted f (given .tolerance) (given .angles) e lent passed .divisor-positive)
-
-pub second-pass : SecondPass
+pub second-exact : (given : SecondGiven) (w sideW : ℤ) (high low : ℕ) (entry exit : SecondLent)
+    → SecondPromise given entry (Done w sideW high low) exit → (f : Figure) → figureOf (given .code) (given .n) ≡ As f
+    → Exact f (given .entries) (numeratorsIn exit) w sideW (joined (pos high) low)
 unfolding secondPassVerdict secondPassRows
-second-pass given w sideW high low entry exit promise f named =
+second-exact given w sideW high low entry exit promise f named =
     let e : SineEntries = given .entries in
     let is = values.worked given entry w sideW high low (sym (promise .answered)) in
     let same : is .figure ≡ f = one-figure (is .named) named in
@@ -98,10 +90,16 @@ second-pass given w sideW high low entry exit promise f named =
     (λ g. secondRows g (given .tolerance) (given .angles) e (secondLengthsLent given entry)) named in
     let left : exit ≡ secondValues f given =
     promise .leaves ∙ ap₂ (λ (m : Named) (v : Verdict). ofNamed m entry (λ g. stored v (secondValues g given) entry)) named (is .passed) in
-    let w-is : sineMisclosure f e ≡ w = ap (λ (g : Figure). sineMisclosure g e) (sym same) ∙ is .w-is in
-    let side-w-is : sideMisclosure f e ≡ sideW = ap (λ (g : Figure). sideMisclosure g e) (sym same) ∙ is .side-w-is in
-    let divisor-is : divisor f e ≡ joined (pos high) low = ap (λ (g : Figure). divisor g e) (sym same) ∙ is .divisor-is in
-    rw (left, ← w-is, ← side-w-is, ← divisor-is) (values-close f given (secondLengthsLent given entry) (sym rows ∙ is .passed))
+    record {
+      numerators-are = λ i h. ap (λ (lent : SecondLent). numeratorsIn lent i) left ∙ joined-numerators f e i ∙ second-numerators f e i h;
+      w-is = ap (λ (g : Figure). sineMisclosure g e) (sym same) ∙ is .w-is;
+      side-w-is = ap (λ (g : Figure). sideMisclosure g e) (sym same) ∙ is .side-w-is;
+      divisor-is = ap (λ (g : Figure). divisor g e) (sym same) ∙ is .divisor-is;
+      divisor-some = accepted f (given .tolerance) (given .angles) e (secondLengthsLent given entry) (sym rows ∙ is .passed) .divisor-positive;
+    }
+
+pub second-pass : SecondPass
+second-pass given w sideW high low entry exit promise f named = exact-closes (second-exact given w sideW high low entry exit promise f named)
 
 -- W of each sine condition by the index; 0 for one that the figure has not
 misclosure-at : (f : Figure) (e : SineEntries) (i : ℕ)
@@ -110,9 +108,12 @@ misclosure-at f e i =
     let own : SineCondition → ℤ = λ c. misclosureIn f c e in
     ap (getD (map own (description f .sines)) i) (sym (none-misclosure f e)) ∙ List·getD-map own (description f .sines) i (noSine f)
 
-pub second-pass-C : SecondPass-C
+pub second-exact-C : (given : SecondGiven) (entry exit : SumsLent) → SecondPassPromise given entry 0 exit
+    → (f : Figure) → figureOf (given .code) (given .n) ≡ As f
+    → Exact f (given .entries) (numeratorsIn (exit .values)) (vector (exit .misclosures) 0) (vector (exit .misclosures) 1)
+    (joined (pos (getD (exit .divisor) 0 0)) (getD (exit .divisor) 1 0))
 unfolding secondPassRows
-second-pass-C given entry exit promise f named =
+second-exact-C given entry exit promise f named =
     let e : SineEntries = given .entries in
     let passed : judged (sumsRows given entry) ≡ Passed =
     answered-done (sumsRows given entry) (sums-in-table given entry) (sums-within given entry) (sym (promise .answered)) in
@@ -120,8 +121,17 @@ second-pass-C given entry exit promise f named =
     (λ g. secondRows g (given .tolerance) (given .angles) e (sumsLengths given entry)) named in
     let left : exit ≡ sumsValues f given =
     promise .leaves ∙ ap₂ (λ (m : Named) (v : Verdict). ofNamed m entry (λ g. stored v (sumsValues g given) entry)) named passed in
-    rw (left, misclosure-at f e 0, misclosure-at f e 1, values.natural-joined (divisor f e) (divisor-natural f e))
-    (values-close f given (sumsLengths given entry) (sym rows ∙ passed))
+    let words : SumsLent → ℤ = λ lent. joined (pos (getD (lent .divisor) 0 0)) (getD (lent .divisor) 1 0) in
+    record {
+      numerators-are = λ i h. ap (λ (lent : SumsLent). numeratorsIn (lent .values) i) left ∙ joined-numerators f e i ∙ second-numerators f e i h;
+      w-is = sym (ap (λ (lent : SumsLent). vector (lent .misclosures) 0) left ∙ misclosure-at f e 0);
+      side-w-is = sym (ap (λ (lent : SumsLent). vector (lent .misclosures) 1) left ∙ misclosure-at f e 1);
+      divisor-is = sym (ap words left ∙ values.natural-joined (divisor f e) (divisor-natural f e));
+      divisor-some = accepted f (given .tolerance) (given .angles) e (sumsLengths given entry) (sym rows ∙ passed) .divisor-positive;
+    }
+
+pub second-pass-C : SecondPass-C
+second-pass-C given entry exit promise f named = exact-closes (second-exact-C given entry exit promise f named)
 
 -- ---- a sheet worked from its bytes
 

@@ -1,15 +1,14 @@
 -- The least-squares theorem, over any certified table. N is the number of angles, M that of conditions, C says which angles a condition joins,
 -- R holds the coefficient rows over the denominator D, and K the correlates. Nothing here names a figure. Assumes nothing.
-use mathlib.Core.Path.{_≡_, refl, sym, ap, ap₂, _∙_, subst}
+use mathlib.Core.Path.{_≡_, refl, sym, ap, ap₂, _∙_}
 use Prim.Native.Nat.{ℕ, _<_}
-use lib.IntN.{ℤ, pos, negℤ, _+ℤ_, _-ℤ_, _*ℤ_, +ℤ-idr, +ℤ-invr, *ℤ-zero}
+use lib.IntN.{ℤ, pos, negℤ, _+ℤ_, _*ℤ_, +ℤ-idr}
 use lib.Signed.{_≤ℤ_}
 use Rattle.whole.specs.Sums.{dot, squares, applied, composed, identity, transposed}
-use Rattle.whole.proofs.Integers.{negℤ-*ℤ}
-use Rattle.whole.proofs.Ring.{ring, difference-zero, constant, _≐_, _⊕_, _⊖_, _⊗_, ⊝_}
-use Rattle.whole.proofs.Order.{≤ℤ-from-difference}
-use Rattle.whole.proofs.Sums.{sum-ext, sum-add, sum-scale, dot-ext, dot-zero, squares-nonnegative, squares-zero}
+use Rattle.whole.proofs.Ring.{ring, constant, _≐_, _⊕_, _⊗_, ⊝_}
+use Rattle.whole.proofs.Sums.{sum-ext, sum-add, sum-scale, dot-ext, dot-zero}
 use Rattle.whole.proofs.Sums.{applied-ext, applied-rows, applied-multiple, applied-add, applied-scale, applied-composed, applied-identity, moved}
+use Rattle.figures.proofs.Pythagoras as Pythagoras
 
 -- C·R = −D·I, and every row of R is a combination of rows of C: R = Cᵀ·K
 pub record Certified (N M : ℕ) (D : ℤ) (C R K : ℕ → ℕ → ℤ) : Type 0 where
@@ -41,49 +40,26 @@ module _ {N M : ℕ} {D : ℤ} {C R K : ℕ → ℕ → ℤ} (certified : Certif
   module _ (q : ℤ) (w x : ℕ → ℤ) (same : (j : ℕ) → j < M → applied N C x j ≡ negℤ q *ℤ w j) where
     -- how far x / q lies from the exact corrections, times D·q
     abbrev excess : ℕ → ℤ
-    excess i = D *ℤ x i -ℤ q *ℤ applied M R w i
+    excess = Pythagoras.excess N D q x (applied M R w)
 
     excess-closes : (j : ℕ) → j < M → applied N C excess j ≡ pos 0
+    unfolding applied
     excess-closes j b =
-        applied-add N C (λ i. D *ℤ x i) (λ i. negℤ (q *ℤ applied M R w i)) j
-        ∙ ap₂ _+ℤ_ (applied-scale N C D x j ∙ ap (λ (t : ℤ). D *ℤ t) (same j b))
-        (applied-ext N C (λ i. negℤ (q *ℤ applied M R w i)) (λ i. negℤ q *ℤ applied M R w i) (λ i c. sym (negℤ-*ℤ q (applied M R w i))) j
-        ∙ applied-scale N C (negℤ q) (applied M R w) j ∙ ap (λ (t : ℤ). negℤ q *ℤ t) (cancelled w j b))
-        ∙ ring 3 (λ D q w. D ⊗ (⊝ q ⊗ w) ⊕ ⊝ q ⊗ (⊝ D ⊗ w) ≐ constant (pos 0)) tt D q (w j)
+        Pythagoras.unchanged N D q x (applied M R w) (C j)
+        (ap (λ (t : ℤ). D *ℤ t) (same j b)
+        ∙ ring 3 (λ D q w. D ⊗ (⊝ q ⊗ w) ≐ q ⊗ (⊝ D ⊗ w)) tt D q (w j)
+        ∙ ap (λ (t : ℤ). q *ℤ t) (sym (cancelled w j b)))
 
-    -- the sum of squares of x is that of the exact corrections and that of the excess
-    pythagoras : D *ℤ D *ℤ squares N x ≡ q *ℤ q *ℤ squares N (applied M R w) +ℤ squares N excess
-    unfolding dot
-    pythagoras =
-        sym (sum-scale N (D *ℤ D) (λ i. x i *ℤ x i))
-        ∙ sum-ext N (λ i. D *ℤ D *ℤ (x i *ℤ x i))
-        (λ i. q *ℤ q *ℤ (applied M R w i *ℤ applied M R w i) +ℤ excess i *ℤ excess i +ℤ (q +ℤ q) *ℤ (applied M R w i *ℤ excess i))
-        (λ i b. ring 4 (λ D q x n. D ⊗ D ⊗ (x ⊗ x) ≐ q ⊗ q ⊗ (n ⊗ n) ⊕ (D ⊗ x ⊖ q ⊗ n) ⊗ (D ⊗ x ⊖ q ⊗ n) ⊕ (q ⊕ q) ⊗ (n ⊗ (D ⊗ x ⊖ q ⊗ n))) tt D q (x i) (applied M R w i))
-        ∙ sum-add N (λ i. q *ℤ q *ℤ (applied M R w i *ℤ applied M R w i) +ℤ excess i *ℤ excess i) (λ i. (q +ℤ q) *ℤ (applied M R w i *ℤ excess i))
-        ∙ ap₂ _+ℤ_
-        (sum-add N (λ i. q *ℤ q *ℤ (applied M R w i *ℤ applied M R w i)) (λ i. excess i *ℤ excess i)
-        ∙ ap (λ (t : ℤ). t +ℤ squares N excess) (sum-scale N (q *ℤ q) (λ i. applied M R w i *ℤ applied M R w i)))
-        (sum-scale N (q +ℤ q) (λ i. applied M R w i *ℤ excess i) ∙ ap (λ (t : ℤ). (q +ℤ q) *ℤ t) (orthogonal w excess excess-closes) ∙ *ℤ-zero (q +ℤ q))
-        ∙ +ℤ-idr (q *ℤ q *ℤ squares N (applied M R w) +ℤ squares N excess)
+    apart : dot N (applied M R w) excess ≡ pos 0
+    apart = orthogonal w excess excess-closes
 
     -- no corrections x / q that cancel the misclosures have a smaller sum of squares than the exact corrections
     pub least : (q *ℤ q *ℤ squares N (applied M R w)) ≤ℤ (D *ℤ D *ℤ squares N x)
-    least =
-        ≤ℤ-from-difference (q *ℤ q *ℤ squares N (applied M R w)) (D *ℤ D *ℤ squares N x)
-        (subst (λ (t : ℤ). pos 0 ≤ℤ t)
-        (ring 2 (λ a b. b ≐ a ⊕ b ⊖ a) tt (q *ℤ q *ℤ squares N (applied M R w)) (squares N excess)
-        ∙ ap (λ (t : ℤ). t -ℤ q *ℤ q *ℤ squares N (applied M R w)) (sym pythagoras))
-        (squares-nonnegative N excess))
+    least = Pythagoras.never-below N D q x (applied M R w) apart
 
     -- and where the two sums are equal, x / q are the exact corrections
     pub unique : q *ℤ q *ℤ squares N (applied M R w) ≡ D *ℤ D *ℤ squares N x → (i : ℕ) → i < N → D *ℤ x i ≡ q *ℤ applied M R w i
-    unique e i b = difference-zero (D *ℤ x i) (q *ℤ applied M R w i) (squares-zero N excess none i b)
-      where
-        none : squares N excess ≡ pos 0
-        none =
-            ring 2 (λ a b. b ≐ a ⊕ b ⊖ a) tt (q *ℤ q *ℤ squares N (applied M R w)) (squares N excess)
-            ∙ ap (λ (t : ℤ). t -ℤ q *ℤ q *ℤ squares N (applied M R w)) (sym pythagoras ∙ sym e)
-            ∙ +ℤ-invr (q *ℤ q *ℤ squares N (applied M R w))
+    unique = Pythagoras.only-the-same N D q x (applied M R w) apart
 
   module _ (d : ℕ → ℤ) where
     -- document 01, "The two passes": D·d plus the first-pass numerator for misclosures equal to each condition's sum of d

@@ -10,13 +10,14 @@ use lib.Signed.{_≤ℤ_}
 use Rattle.whole.specs.Sums.{dot, squares, applied, identity, table}
 use Rattle.whole.specs.Lists.{every}
 use Rattle.whole.proofs.Computed.{and-left, and-right}
-use Rattle.whole.proofs.Sums.{dot-ext, dot-comm, dot-add, dot-zero, applied-ext, applied-add, applied-scale, applied-identity}
+use Rattle.whole.proofs.Sums.{dot-ext, dot-comm, dot-add, dot-scale, dot-combined, dot-zero, applied-ext, applied-add, applied-scale, applied-identity}
 use Rattle.figures.specs.declared.Figure.{Figure}
 use Rattle.figures.specs.Figure.{Condition, description, denominator, angleCount, conditionCount, membersOf}
 use Rattle.figures.specs.Numerators.{sumOver, conditionSum, numerator, reducedCoefficient}
 use Rattle.figures.proofs.Certificate.{joined, membership}
 use Rattle.figures.proofs.Figures.{isAmong, none, certified, members-are-angles}
 use Rattle.figures.proofs.LeastSquares as LeastSquares
+use Rattle.figures.proofs.Pythagoras as Pythagoras
 
 -- ---- the sum over a condition's angles is its row of the membership table, applied
 
@@ -52,6 +53,23 @@ condition-scaled f c x j b =
     ∙ applied-scale (angleCount f) (membership (description f)) c x j
     ∙ ap (λ (t : ℤ). c *ℤ t) (condition-applied f x j b)
 
+-- the sum over a condition of a sum of multiples
+pub condition-combined : (f : Figure) (p q : ℤ) (x y : ℕ → ℤ) (j : ℕ) → j < conditionCount f
+    → conditionSum f (λ i. p *ℤ x i +ℤ q *ℤ y i) j ≡ p *ℤ conditionSum f x j +ℤ q *ℤ conditionSum f y j
+condition-combined f p q x y j b =
+    sym (condition-applied f (λ i. p *ℤ x i +ℤ q *ℤ y i) j b)
+    ∙ applied-add (angleCount f) (membership (description f)) (λ i. p *ℤ x i) (λ i. q *ℤ y i) j
+    ∙ ap₂ _+ℤ_ (condition-applied f (λ i. p *ℤ x i) j b ∙ condition-scaled f p x j b) (condition-applied f (λ i. q *ℤ y i) j b ∙ condition-scaled f q y j b)
+
+-- a condition that x / q and y / p change alike is not changed by how far they lie apart
+pub condition-unchanged : (f : Figure) (p q : ℤ) (x y : ℕ → ℤ) (j : ℕ) → j < conditionCount f
+    → p *ℤ conditionSum f x j ≡ q *ℤ conditionSum f y j → conditionSum f (Pythagoras.excess (angleCount f) p q x y) j ≡ pos 0
+unfolding applied
+condition-unchanged f p q x y j b alike =
+    sym (condition-applied f (Pythagoras.excess (angleCount f) p q x y) j b)
+    ∙ Pythagoras.unchanged (angleCount f) p q x y (membership (description f) j)
+    (ap (λ (t : ℤ). p *ℤ t) (condition-applied f x j b) ∙ alike ∙ ap (λ (t : ℤ). q *ℤ t) (sym (condition-applied f y j b)))
+
 -- and a numerator the figure's own conditions alone
 pub numerator-agrees : (f : Figure) (v w : ℕ → ℤ) → ((j : ℕ) → j < conditionCount f → v j ≡ w j) → (i : ℕ) → numerator f v i ≡ numerator f w i
 unfolding numerator
@@ -63,6 +81,12 @@ numerator-agrees f v w same i = applied-ext (conditionCount f) _ v w same i
 pub numerators-cancel : (f : Figure) (w : ℕ → ℤ) (j : ℕ) → j < conditionCount f → conditionSum f (numerator f w) j ≡ negℤ (pos (denominator f)) *ℤ w j
 unfolding numerator
 numerators-cancel f w j b = sym (condition-applied f (numerator f w) j b) ∙ LeastSquares.cancelled (certified f) w j b
+
+-- they are orthogonal to whatever changes no condition
+pub numerators-orthogonal : (f : Figure) (w z : ℕ → ℤ) → ((j : ℕ) → j < conditionCount f → conditionSum f z j ≡ pos 0)
+    → dot (angleCount f) (numerator f w) z ≡ pos 0
+unfolding numerator
+numerators-orthogonal f w z closes = LeastSquares.orthogonal (certified f) w z (λ j b. condition-applied f z j b ∙ closes j b)
 
 module _ (f : Figure) (q : ℤ) (w x : ℕ → ℤ) (cancels : (j : ℕ) → j < conditionCount f → conditionSum f x j ≡ negℤ q *ℤ w j) where
   applied-cancels : (j : ℕ) → j < conditionCount f → applied (angleCount f) (membership (description f)) x j ≡ negℤ q *ℤ w j
@@ -103,6 +127,19 @@ module _ (f : Figure) (d : ℕ → ℤ) where
       ∙ condition-scaled f c (reducedCoefficient f d) j b
       ∙ ap (λ (t : ℤ). c *ℤ t) (reduced-closes j b) ∙ *ℤ-zero c
 
+-- they are orthogonal to whatever changes no condition and leaves the sum Σ d as it is
+pub reduced-orthogonal : (f : Figure) (d z : ℕ → ℤ) → ((j : ℕ) → j < conditionCount f → conditionSum f z j ≡ pos 0)
+    → dot (angleCount f) d z ≡ pos 0 → dot (angleCount f) (reducedCoefficient f d) z ≡ pos 0
+unfolding reducedCoefficient
+reduced-orthogonal f d z closes still =
+    let taken : ℕ → ℤ = numerator f (conditionSum f d) in
+    dot-comm (angleCount f) (reducedCoefficient f d) z
+    ∙ dot-add (angleCount f) z (λ i. pos (denominator f) *ℤ d i) taken
+    ∙ ap₂ _+ℤ_
+    (dot-scale (angleCount f) (pos (denominator f)) z d
+    ∙ ap (λ (t : ℤ). pos (denominator f) *ℤ t) (dot-comm (angleCount f) z d ∙ still) ∙ *ℤ-zero (pos (denominator f)))
+    (dot-comm (angleCount f) z taken ∙ numerators-orthogonal f (conditionSum f d) z closes)
+
 -- D·Σ d·B = Σ A·B, with A and B the reduced coefficients of d and e
 pub reduced-products : (f : Figure) (d e : ℕ → ℤ)
     → pos (denominator f) *ℤ dot (angleCount f) d (reducedCoefficient f e) ≡ dot (angleCount f) (reducedCoefficient f d) (reducedCoefficient f e)
@@ -118,14 +155,29 @@ pub reduced-squares : (f : Figure) (d : ℕ → ℤ)
     → pos (denominator f) *ℤ dot (angleCount f) d (reducedCoefficient f d) ≡ squares (angleCount f) (reducedCoefficient f d)
 reduced-squares f d = reduced-products f d d
 
--- numbers that are a sum of multiples of two sets of reduced coefficients change no condition
-pub combination-closes : (f : Figure) (d e : ℕ → ℤ) (p q : ℤ) (x : ℕ → ℤ)
-    → ((i : ℕ) → i < angleCount f → x i ≡ p *ℤ reducedCoefficient f d i +ℤ q *ℤ reducedCoefficient f e i) → (j : ℕ) → j < conditionCount f → conditionSum f x j ≡ pos 0
-combination-closes f d e p q x are j b =
-    condition-agrees f x (λ i. p *ℤ reducedCoefficient f d i +ℤ q *ℤ reducedCoefficient f e i) are j b
-    ∙ sym (condition-applied f (λ i. p *ℤ reducedCoefficient f d i +ℤ q *ℤ reducedCoefficient f e i) j b)
-    ∙ applied-add (angleCount f) (membership (description f)) (λ i. p *ℤ reducedCoefficient f d i) (λ i. q *ℤ reducedCoefficient f e i) j
-    ∙ ap₂ _+ℤ_ (multiple p d) (multiple q e)
-  where
-    multiple : (c : ℤ) (u : ℕ → ℤ) → applied (angleCount f) (membership (description f)) (λ i. c *ℤ reducedCoefficient f u i) j ≡ pos 0
-    multiple c u = condition-applied f (λ i. c *ℤ reducedCoefficient f u i) j b ∙ multiple-closes f u c (λ i. c *ℤ reducedCoefficient f u i) (λ i h. refl) j b
+-- numbers that are a sum of multiples of two sets of reduced coefficients
+module _ (f : Figure) (d e : ℕ → ℤ) (p q : ℤ) (x : ℕ → ℤ)
+    (are : (i : ℕ) → i < angleCount f → x i ≡ p *ℤ reducedCoefficient f d i +ℤ q *ℤ reducedCoefficient f e i) where
+  zeros : p *ℤ pos 0 +ℤ q *ℤ pos 0 ≡ pos 0
+  zeros = ap₂ _+ℤ_ (*ℤ-zero p) (*ℤ-zero q)
+
+  -- change no condition
+  pub combination-closes : (j : ℕ) → j < conditionCount f → conditionSum f x j ≡ pos 0
+  combination-closes j b =
+      condition-agrees f x (λ i. p *ℤ reducedCoefficient f d i +ℤ q *ℤ reducedCoefficient f e i) are j b
+      ∙ condition-combined f p q (reducedCoefficient f d) (reducedCoefficient f e) j b
+      ∙ ap₂ (λ (s t : ℤ). p *ℤ s +ℤ q *ℤ t) (reduced-closes f d j b) (reduced-closes f e j b)
+      ∙ zeros
+
+  -- and are orthogonal to whatever changes no condition and neither of the sums Σ d and Σ e
+  pub combination-orthogonal : (z : ℕ → ℤ) → ((j : ℕ) → j < conditionCount f → conditionSum f z j ≡ pos 0)
+      → dot (angleCount f) d z ≡ pos 0 → dot (angleCount f) e z ≡ pos 0 → dot (angleCount f) x z ≡ pos 0
+  combination-orthogonal z closes still-d still-e =
+      dot-comm (angleCount f) x z
+      ∙ dot-ext (angleCount f) z x z (λ i. p *ℤ reducedCoefficient f d i +ℤ q *ℤ reducedCoefficient f e i) (λ i h. refl) are
+      ∙ dot-combined (angleCount f) p q z (reducedCoefficient f d) (reducedCoefficient f e)
+      ∙ ap₂ (λ (s t : ℤ). p *ℤ s +ℤ q *ℤ t) (turned d still-d) (turned e still-e)
+      ∙ zeros
+    where
+      turned : (u : ℕ → ℤ) → dot (angleCount f) u z ≡ pos 0 → dot (angleCount f) z (reducedCoefficient f u) ≡ pos 0
+      turned u still = dot-comm (angleCount f) z (reducedCoefficient f u) ∙ reduced-orthogonal f u z closes still

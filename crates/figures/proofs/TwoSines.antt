@@ -6,11 +6,11 @@ use lib.IntN.{ℤ, pos, negℤ, _+ℤ_, _-ℤ_, _*ℤ_}
 use lib.Signed.{_≤ℤ_}
 use Rattle.whole.specs.Sums.{dot, squares}
 use Rattle.whole.proofs.Ring.{ring, _≐_, _⊕_, _⊖_, _⊗_}
-use Rattle.whole.proofs.Sums.{dot-ext, dot-comm, dot-add, dot-scale, products-within}
+use Rattle.whole.proofs.Sums.{dot-ext, dot-comm, dot-combined, products-within}
 use Rattle.figures.specs.declared.Figure.{Figure}
 use Rattle.figures.specs.Figure.{denominator, angleCount, conditionCount}
 use Rattle.figures.specs.Numerators.{conditionSum, reducedCoefficient}
-use Rattle.figures.proofs.Theorem.{reduced-products, combination-closes}
+use Rattle.figures.proofs.Theorem.{reduced-products, combination-closes, combination-orthogonal}
 
 module _ (f : Figure) (d e : ℕ → ℤ) where
   -- the reduced coefficients A and B, and the sums of their products
@@ -56,12 +56,16 @@ module _ (f : Figure) (d e : ℕ → ℤ) where
     pub corrections-close : (j : ℕ) → j < conditionCount f → conditionSum f correction j ≡ pos 0
     corrections-close = combination-closes f d e (factor *ℤ first) (factor *ℤ second) correction (λ i h. apart i)
 
+    -- what changes no linear condition and neither sine sum is orthogonal to them
+    pub corrections-orthogonal : (z : ℕ → ℤ) → ((j : ℕ) → j < conditionCount f → conditionSum f z j ≡ pos 0)
+        → dot (angleCount f) d z ≡ pos 0 → dot (angleCount f) e z ≡ pos 0 → dot (angleCount f) correction z ≡ pos 0
+    corrections-orthogonal = combination-orthogonal f d e (factor *ℤ first) (factor *ℤ second) correction (λ i h. apart i)
+
     -- the sum over any differences u, by its sums with A and B
     over : (u : ℕ → ℤ) → dot (angleCount f) u correction ≡ factor *ℤ first *ℤ dot (angleCount f) u A +ℤ factor *ℤ second *ℤ dot (angleCount f) u B
     over u =
         dot-ext (angleCount f) u correction u (λ i. factor *ℤ first *ℤ A i +ℤ factor *ℤ second *ℤ B i) (λ i h. refl) (λ i h. apart i)
-        ∙ dot-add (angleCount f) u (λ i. factor *ℤ first *ℤ A i) (λ i. factor *ℤ second *ℤ B i)
-        ∙ ap₂ _+ℤ_ (dot-scale (angleCount f) (factor *ℤ first) u A) (dot-scale (angleCount f) (factor *ℤ second) u B)
+        ∙ dot-combined (angleCount f) (factor *ℤ first) (factor *ℤ second) u A B
 
     -- D taken to the sums
     gathered : (p q x y : ℤ)

@@ -1,6 +1,6 @@
 -- The second corrections of any sheet, over the figure: what they are with one sine condition and with two, that they change no linear
--- condition, so that a rest is small, that they cancel each sine misclosure, and that the formula for two covers that for one. In whole
--- numbers, as numerators over S or the determinant; cites the figures' theorems. Assumes nothing.
+-- condition, so that a rest is small, that they cancel each sine misclosure, to what they are orthogonal, and that the formula for two
+-- covers that for one. In whole numbers, as numerators over S or the determinant; cites the figures' theorems. Assumes nothing.
 use mathlib.Core.Bool.{Bool, true, false, cond}
 use mathlib.Core.Path.{_≡_, refl, sym, ap, _∙_, subst}
 use mathlib.Core.List.{List}
@@ -15,7 +15,7 @@ use Rattle.pass_pair.specs.Pair.{pairNumerator}
 use Rattle.figures.specs.declared.Figure.{Figure}
 use Rattle.figures.specs.Figure.{denominator, angleCount, conditionCount, membersOf, pole, side, hasSide}
 use Rattle.figures.specs.Numerators.{conditionSum}
-use Rattle.figures.proofs.Theorem.{condition-agrees, multiple-closes, reduced-squares}
+use Rattle.figures.proofs.Theorem.{condition-agrees, multiple-closes, reduced-squares, combination-orthogonal}
 use Rattle.figures.proofs.TwoSines as two
 use Rattle.pass_rules.specs.SecondPass.{SineEntries, signedIn, reducedIn, secondReduced, sumOfSquares, sideSquares, sharedProducts, sineMisclosure, sideMisclosure, divisor, tenthsFactor, numeratorOfOne, numeratorOfTwo, secondNumerator, secondRounded, secondRest}
 use Rattle.pass_rules.proofs.Rests.{rest-small}
@@ -62,6 +62,13 @@ module _ (f : Figure) (e : SineEntries) where
     unfolding reducedIn
     one-closes = multiple-closes f (signedIn (pole f) e) factor (secondNumerator f e) (λ i h. as-multiple i)
 
+    one-orthogonal : (z : ℕ → ℤ) → ((j : ℕ) → j < conditionCount f → conditionSum f z j ≡ pos 0)
+        → dot (angleCount f) (signedIn (pole f) e) z ≡ pos 0 → dot (angleCount f) (secondNumerator f e) z ≡ pos 0
+    unfolding reducedIn
+    one-orthogonal z closes still =
+        combination-orthogonal f (signedIn (pole f) e) (signedIn (pole f) e) factor (pos 0) (secondNumerator f e)
+        (λ i h. as-multiple i ∙ ring 2 (λ k a. k ⊗ a ≐ k ⊗ a ⊕ constant (pos 0) ⊗ a) tt factor (secondReduced f e i)) z closes still still
+
     one-cancelled : dot (angleCount f) (signedIn (pole f) e) (secondNumerator f e) ≡ negℤ (pos 100) *ℤ sineMisclosure f e *ℤ divisor f e
     unfolding reducedIn sumOfSquares
     one-cancelled =
@@ -103,6 +110,14 @@ module _ (f : Figure) (e : SineEntries) where
     two-closes j h =
         condition-agrees f (secondNumerator f e) _ (λ i b. correction-is i) j h
         ∙ two.corrections-close f (signedIn (pole f) e) (signedIn (side f) e) (sineMisclosure f e) (sideMisclosure f e) j h
+
+    two-orthogonal : (z : ℕ → ℤ) → ((j : ℕ) → j < conditionCount f → conditionSum f z j ≡ pos 0)
+        → dot (angleCount f) (signedIn (pole f) e) z ≡ pos 0 → dot (angleCount f) (signedIn (side f) e) z ≡ pos 0
+        → dot (angleCount f) (secondNumerator f e) z ≡ pos 0
+    two-orthogonal z closes still still-side =
+        dot-ext (angleCount f) (secondNumerator f e) z _ z (λ i h. correction-is i) (λ i h. refl)
+        ∙ two.corrections-orthogonal f (signedIn (pole f) e) (signedIn (side f) e) (sineMisclosure f e) (sideMisclosure f e) z closes
+        still still-side
 
     -- the sum over any differences d, from what the figures' theorem says of it
     over-determinant : (d : ℕ → ℤ) (w : ℤ)
@@ -147,6 +162,16 @@ module _ (f : Figure) (e : SineEntries) where
       go : (b : Bool) → hasSide f ≡ b → conditionSum f (secondNumerator f e) j ≡ pos 0
       go true both = two-closes both j h
       go false one = one-closes one j h
+
+  -- what changes no linear condition and no sine sum is orthogonal to them
+  pub numerators-orthogonal : (z : ℕ → ℤ) → ((j : ℕ) → j < conditionCount f → conditionSum f z j ≡ pos 0)
+      → dot (angleCount f) (signedIn (pole f) e) z ≡ pos 0 → (hasSide f ≡ true → dot (angleCount f) (signedIn (side f) e) z ≡ pos 0)
+      → dot (angleCount f) (secondNumerator f e) z ≡ pos 0
+  numerators-orthogonal z closes still still-side = go (hasSide f) refl
+    where
+      go : (b : Bool) → hasSide f ≡ b → dot (angleCount f) (secondNumerator f e) z ≡ pos 0
+      go true both = two-orthogonal both z closes still (still-side both)
+      go false one = one-orthogonal one z closes still
 
   -- "the sum of d times the exact second correction (tenths) is −100·W", over the pole's d
   pub pole-cancelled : dot (angleCount f) (signedIn (pole f) e) (secondNumerator f e) ≡ negℤ (pos 100) *ℤ sineMisclosure f e *ℤ divisor f e

@@ -123,6 +123,10 @@ dot-scale n c u v =
     sum-ext n (λ i. u i *ℤ (c *ℤ v i)) (λ i. c *ℤ (u i *ℤ v i)) (λ i b. ring 3 (λ c x y. x ⊗ (c ⊗ y) ≐ c ⊗ (x ⊗ y)) tt c (u i) (v i))
     ∙ sum-scale n c (λ i. u i *ℤ v i)
 
+-- the sum of products with a sum of multiples
+pub dot-combined : (n : ℕ) (p q : ℤ) (u v w : ℕ → ℤ) → dot n u (λ i. p *ℤ v i +ℤ q *ℤ w i) ≡ p *ℤ dot n u v +ℤ q *ℤ dot n u w
+dot-combined n p q u v w = dot-add n u (λ i. p *ℤ v i) (λ i. q *ℤ w i) ∙ ap₂ _+ℤ_ (dot-scale n p u v) (dot-scale n q u w)
+
 pub dot-zero : (n : ℕ) (u v : ℕ → ℤ) → ((i : ℕ) → i < n → v i ≡ pos 0) → dot n u v ≡ pos 0
 unfolding dot
 dot-zero n u v h = sum-ext n (λ i. u i *ℤ v i) (λ i. pos 0) (λ i b. ap (λ (t : ℤ). u i *ℤ t) (h i b) ∙ *ℤ-zero (u i)) ∙ sum-zero n

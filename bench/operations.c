@@ -6,12 +6,13 @@
 
 #include "peer.h"
 
-const struct library ours = {"library", bienguloc_look, bienguloc_read, bienguloc_write, bienguloc_first_pass, bienguloc_second_pass,
-    bienguloc_report};
-const struct library peer = {"peer", peer_look, peer_read, peer_write, peer_first_pass, peer_second_pass, peer_report};
+const struct library ours = {"library", bienguloc_look, bienguloc_read, bienguloc_write, bienguloc_first_pass, bienguloc_closing,
+    bienguloc_check_closing, bienguloc_second_pass, bienguloc_report};
+const struct library peer = {"peer", peer_look, peer_read, peer_write, peer_first_pass, peer_closing, peer_check_closing,
+    peer_second_pass, peer_report};
 
-const char *const operation_names[OPERATIONS] = {"look", "read", "write", "first pass", "second pass", "second pass, two sines", "report",
-    "a sheet worked through"};
+const char *const operation_names[OPERATIONS] = {"look", "read", "write", "first pass", "second pass", "second pass, two sines",
+    "a rounding that closes", "check of a rounding", "report", "a sheet worked through"};
 
 enum { MOST_TASKS = 1024 };
 
@@ -20,6 +21,8 @@ bool takes(enum operation operation, const struct task *task)
     const uint32_t log_sines = task->head[BIENGULOC_LOOK_LOG_SINES], log_sides = task->head[BIENGULOC_LOOK_LOG_SIDES];
     switch (operation) {
     case FIRST_PASS:
+    case CLOSING:
+    case CHECK_CLOSING:
         return log_sines == 0;
     case SECOND_PASS:
         return log_sines != 0 && log_sides == 0;
@@ -66,6 +69,20 @@ static uint32_t first_pass(const struct library *library, const uint32_t *head, 
         desk->misclosures, conditions, desk->numerators, angles, desk->rounded, angles, desk->results, angles, desk->rests, conditions);
 }
 
+static uint32_t closing(const struct library *library, const struct task *task, int32_t *choice)
+{
+    const struct values *v = &task->values;
+    return library->closing(v->head[1], v->head[2], limit_of(v), v->angles, task->head[BIENGULOC_LOOK_ANGLES], v->fixed,
+        task->head[BIENGULOC_LOOK_FIXED], choice, task->head[BIENGULOC_LOOK_ANGLES]);
+}
+
+static uint32_t check_closing(const struct library *library, const struct task *task)
+{
+    const struct values *v = &task->values;
+    return library->check_closing(v->head[1], v->head[2], limit_of(v), v->angles, task->head[BIENGULOC_LOOK_ANGLES], v->fixed,
+        task->head[BIENGULOC_LOOK_FIXED], task->choice, task->head[BIENGULOC_LOOK_ANGLES]);
+}
+
 static uint32_t second_pass(const struct library *library, const uint32_t *head, const struct values *v, struct desk *desk)
 {
     const size_t angles = head[BIENGULOC_LOOK_ANGLES], log_sides = head[BIENGULOC_LOOK_LOG_SIDES];
@@ -101,6 +118,10 @@ uint32_t operate(const struct library *library, enum operation operation, const 
     case SECOND_PASS:
     case TWO_SINES:
         return second_pass(library, task->head, &task->values, desk);
+    case CLOSING:
+        return closing(library, task, desk->choice);
+    case CHECK_CLOSING:
+        return check_closing(library, task);
     case REPORT:
         return library->report(task->sheet, task->size, desk->text, sizeof desk->text, &desk->written, 1);
     case WHOLE_SHEET:
@@ -111,12 +132,23 @@ uint32_t operate(const struct library *library, enum operation operation, const 
     return BIENGULOC_DONE;
 }
 
+/* A look, the values, and of a sheet for the first pass the choice that is checked. */
+static uint32_t take_task(struct task *task)
+{
+    uint32_t answer = look(&ours, task, task->head);
+    if (answer == BIENGULOC_DONE)
+        answer = read_values(&ours, task, task->head, &task->values);
+    if (answer == BIENGULOC_DONE && takes(CHECK_CLOSING, task))
+        answer = closing(&ours, task, task->choice);
+    return answer;
+}
+
 static void unpack_line(const char *line, struct task *task)
 {
     unsigned byte;
     for (task->size = 0; task->size < sizeof task->sheet && sscanf(line + 2 * task->size, "%2x", &byte) == 1; task->size++)
         task->sheet[task->size] = (uint8_t)byte;
-    if (look(&ours, task, task->head) != BIENGULOC_DONE || read_values(&ours, task, task->head, &task->values) != BIENGULOC_DONE) {
+    if (take_task(task) != BIENGULOC_DONE) {
         fprintf(stderr, "the library turns back a sheet of the bench: %s", line);
         exit(2);
     }

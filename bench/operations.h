@@ -18,6 +18,8 @@ struct library {
         size_t, const int32_t *, size_t, const uint32_t *, size_t, uint8_t *, size_t);
     uint32_t (*first_pass)(uint32_t, uint32_t, uint32_t, const uint32_t *, size_t, const uint32_t *, size_t, int32_t *, size_t,
         int32_t *, size_t, int32_t *, size_t, uint32_t *, size_t, int32_t *, size_t);
+    uint32_t (*closing)(uint32_t, uint32_t, uint32_t, const uint32_t *, size_t, const uint32_t *, size_t, int32_t *, size_t);
+    uint32_t (*check_closing)(uint32_t, uint32_t, uint32_t, const uint32_t *, size_t, const uint32_t *, size_t, const int32_t *, size_t);
     uint32_t (*second_pass)(uint32_t, uint32_t, uint32_t, const uint32_t *, size_t, const uint32_t *, size_t, const int32_t *, size_t,
         const uint32_t *, size_t, int64_t *, size_t, uint64_t *, size_t, int64_t *, size_t, int64_t *, size_t, int64_t *, size_t,
         uint64_t *, size_t, int32_t *, size_t, uint32_t *, size_t, int32_t *, size_t);
@@ -33,12 +35,13 @@ struct values {
     uint32_t log_sides[BIENGULOC_MOST_LOG_SIDES];
 };
 
-/* A sheet, and what a look and the reader find on it. */
+/* A sheet, and what a look and the reader find on it; of a sheet for the first pass a rounding that closes, to be checked. */
 struct task {
     uint8_t sheet[BIENGULOC_LONGEST_SHEET];
     size_t size;
     uint32_t head[BIENGULOC_LOOK_HEAD];
     struct values values;
+    int32_t choice[BIENGULOC_MOST_ANGLES];
 };
 
 /* Everything that an operation stores. */
@@ -47,7 +50,7 @@ struct desk {
     struct values values;
     uint8_t sheet[BIENGULOC_LONGEST_SHEET];
     int32_t misclosures[BIENGULOC_MOST_CONDITIONS], rests[BIENGULOC_MOST_CONDITIONS];
-    int32_t numerators[BIENGULOC_MOST_ANGLES], rounded[BIENGULOC_MOST_ANGLES];
+    int32_t numerators[BIENGULOC_MOST_ANGLES], rounded[BIENGULOC_MOST_ANGLES], choice[BIENGULOC_MOST_ANGLES];
     int64_t sine_misclosures[BIENGULOC_MOST_SINE_CONDITIONS], reduced[BIENGULOC_MOST_ANGLES], side_reduced[BIENGULOC_MOST_ANGLES];
     int64_t numerators_high[BIENGULOC_MOST_ANGLES];
     uint64_t divisor[2], numerators_low[BIENGULOC_MOST_ANGLES];
@@ -56,11 +59,11 @@ struct desk {
     uint64_t written;
 };
 
-enum operation { LOOK, READ, WRITE, FIRST_PASS, SECOND_PASS, TWO_SINES, REPORT, WHOLE_SHEET, OPERATIONS };
+enum operation { LOOK, READ, WRITE, FIRST_PASS, SECOND_PASS, TWO_SINES, CLOSING, CHECK_CLOSING, REPORT, WHOLE_SHEET, OPERATIONS };
 
 extern const char *const operation_names[OPERATIONS];
 
-/* A pass takes the sheets of its kinds, every other operation all. The second pass of the figures with one sine condition and of those
+/* A pass takes the sheets of its kinds, the rounding that closes and its check those of the first, every other operation all. The second pass of the figures with one sine condition and of those
  * with two are measured by themselves. */
 bool takes(enum operation operation, const struct task *task);
 

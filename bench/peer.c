@@ -1,4 +1,4 @@
-/* The operations of the library in plain C, from document 01, and from M-100 to M-102 of document 02: figures by table, the central
+/* The operations of the library in plain C, from document 01, and from M-100 to M-104 of document 02: figures by table, the central
  * polygon by its formula, two sine conditions in the compiler's 128-bit numbers, sheets by four bytes at a time through a 64-bit
  * register, every loop over the figure's own count, results held back until every test has passed. */
 #include "peer.h"
@@ -43,7 +43,8 @@ enum refusal_number {
     NO_KIND,
     SHEET_LENGTH,
     FILLING,
-    FIXED_SUM
+    FIXED_SUM,
+    CHOICE
 };
 
 enum pass { NO_PASS, FIRST, SECOND };
@@ -522,6 +523,100 @@ uint32_t peer_first_pass(uint32_t code, uint32_t n, uint32_t limit, const uint32
     memcpy(corrected, work.corrected, a * sizeof *corrected);
     memcpy(rests, work.rests, c * sizeof *rests);
     return 0;
+}
+
+/* --- a rounding that closes --- */
+
+/* What the first pass refuses, in its order, with the slice of the choice among the lengths; and its work. */
+static uint32_t exact_first(const struct figure *f, uint32_t limit, const uint32_t *angles, size_t angle_count, const uint32_t *fixed,
+    size_t fixed_count, size_t choice_count, struct first_work *work)
+{
+    if (!f)
+        return refused(NO_FIGURE, 0);
+    if (angle_count != f->angles || fixed_count != f->fixed || choice_count != f->angles)
+        return refused(WRONG_LENGTH, 0);
+    const uint32_t answer = judge_given(limit, MOST_LIMIT, angles, f->angles, fixed, f->fixed, NULL, NULL, 0, NULL, 0);
+    return answer ? answer : work_first(f, limit, angles, fixed, work);
+}
+
+/* Downwards, also below zero. */
+static int32_t floor_quotient(int32_t numerator, int32_t denominator)
+{
+    return numerator / denominator - (numerator % denominator < 0);
+}
+
+/* A direction as exact corrections are laid off, over the denominator, and in whole tenths downwards. */
+struct direction {
+    int32_t exact, tenths;
+};
+
+/* The direction after an angle; the angle's correction is the difference in whole tenths. */
+static inline struct direction laid_off(struct direction from, int32_t numerator, int32_t denominator, int32_t *correction)
+{
+    const int32_t exact = from.exact + numerator, tenths = floor_quotient(exact, denominator);
+    *correction = tenths - from.tenths;
+    return (struct direction){exact, tenths};
+}
+
+/* The quadrilateral's angles one after another; in code 2 of each triangle the third, the first, the second; in code 3 the first ones
+ * of the triangles one after another, and from each the second and the third. */
+static void choose(const struct figure *f, const int32_t *numerators, int32_t *choice)
+{
+    const struct direction first = {0, 0};
+    const int32_t denominator = f->denominator;
+    struct direction at = first, inner = first;
+    if (f->code == 1) {
+        for (uint32_t i = 0; i < f->angles; i++)
+            at = laid_off(at, numerators[i], denominator, &choice[i]);
+        return;
+    }
+    for (uint32_t i = 0; i < f->angles; i += 3) {
+        if (f->code == 2)
+            inner = laid_off(first, numerators[i + 2], denominator, &choice[i + 2]);
+        inner = laid_off(inner, numerators[i], denominator, &choice[i]);
+        at = laid_off(inner, numerators[i + 1], denominator, &choice[i + 1]);
+        if (f->code == 3)
+            laid_off(at, numerators[i + 2], denominator, &choice[i + 2]);
+    }
+}
+
+uint32_t peer_closing(uint32_t code, uint32_t n, uint32_t limit, const uint32_t *angles, size_t angle_count, const uint32_t *fixed,
+    size_t fixed_count, int32_t *corrections, size_t correction_count)
+{
+    const struct figure *f = figure_of(code, n);
+    struct first_work work;
+    const uint32_t answer = exact_first(f, limit, angles, angle_count, fixed, fixed_count, correction_count, &work);
+    if (!answer)
+        choose(f, work.numerators, corrections);
+    return answer;
+}
+
+/* Both rules; sums are taken only of corrections that the first one has found small. */
+static bool keeps_both_rules(const struct figure *f, const struct first_work *work, const int32_t *offered)
+{
+    const int32_t denominator = f->denominator;
+    for (uint32_t i = 0; i < f->angles; i++) {
+        const int32_t below = floor_quotient(work->numerators[i], denominator), above = -floor_quotient(-work->numerators[i], denominator);
+        if (offered[i] != below && offered[i] != above)
+            return false;
+    }
+    int32_t sums[MOST_CONDITIONS];
+    condition_sums(f, offered, sums);
+    for (uint32_t j = 0; j < f->conditions; j++)
+        if (work->misclosures[j] + sums[j] != 0)
+            return false;
+    return true;
+}
+
+uint32_t peer_check_closing(uint32_t code, uint32_t n, uint32_t limit, const uint32_t *angles, size_t angle_count, const uint32_t *fixed,
+    size_t fixed_count, const int32_t *offered, size_t offered_count)
+{
+    const struct figure *f = figure_of(code, n);
+    struct first_work work;
+    const uint32_t answer = exact_first(f, limit, angles, angle_count, fixed, fixed_count, offered_count, &work);
+    if (answer)
+        return answer;
+    return keeps_both_rules(f, &work, offered) ? 0 : refused(CHOICE, 0);
 }
 
 uint32_t peer_second_pass(uint32_t code, uint32_t n, uint32_t tolerance, const uint32_t *angles, size_t angle_count,

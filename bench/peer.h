@@ -19,6 +19,12 @@ uint32_t peer_first_pass(uint32_t code, uint32_t n, uint32_t limit, const uint32
     size_t fixed_count, int32_t *misclosures, size_t misclosure_count, int32_t *numerators, size_t numerator_count, int32_t *rounded,
     size_t rounded_count, uint32_t *corrected, size_t corrected_count, int32_t *rests, size_t rest_count);
 
+uint32_t peer_closing(uint32_t code, uint32_t n, uint32_t limit, const uint32_t *angles, size_t angle_count, const uint32_t *fixed,
+    size_t fixed_count, int32_t *corrections, size_t correction_count);
+
+uint32_t peer_check_closing(uint32_t code, uint32_t n, uint32_t limit, const uint32_t *angles, size_t angle_count, const uint32_t *fixed,
+    size_t fixed_count, const int32_t *offered, size_t offered_count);
+
 uint32_t peer_second_pass(uint32_t code, uint32_t n, uint32_t tolerance, const uint32_t *angles, size_t angle_count,
     const uint32_t *log_sines, size_t log_sine_count, const int32_t *differences, size_t difference_count, const uint32_t *log_sides,
     size_t log_side_count, int64_t *sine_misclosures, size_t sine_misclosure_count, uint64_t *divisor, size_t divisor_count,

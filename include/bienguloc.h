@@ -47,6 +47,7 @@ extern "C" {
 #define BIENGULOC_WRONG_SHEET_LENGTH 12u
 #define BIENGULOC_FILLING_BIT_SET 13u
 #define BIENGULOC_FIXED_ANGLES_DO_NOT_SUM 14u /* to 6480000 where there are three, 12960000 where there are four */
+#define BIENGULOC_CHOICE_DOES_NOT_CLOSE 15u   /* or is not the whole tenth just below or just above at some angle */
 
 /* What a limit L of 0 stands for: in a first pass that is called directly and in a sheet of kind 3; and in a sheet of kind 1, whose
  * caller hands the pass this limit where the sheet has 0. */
@@ -102,6 +103,17 @@ BIENGULOC_NOT_NULL uint32_t bienguloc_write(uint32_t kind, uint32_t code, uint32
  * come from. In order: 1, 2, 3, 4, 5, 14, 6, 7. */
 BIENGULOC_NOT_NULL uint32_t bienguloc_first_pass(uint32_t code, uint32_t n, uint32_t limit, const uint32_t *angles, size_t, const uint32_t *fixed, size_t,
     int32_t *misclosures, size_t, int32_t *numerators, size_t, int32_t *rounded, size_t, uint32_t *corrected, size_t, int32_t *rests, size_t);
+
+/* A rounding that closes: of each angle the whole tenth just below or just above its exact first correction, so that every rest is 0;
+ * a whole value stays. It refuses exactly where the first pass does, by the same number and place, 7 by ordinary rounding: so an angle
+ * with its choice may lie a tenth outside its range. In order: 1, 2, 3, 4, 5, 14, 6, 7. */
+BIENGULOC_NOT_NULL uint32_t bienguloc_closing(uint32_t code, uint32_t n, uint32_t limit, const uint32_t *angles, size_t, const uint32_t *fixed, size_t,
+    int32_t *corrections, size_t);
+
+/* Whether offered corrections are such a choice, ours or another: 0 if both rules hold, else 15. Nothing is stored.
+ * In order: 1, 2, 3, 4, 5, 14, 6, 7, 15. */
+BIENGULOC_NOT_NULL uint32_t bienguloc_check_closing(uint32_t code, uint32_t n, uint32_t limit, const uint32_t *angles, size_t, const uint32_t *fixed, size_t,
+    const int32_t *offered, size_t);
 
 /* The second corrections, of first-corrected angles. By sine condition, one or two: the misclosures W. The divisor, in two words,
  * is S, or the determinant of two sine conditions. By angle: the reduced coefficients A; of two sine conditions B too, else no

@@ -1,5 +1,5 @@
 #!/usr/bin/env python3
-"""The independent computation held against document 01's worked cases, document 02's M-100 to M-102 and the published examples.
+"""The independent computation held against document 01's worked cases, document 02's M-100 to M-104 and the published examples.
 
 The program is not run here: this says that what it is compared with is right.
 """
@@ -8,10 +8,30 @@ import math
 import sys
 import unittest
 from pathlib import Path
+from typing import NamedTuple
 
 from closing import closing_angles
-from figures import FIGURES, condition_sums, figure_of, first_numerators, product_sum, reduced_coefficients
+from closing_choice import (
+    check_closing,
+    choice,
+    closing_corrections,
+    directions,
+    keeps_both_rules,
+    keeps_first_rule,
+    keeps_second_rule,
+)
+from figures import (
+    FIGURES,
+    Figure,
+    condition_sums,
+    figure_of,
+    first_numerators,
+    least_squares_corrections,
+    product_sum,
+    reduced_coefficients,
+)
 from independent import first_pass, rounded_quotient, second_pass, signed_values, work, worked
+from made_choices import choice_sheets, offers
 from packed import Bits, Refused, Sheet, packed_values, read_sheet, read_values, sheet_size, write_sheet
 
 SHEETS = Path(__file__).resolve().parent.parent / "sheets"
@@ -326,6 +346,211 @@ class DefaultLimit(unittest.TestCase):
         body = sample("document-01-first")
         for kind in (0, *range(4, 16)):
             self.assertEqual(work(bytes([kind << 4 | body[0] & 15]) + body[1:]), "refused 11 0\n")
+
+
+def answer_of(compute, *given):
+    """Number and place, or 0 and 0."""
+    try:
+        compute(*given)
+    except Refused as refusal:
+        return refusal.number, refusal.place
+    return 0, 0
+
+
+class RoundingThatCloses(unittest.TestCase):
+    """Document 02, M-104: our own choice."""
+
+    def chosen(self, figure, *misclosures):
+        return choice(figure, least_squares_corrections(figure, misclosures))
+
+    def test_case_1_by_hand(self):
+        """The directions in eighths are 0, -79, -158, -231, -304, -211, -118, -31, 56; downwards, in tenths, 0, -10, -20, -29,
+        -38, -27, -15, -4, 7."""
+        self.assertEqual(self.chosen(QUADRILATERAL, 38, -5, -45), [-10, -10, -9, -9, 11, 12, 11, 11])
+
+    def test_book_000_example_2_by_hand(self):
+        """Numerators 8, 8, -72, -72, -4, -4, 76, 76: directions 0, 8, 16, -56, -128, -132, -136, -60, 16 in eighths, two of them at
+        a half."""
+        self.assertEqual(self.chosen(QUADRILATERAL, 16, 19, -18), [1, 1, -9, -9, -1, 0, 9, 10])
+
+    def test_printed_sheet_by_hand(self):
+        """Numerators -12, -12, -4, -4, 4, 4, -4, -4: directions 0, -12, -24, -28, -32, -28, -24, -28, -32 in eighths, halves
+        among them."""
+        self.assertEqual(self.chosen(QUADRILATERAL, 4, 0, 0), [-2, -1, -1, 0, 0, 1, -1, 0])
+
+    def test_whole_values_stay(self):
+        """Cases 2 and 3."""
+        self.assertEqual(self.chosen(QUADRILATERAL, 0, 0, 0), [0] * 8)
+        self.assertEqual(self.chosen(figure_of(2, 3), 10, 0, 0, 0, 0, 0), [-6, -2, -2, -2, 2, 0, -2, 0, 2])
+
+    def test_case_4_by_hand(self):
+        """In eighteenths: the inner angles end at -24, -12 and 0; from there the second ones at -66, -18 and -6, the last ones
+        at -108, -24 and -12."""
+        self.assertEqual(self.chosen(figure_of(3, 3), 6, 0, 0, 0), [-2, -2, -2, 1, 0, -1, 1, -1, 0])
+
+    def test_both_rules(self):
+        """Of every figure 2100 sheets."""
+        whole = halves = 0
+        for sheet in choice_sheets(700):
+            misclosures = first_pass(sheet).misclosures
+            exact = least_squares_corrections(sheet.figure, misclosures)
+            ours = closing_corrections(sheet)
+            self.assertTrue(keeps_first_rule(exact, ours), sheet)
+            self.assertTrue(keeps_second_rule(sheet.figure, misclosures, ours), sheet)
+            whole += sum(value.denominator == 1 for value in exact)
+            halves += sum(value.denominator == 2 for value in exact)
+        self.assertGreater(whole, 50_000)
+        self.assertGreater(halves, 30_000)
+
+    def test_round_each_condition(self):
+        """Why it closes: in each condition every angle ends where the next begins, and the last where the first does, up to
+        whole tenths. Seen of a misclosure of 1 in each condition, and so of any."""
+        for figure in FIGURES:
+            for at in range(len(figure.conditions)):
+                exact = least_squares_corrections(figure, [int(at == j) for j in range(len(figure.conditions))])
+                laid = directions(figure, exact)
+                for condition in figure.conditions:
+                    for one, following in zip(condition, condition[1:] + condition[:1]):
+                        self.assertEqual((laid[one - 1][1] - laid[following - 1][0]).denominator, 1)
+
+    def test_the_horizon_closes_too(self):
+        """Of code 2, where no condition lists it (M-101)."""
+        for sheet in choice_sheets(20):
+            if sheet.figure.code == 2:
+                corrected = [angle + correction for angle, correction in zip(sheet.angles, closing_corrections(sheet))]
+                self.assertEqual(sum(corrected[::3]), 12_960_000)
+
+    def test_7_by_ordinary_rounding(self):
+        """Angle 2 of 2 tenths, rounded by -2 and chosen as -1: 7, as of the first pass. Angle 1 of a tenth, rounded by 0 and chosen
+        as -1: none, though the two together are 0."""
+        out = Sheet(3, QUADRILATERAL, 0, (3_240_002, 2) + (FORTY_FIVE_DEGREES,) * 6)
+        self.assertEqual(answer_of(first_pass, out), (7, 2))
+        self.assertEqual(answer_of(closing_corrections, out), (7, 2))
+        self.assertEqual(answer_of(check_closing, out, [-2, -1, -1, 0, 0, 1, -1, 0]), (7, 2))
+        kept = Sheet(3, QUADRILATERAL, 0, (1, 3_240_000) + (FORTY_FIVE_DEGREES,) * 6)
+        self.assertEqual(first_pass(kept).rounded, [0] * 8)
+        self.assertEqual(closing_corrections(kept), [-1] + [0] * 7)
+        self.assertEqual(answer_of(check_closing, kept, [-1] + [0] * 7), (0, 0))
+
+
+class Offer(NamedTuple):
+    """Corrections offered for a sheet of this figure, and what the rules ask of them."""
+
+    figure: Figure
+    misclosures: list
+    exact: list
+    corrections: list
+
+    @property
+    def keeps_first(self):
+        return keeps_first_rule(self.exact, self.corrections)
+
+    @property
+    def keeps_second(self):
+        return keeps_second_rule(self.figure, self.misclosures, self.corrections)
+
+    @property
+    def is_accepted(self):
+        return keeps_both_rules(*self)
+
+
+class OfferedChoices(unittest.TestCase):
+    """Document 02, M-104: the check. Each sort of offer is made of every figure."""
+
+    @classmethod
+    def setUpClass(cls):
+        cls.offers = {}
+        for sheet in choice_sheets(8):
+            misclosures = first_pass(sheet).misclosures
+            exact = least_squares_corrections(sheet.figure, misclosures)
+            for sort, made in offers(sheet.figure, exact).items():
+                cls.offers.setdefault(sort, []).extend(Offer(sheet.figure, misclosures, exact, one) for one in made)
+
+    def reached(self, found):
+        self.assertEqual({offer.figure for offer in found}, set(FIGURES))
+
+    def test_our_choice(self):
+        self.assertTrue(all(offer.is_accepted for offer in self.offers["our choice"]))
+
+    def test_first_rule_in_other_words(self):
+        """Just below or just above, or the whole value itself: less than a tenth from the exact correction."""
+        for made in self.offers.values():
+            for offer in made:
+                near = all(abs(tenth - exact) < 1 for tenth, exact in zip(offer.corrections, offer.exact))
+                self.assertEqual(offer.keeps_first, near)
+
+    def test_one_off(self):
+        """At one angle: some of them floor or ceiling still."""
+        made = self.offers["one off"]
+        self.assertFalse(any(offer.is_accepted for offer in made))
+        self.reached([offer for offer in made if offer.keeps_first])
+
+    def test_cancelled_in_a_condition(self):
+        """Two angles, floor or ceiling still, that cancel in a condition and break another."""
+        made = self.offers["cancelled in a condition"]
+        self.reached(made)
+        self.assertTrue(all(offer.keeps_first and not offer.is_accepted for offer in made))
+
+    def test_rests_of_0_are_not_enough(self):
+        """Another choice than ours is accepted where floor and ceiling allow it; where they do not every rest is 0 as well."""
+        made = self.offers["kept in every condition"]
+        self.assertTrue(all(offer.keeps_second for offer in made))
+        self.reached([offer for offer in made if offer.is_accepted])
+        self.reached([offer for offer in made if not offer.is_accepted])
+
+    def test_a_whole_value_stays(self):
+        """Moved by a tenth it is refused, though every rest stays 0."""
+        moved = [
+            offer
+            for offer in self.offers["kept in every condition"]
+            if any(exact.denominator == 1 and exact != value for exact, value in zip(offer.exact, offer.corrections))
+        ]
+        self.reached(moved)
+        self.assertFalse(any(offer.is_accepted for offer in moved))
+
+    def test_of_another_angle(self):
+        """Floor or ceiling of the wrong angle."""
+        strays = [offer for offer in self.offers["of another angle"] if not offer.keeps_first]
+        self.reached(strays)
+        self.assertFalse(any(offer.is_accepted for offer in strays))
+
+    def test_past_32_bits(self):
+        self.assertFalse(any(offer.is_accepted for offer in self.offers["past 32 bits"]))
+
+    def test_ordinary_rounding(self):
+        """Accepted exactly where it closes."""
+        closes = {figure: set() for figure in FIGURES}
+        for sheet in choice_sheets(50):
+            done = first_pass(sheet)
+            closes[sheet.figure].add(not any(done.rests))
+            self.assertEqual(answer_of(check_closing, sheet, done.rounded), (15, 0) if any(done.rests) else (0, 0))
+        self.assertEqual(set(map(frozenset, closes.values())), {frozenset((False, True))})
+
+    def by_eye(self, example):
+        """The corrections that a book gives, and its sheet."""
+        observed, corrected = (read_sheet(sample(f"{example}-{part}")) for part in ("first", "second"))
+        return observed._replace(limit=150), [after - before for before, after in zip(observed.angles, corrected.angles)]
+
+    def test_of_book_000(self):
+        """It hands out the last tenths by eye, so that its corrected angles close."""
+        for example in ("book-000-example-1", "book-000-example-2"):
+            sheet, book = self.by_eye(example)
+            self.assertEqual(answer_of(check_closing, sheet, book), (0, 0))
+            self.assertEqual(answer_of(check_closing, sheet, first_pass(sheet).rounded), (15, 0))
+            self.assertNotEqual(closing_corrections(sheet), book)
+
+    def test_of_book_004(self):
+        """It hands out a tenth so that the triangles close, and a corner stays open by it; ordinary rounding closes there."""
+        sheet, book = self.by_eye("book-004-example-1")
+        self.assertEqual(rests_of(sheet.figure, first_pass(sheet).misclosures, book), [0, 0, 0, 0, 0, -1, 0, 0])
+        self.assertEqual(answer_of(check_closing, sheet, book), (15, 0))
+        self.assertEqual(answer_of(check_closing, sheet, first_pass(sheet).rounded), (0, 0))
+
+    def test_refused_as_the_first_pass(self):
+        """Before 15, whatever is offered."""
+        for place, beyond in DefaultLimit().opened(3, 91):
+            self.assertEqual(answer_of(check_closing, beyond, [9] * beyond.figure.angle_count), (6, place))
+            self.assertEqual(answer_of(closing_corrections, beyond), (6, place))
 
 
 class BookFour(unittest.TestCase):

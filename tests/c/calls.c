@@ -6,7 +6,7 @@
 
 #include "bienguloc.h"
 
-static const char *const functions[] = {"look", "read", "write", "first", "second", "report", NULL};
+static const char *const functions[] = {"look", "read", "write", "first", "closing", "check", "second", "report", NULL};
 static const char *const modes[] = {"sheet", "in", "out", "room", "text", NULL};
 static const char *const types[] = {"u8", "u32", "i32", "u64", "i64", NULL};
 static const size_t widths[] = {1, 4, 4, 8, 8};
@@ -124,6 +124,10 @@ uint32_t answer_of(const struct call *call, const struct lent *lent)
     case FIRST_PASS:
         return bienguloc_first_pass(n[0], n[1], n[2], SLICE(const uint32_t, 0), SLICE(const uint32_t, 1), SLICE(int32_t, 2),
             SLICE(int32_t, 3), SLICE(int32_t, 4), SLICE(uint32_t, 5), SLICE(int32_t, 6));
+    case CLOSING:
+        return bienguloc_closing(n[0], n[1], n[2], SLICE(const uint32_t, 0), SLICE(const uint32_t, 1), SLICE(int32_t, 2));
+    case CHECK_CLOSING:
+        return bienguloc_check_closing(n[0], n[1], n[2], SLICE(const uint32_t, 0), SLICE(const uint32_t, 1), SLICE(const int32_t, 2));
     case SECOND_PASS:
         return bienguloc_second_pass(n[0], n[1], n[2], SLICE(const uint32_t, 0), SLICE(const uint32_t, 1), SLICE(const int32_t, 2),
             SLICE(const uint32_t, 3), SLICE(int64_t, 4), SLICE(uint64_t, 5), SLICE(int64_t, 6), SLICE(int64_t, 7), SLICE(int64_t, 8),

@@ -8,7 +8,7 @@
 
 #include "lent.h"
 
-enum function { LOOK, READ, WRITE, FIRST_PASS, SECOND_PASS, REPORT };
+enum function { LOOK, READ, WRITE, FIRST_PASS, CLOSING, CHECK_CLOSING, SECOND_PASS, REPORT };
 enum mode { SHEET, GIVEN, STORED, ROOM, TEXT };
 enum { MOST_NUMBERS = 4, LONGEST_NAME = 160 };
 

@@ -94,12 +94,12 @@ const char *right_lengths(const struct call *call)
 static bool refused_before_lengths(const struct call *call)
 {
     const bool sheet_given = call->function == LOOK || call->function == READ;
-    const bool pass = call->function == FIRST_PASS || call->function == SECOND_PASS;
+    const bool kind_given = sheet_given || call->function == WRITE;
     switch (BIENGULOC_NUMBER(call->answer)) {
     case BIENGULOC_NO_SUCH_FIGURE:
         return true;
     case BIENGULOC_NO_SUCH_KIND:
-        return !pass;
+        return kind_given;
     case BIENGULOC_WRONG_SHEET_LENGTH:
         return sheet_given;
     default:

@@ -20,8 +20,10 @@ from pathlib import Path
 ROOT = Path(__file__).resolve().parent.parent.parent
 sys.path.insert(0, str(ROOT / "tests"))
 
-from figures import figure_of  # noqa: E402
+from closing_choice import check_closing, closing_corrections  # noqa: E402
+from figures import figure_of, least_squares_corrections  # noqa: E402
 from independent import DEFAULTS, first_pass, second_pass, work  # noqa: E402
+from made_choices import choice_sheets, offers  # noqa: E402
 from made_sheets import (  # noqa: E402
     each_kind_and_figure,
     fixed_angles_moved,
@@ -35,6 +37,7 @@ from packed import KINDS, Refused, check_values, counts, is_first, read_sheet, s
 
 SEED = 1978
 EVERY = 50
+OFFERS = 2  # of a sort, for a sheet
 
 # Outside the range, and beside a value within it where bits are lost: 2^23 and 2^27 are past the fields, 2^31 and 2^32 - 1 at the ends.
 ODD_ANGLES = (0, 6_480_000, 2**23 + 1_620_000, 2**31, 2**31 + 1_620_000, 2**32 - 1)
@@ -155,6 +158,25 @@ def first_call(name, values, numbers):
     return lines("first", numbers, answer, [*given(values)[:2], *(stored(*row) for row in columns)], name)
 
 
+def closing_call(name, values, numbers):
+    answer, ours = answered(lambda: passed(values, figure_of(*numbers[:2]), closing_corrections))
+    return lines("closing", numbers, answer, [*given(values)[:2], stored("i32", values.figure.angle_count, ours)], name)
+
+
+def check_call(name, values, numbers, offered):
+    answer, _ = answered(lambda: passed(values, figure_of(*numbers[:2]), lambda taken: check_closing(taken, offered)))
+    return lines("check", numbers, answer, [*given(values)[:2], listed("in", "i32", offered)], name)
+
+
+def first_calls(name, values, numbers):
+    """The first pass, and with it the rounding that closes: our own, and of what is offered that and the ordinary one."""
+    yield first_call(name, values, numbers)
+    yield closing_call(name, values, numbers)
+    _, done = answered(lambda: passed(values, values.figure, lambda taken: (closing_corrections(taken), first_pass(taken).rounded)))
+    for offered in done or [[0] * values.figure.angle_count]:
+        yield check_call(name, values, numbers, offered)
+
+
 def words(value):
     """The high and the low word of a number, which is high * 2^64 + low."""
     return divmod(value, 2**64)
@@ -187,9 +209,9 @@ def as_handed(values):
     return values
 
 
-def pass_call(name, values, head=None):
+def pass_calls(name, values, head=None):
     numbers = (*(head or own(values))[1:], values.limit)
-    return (first_call if is_first(values.kind) else second_call)(name, values, numbers)
+    return first_calls(name, values, numbers) if is_first(values.kind) else [second_call(name, values, numbers)]
 
 
 # --- which calls --------------------------------------------------------------------------------------------------------
@@ -264,10 +286,20 @@ def odd_names(rng):
         for code, n in ODD_NAMES:
             name = f"code {code} n {n} with the values of {label(kind, figure)}"
             yield write_call(name, values, (kind, code, n))
-            yield pass_call(name, values, (kind, code, n))
+            yield from pass_calls(name, values, (kind, code, n))
         for odd in ODD_KINDS:
             yield write_call(f"kind {odd} with the values of {label(kind, figure)}", values, (odd, figure.code, figure.n))
             yield write_call(f"kind {odd} and no figure", values, (odd, 9, 9))
+
+
+def offered_choices(rng):
+    """Of every sort of offer a few for each sheet."""
+    for values in choice_sheets(8):
+        numbers = (*own(values)[1:], values.limit)
+        exact = least_squares_corrections(values.figure, first_pass(values).misclosures)
+        for sort, made in offers(values.figure, exact).items():
+            for offered in rng.sample(made, min(len(made), OFFERS)):
+                yield check_call(f"{sort}, {label(values.kind, values.figure)}", values, numbers, offered)
 
 
 def all_calls():
@@ -278,13 +310,14 @@ def all_calls():
         _, values = answered(lambda sheet=sheet: read_sheet(sheet))
         if values:
             yield write_call(name, values)
-            yield pass_call(name, as_handed(values))
+            yield from pass_calls(name, as_handed(values))
     rng = random.Random(f"{SEED} odd values")
     for name, values in [*odd_values(rng), *fixed_sums(rng)]:
         name = f"{name}, {label(values.kind, values.figure)}"
         yield write_call(name, values)
-        yield pass_call(name, values)
+        yield from pass_calls(name, values)
     yield from odd_names(rng)
+    yield from offered_choices(rng)
 
 
 MUST_REACH = {
@@ -292,6 +325,8 @@ MUST_REACH = {
     "read": {0, 12, 11, 1, 13, 3, 4, 5, 14, 8},
     "write": {0, 11, 1, 3, 4, 5, 14, 8},
     "first": {0, 1, 3, 4, 5, 14, 6, 7},
+    "closing": {0, 1, 3, 4, 5, 14, 6, 7},
+    "check": {0, 1, 3, 4, 5, 14, 6, 7, 15},
     "second": {0, 1, 3, 4, 8, 10, 9, 7},
     "report": {0},
 }

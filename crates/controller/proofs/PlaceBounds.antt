@@ -6,8 +6,9 @@ use mathlib.Core.List.{List, [], _∷_, _++_}
 use mathlib.Core.Path.{_≡_}
 use native.Mathlib.Omega.{arith}
 use lib.Dec.{T, eqb, leb, leb→le}
+use lib.IntN.{ℤ}
 use lib.ListN.{length, length-append}
-use Rattle.refusals.specs.Order.{allInTable}
+use Rattle.refusals.specs.Order.{Row, row, rowAt, allInTable}
 use Rattle.refusals.proofs.Nowhere.{same-lengths}
 use Rattle.refusals.proofs.PlaceBounds.{PlacesWithin}
 use Rattle.figures.specs.declared.Figure.{Figure}
@@ -27,10 +28,12 @@ use Rattle.sheet_layout.specs.Head.{headRows, headOf, lookOf, ofHead}
 use Rattle.sheet_rules.specs.Sheet.{Values}
 use Rattle.sheet_rules.specs.Judging.{ownLengths, lengthsGiven, bodyRows, readerRows, givenRows, writerRows}
 use Rattle.sheet_rules.proofs.Refusals.{reader-in-table}
-use Rattle.pass_rules.specs.FirstPass.{firstLengths, firstRows, firstPassRows}
+use Rattle.pass_rules.specs.FirstPass.{firstResultLengths, firstLengths, firstRows, firstPassRows}
 use Rattle.pass_rules.specs.SecondPass.{SineEntries, secondLengths, secondRows, secondPassRows}
 use Rattle.pass_rules.proofs.Refusals.{second-in-table}
 use Rattle.pass_rules.specs.Promises.{FirstGiven, FirstLent, firstLengthsLent, firstRowsOf, SecondGiven}
+use Rattle.closing.specs.Promises.{closingRowsFor, closingRows, rulesRow, checkRowsFor, checkRows}
+use Rattle.closing.specs.Rules.{passRows}
 use Rattle.report.proofs.PlaceBounds as pages
 use Rattle.controller.specs.Promises.{lookRows, ReadLent, readRows, SumsLent, sineCount, sumsLengths, sumsRows, TextLent, reportRows}
 
@@ -106,6 +109,42 @@ first-within given lent = λ no-figure. go (figureOf (given .code) (given .n))
         let by-angle : length (given .angles) ≡ angleCount f = cc in
         let by-fixed : length (given .fixed) ≡ fixedCount f = cc in
         (omega (arith, by-angle, angle-bound f), omega (arith, by-fixed, fixed-few f)))
+
+-- ---- the rounding that closes: the first pass's rows, and two without a place
+
+appended : (most : ℕ) (rows later : List Row) → PlacesWithin most rows → PlacesWithin most later → PlacesWithin most (rows ++ later)
+appended most [] later a b = b
+appended most (row k question ∷ rows) later a b = λ none. appended most rows later (a none) b
+appended most (rowAt k places question ∷ rows) later a b = (a .0, λ none. appended most rows later (a .1 none) b)
+
+module _ (given : FirstGiven) (lent : List ℤ) where
+  pass-within : (f : Figure) → PlacesWithin mostAngles (passRows f (given .limit) (given .angles) (given .fixed))
+  pass-within f =
+      let lengths : List ℕ = length (given .angles) ∷ length (given .fixed) ∷ firstResultLengths f in
+      pages.first-within f (given .limit) (given .angles) (given .fixed) lengths (λ held.
+      let same = same-lengths lengths (firstLengths f) held in
+      let by-angle : length (given .angles) ≡ angleCount f = cc in
+      let by-fixed : length (given .fixed) ≡ fixedCount f = cc in
+      (omega (arith, by-angle, angle-bound f), omega (arith, by-fixed, fixed-few f)))
+
+  pub closing-within : PlacesWithin mostAngles (closingRows given lent)
+  unfolding closingRowsFor
+  closing-within = λ no-figure. go (figureOf (given .code) (given .n))
+    where
+      go : (named : Named)
+          → PlacesWithin mostAngles (ofNamed named [] (λ f. closingRowsFor f (given .limit) (given .angles) (given .fixed) (length lent)))
+      go Nothing = tt
+      go (As f) = λ own. pass-within f
+
+  pub check-within : PlacesWithin mostAngles (checkRows given lent)
+  unfolding checkRowsFor closingRowsFor
+  check-within = λ no-figure. go (figureOf (given .code) (given .n))
+    where
+      go : (named : Named) → PlacesWithin mostAngles (ofNamed named [] (λ f. checkRowsFor f (given .limit) (given .angles) (given .fixed) lent))
+      go Nothing = tt
+      go (As f) =
+          λ own. appended mostAngles (passRows f (given .limit) (given .angles) (given .fixed)) (rulesRow f (given .angles) (given .fixed) lent ∷ []) (pass-within f)
+          (λ rules. tt)
 
 -- the lengths that are judged are those of the slices, or none
 judged-lengths : (b c : Bool) (f : Figure) (angles : List ℕ) (e : SineEntries) (others : List ℕ)

@@ -20,6 +20,7 @@ use Rattle.sheet_rules.specs.Judging.{readerRows, writerRows, writtenOf}
 use Rattle.sheet_rules.specs.Promises.{Slices, slicesOf, lengthsLent}
 use Rattle.pass_rules.specs.SecondPass.{SineEntries, misclosureIn, divisor, secondPassRows}
 use Rattle.pass_rules.specs.Promises.{FirstGiven, FirstLent, firstRowsOf, firstLeft, SecondGiven, SecondLent, secondLengthsLent, secondValues}
+use Rattle.closing.specs.Promises.{closingRows, closingLeft}
 use Rattle.report.specs.Report.{reportText}
 use Rattle.controller.specs.Answer.{answerNumber, lengthsWith}
 
@@ -80,6 +81,11 @@ WritePromise kind code n v entry answer exit =
 
 abbrev pub FirstPassPromise : FirstGiven → (entry : FirstLent) → (answer : ℕ) → (exit : FirstLent) → Type 0
 FirstPassPromise given entry answer exit = Promised (answerBy (firstRowsOf given entry)) (firstLeft given entry) answer exit
+
+-- ---- a choice that closes (document 02, M-104); its check promises its answer alone, `answerBy` of `checkRows`
+
+abbrev pub ClosingPassPromise : FirstGiven → (entry : List ℤ) → (answer : ℕ) → (exit : List ℤ) → Type 0
+ClosingPassPromise given entry answer exit = Promised (answerBy (closingRows given entry)) (closingLeft given entry) answer exit
 
 -- ---- the second pass: W of each sine condition, S or the determinant as two words, and the values
 

@@ -1,6 +1,7 @@
 -- Demand 1 of every public operation, by one law. Assumes nothing.
-use mathlib.Core.List.{[], _∷_}
+use mathlib.Core.List.{List, [], _∷_}
 use mathlib.Core.Path.{_≡_, refl, ap, _∙_}
+use lib.IntN.{ℤ}
 use lib.ListN.{length}
 use Rattle.refusals.specs.declared.Refusal.{Refusal}
 use Rattle.refusals.specs.declared.Verdict.the-variants.{Failed}
@@ -15,13 +16,16 @@ use Rattle.pass_rules.specs.FirstPass.{firstPassVerdict}
 use Rattle.pass_rules.specs.SecondPass.{secondTold, secondPassVerdict}
 use Rattle.pass_rules.proofs.Refusals.{first-in-table, second-in-table, second-tells}
 use Rattle.pass_rules.specs.Promises.{FirstGiven, FirstLent, firstLengthsLent, firstValues, firstLeft, firstRowsOf, secondLengthsLent, secondValues, secondRowsOf}
+use Rattle.closing.specs.Promises.{closingRows, closingAnswer, closingLeft, checkRows}
+use Rattle.closing.specs.Rules.{choiceOf}
+use Rattle.closing.proofs.Refusing.{closing-in-table, check-in-table}
 use Rattle.controller.specs.Answer.{answerTold}
 use Rattle.controller.specs.Promises.{lookRows, lookHead, readRows, readValues, sumsRows, sumsValues, reportRows, textLent, textLaid}
 use Rattle.controller.proofs.Answers.{answer-tells}
 use Rattle.controller.proofs.Lengths.{kept-told, kept-head, kept-named}
-use Rattle.controller.proofs.PlaceBounds.{look-in-table, look-within, read-in-table, read-within, write-within, first-within, sums-in-table, sums-within, report-within}
+use Rattle.controller.proofs.PlaceBounds.{look-in-table, look-within, read-in-table, read-within, write-within, first-within, closing-within, check-within, sums-in-table, sums-within, report-within}
 use Rattle.report.specs.Report.{reportText}
-use Rattle.demands.specs.Demand1.{LookAt, ReadSheet, WriteSheet, FirstPass, SecondPass, Look-C, Read-C, Write-C, FirstPass-C, SecondPass-C, Report-C}
+use Rattle.demands.specs.Demand1.{LookAt, ReadSheet, WriteSheet, FirstPass, SecondPass, ClosingCorrections, CheckClosing, Look-C, Read-C, Write-C, FirstPass-C, SecondPass-C, Report-C, Closing-C, CheckClosing-C}
 use Rattle.demands.proofs.ByTheTable.{by-the-table}
 
 -- ---- the head of a sheet, the reader, the writer
@@ -73,6 +77,23 @@ second-pass given entry exit answer promise =
     ∙ kept-named (figureOf (given .code) (given .n)) (judged (secondRowsOf given entry)) refusal (λ f. secondValues f given) entry
     (ap verdictTold failed))
 
+-- ---- the rounding that closes, and its check
+
+kept-choice : (given : FirstGiven) (entry : List ℤ) (refusal : Refusal) → closingAnswer given entry ≡ Failed refusal → closingLeft given entry ≡ entry
+kept-choice given entry refusal failed =
+    kept-named (figureOf (given .code) (given .n)) (closingAnswer given entry) refusal (λ f. choiceOf f (given .angles) (given .fixed)) entry
+    (ap verdictTold failed)
+
+pub closing-corrections : ClosingCorrections
+closing-corrections given entry exit answer promise =
+    by-the-table verdictTold (closingRows given entry) (closing-in-table given entry) answer entry exit
+    (ap verdictTold (promise .answered)) (λ refusal failed. promise .leaves ∙ kept-choice given entry refusal failed)
+
+pub check-closing : CheckClosing
+check-closing given offered answer e =
+    by-the-table verdictTold (checkRows given offered) (check-in-table given offered) answer (tt {0}) (tt {0})
+    (ap verdictTold e) (λ refusal failed. refl)
+
 -- ---- the same operations for C
 
 pub look-C : Look-C
@@ -118,3 +139,14 @@ report-C sheet entry exit answer promise =
     (λ refusal failed. promise .leaves
     ∙ kept-told (judged (reportRows sheet entry)) refusal (textLent (textLaid sheet (entry .text)) (length (reportText sheet) ∷ [])) entry
     (ap verdictTold failed))
+
+pub closing-C : Closing-C
+closing-C given entry exit answer promise =
+    by-the-table answerTold (closingRows given entry) (closing-in-table given entry) answer entry exit
+    (answer-tells (closingRows given entry) (closing-in-table given entry) (closing-within given entry) (promise .answered))
+    (λ refusal failed. promise .leaves ∙ kept-choice given entry refusal failed)
+
+pub check-closing-C : CheckClosing-C
+check-closing-C given offered answer e =
+    by-the-table answerTold (checkRows given offered) (check-in-table given offered) answer (tt {0}) (tt {0})
+    (answer-tells (checkRows given offered) (check-in-table given offered) (check-within given offered) e) (λ refusal failed. refl)

@@ -8,4 +8,5 @@ pub mod Demand2
 pub mod Demand3
 mod Pages
 pub mod Printed
+pub mod RoundingThatCloses
 mod WorkedValues

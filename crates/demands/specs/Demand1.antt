@@ -9,6 +9,7 @@ use Prim.Native.Nat.{ℕ}
 use mathlib.Core.List.{List}
 use mathlib.Core.Logic.{_↔_, _⊎_}
 use mathlib.Core.Path.{_≡_}
+use lib.IntN.{ℤ}
 use lib.ListN.{length}
 use Rattle.refusals.specs.declared.Verdict.{Verdict}
 use Rattle.refusals.specs.Numbers.{Told, told, verdictTold}
@@ -22,8 +23,9 @@ use Rattle.sheet_rules.specs.Promises.{Slices, lengthsLent, ReaderPromise, Writ
 use Rattle.pass_rules.specs.declared.second.SecondAnswer.{SecondAnswer}
 use Rattle.pass_rules.specs.SecondPass.{secondTold}
 use Rattle.pass_rules.specs.Promises.{FirstGiven, FirstLent, firstRowsOf, FirstPromise, SecondGiven, SecondLent, secondRowsOf, SecondPromise}
+use Rattle.closing.specs.Promises.{closingRows, ClosingPromise, checkRows, checkAnswer}
 use Rattle.controller.specs.Answer.{answerTold}
-use Rattle.controller.specs.Promises.{lookRows, LookPromise, ReadLent, readRows, ReadPromise, WritePromise, FirstPassPromise, SumsLent, sumsRows, SecondPassPromise, TextLent, reportRows, ReportPromise}
+use Rattle.controller.specs.Promises.{answerBy, lookRows, LookPromise, ReadLent, readRows, ReadPromise, WritePromise, FirstPassPromise, ClosingPassPromise, SumsLent, sumsRows, SecondPassPromise, TextLent, reportRows, ReportPromise}
 
 -- an answer is the one that the order of its operation gives, and a refusal leaves everything lent as it was
 pub record ByTheTable {R L : Type 0} (tell : R → Told) (order : List Row) (answer : R) (entry exit : L) : Type 0 where
@@ -63,6 +65,18 @@ SecondPass =
     (given : SecondGiven) (entry exit : SecondLent) (answer : SecondAnswer) → SecondPromise given entry answer exit
     → ByTheTable secondTold (secondRowsOf given entry) answer entry exit
 
+-- ---- the rounding that closes, and its check (document 02, M-104)
+
+abbrev pub ClosingCorrections : Type 0
+ClosingCorrections =
+    (given : FirstGiven) (entry exit : List ℤ) (answer : Verdict) → ClosingPromise given entry answer exit
+    → ByTheTable verdictTold (closingRows given entry) answer entry exit
+
+abbrev pub CheckClosing : Type 0
+CheckClosing =
+    (given : FirstGiven) (offered : List ℤ) (answer : Verdict) → answer ≡ checkAnswer given offered
+    → ByTheTable verdictTold (checkRows given offered) answer (tt {0}) (tt {0})
+
 -- ---- the same operations for C
 
 abbrev pub Look-C : Type 0
@@ -94,3 +108,13 @@ abbrev pub Report-C : Type 0
 Report-C =
     (sheet : List ℕ) (entry exit : TextLent) (answer : ℕ) → ReportPromise sheet entry answer exit
     → ByTheTable answerTold (reportRows sheet entry) answer entry exit
+
+abbrev pub Closing-C : Type 0
+Closing-C =
+    (given : FirstGiven) (entry exit : List ℤ) (answer : ℕ) → ClosingPassPromise given entry answer exit
+    → ByTheTable answerTold (closingRows given entry) answer entry exit
+
+abbrev pub CheckClosing-C : Type 0
+CheckClosing-C =
+    (given : FirstGiven) (offered : List ℤ) (answer : ℕ) → answer ≡ answerBy (checkRows given offered)
+    → ByTheTable answerTold (checkRows given offered) answer (tt {0}) (tt {0})

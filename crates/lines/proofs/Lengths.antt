@@ -206,6 +206,7 @@ numberOf-digits Refusal.NoSuchKind = lit< tt
 numberOf-digits Refusal.WrongSheetLength = lit< tt
 numberOf-digits Refusal.FillingBitSet = lit< tt
 numberOf-digits Refusal.FixedAnglesDoNotSum = lit< tt
+numberOf-digits Refusal.ChoiceDoesNotClose = lit< tt
 
 pub refused-length : (refusal : Refusal) → placeOf refusal < 100 → length (refusedText refusal) ≤ longestText
 unfolding refusedText refusedLines refusedWord lines

@@ -4,6 +4,7 @@ use mathlib.Core.Bool.{Bool, true, false, not, _||_, true≢false, false≢true}
 use mathlib.Core.List.{List, [], _∷_}
 use mathlib.Core.Logic.{_↔_, _⊎_, inl, inr, ⊎-elim}
 use mathlib.Core.Path.{_≡_, refl, sym, ap, subst, _∙_}
+use native.Mathlib.Decide.{decLt}
 use native.Mathlib.Nat.{le-of-suc-le-suc, not-suc-le-zero}
 use native.Mathlib.Omega.{arith}
 use borrow.Author.Tests.{ltb-true, lt-ltb, eqb-true, eq-eqb, not-true}
@@ -11,7 +12,7 @@ use lib.Dec.{T, eqb}
 use lib.IntN.{ℤ, pos, negsuc, natAbs}
 use lib.ListN.{length, getD}
 use lib.Signed.{ltZ, _≤ℤ_, _<ℤ_, ltZ-yes, ltZ-no, clashℤ}
-use Rattle.refusals.specs.Questions.{Question, less, lessSigned, unequal, differ, noneOf, isZero, someOne, either, Holds, IsNoneOf, asked, sameNumbers, among, anyOne}
+use Rattle.refusals.specs.Questions.{Question, less, lessSigned, unequal, differ, noneOf, isZero, someOne, either, someAt, Holds, IsNoneOf, asked, sameNumbers, among, anyOne, anyPlace}
 use Rattle.refusals.proofs.NumberLists.{same-lists, same-itself}
 
 pub not-so : (test : Bool) → (test ≡ true → ⊥) → test ≡ false
@@ -66,6 +67,22 @@ some-one (false ∷ bits) = (
   λ some. some-one bits .1 (later bits (some .0) (some .1) (some .2)),
 )
 
+some-place : (places : ℕ) (holds : ℕ → Bool) (P : ℕ → Type 0) → ((p : ℕ) → (holds p ≡ true) ↔ P p)
+    → (anyPlace places holds ≡ true) ↔ ((p : ℕ) × (1 ≤ p) × (p ≤ places) × P p)
+some-place zero holds P is = (λ e. absurd (false≢true e), λ some. absurd (omega (arith, some .1, some .2)))
+some-place (suc places) holds P is =
+    let before = some-place places holds P is in
+    let both = one-or-other (anyPlace places holds) (holds (suc places)) before (is (suc places)) in (
+      λ e. ⊎-elim
+          (λ some. (some .0, some .1, omega (arith, some .2), some .3))
+          (λ here. (suc places, suc-le-suc zero-le, omega arith, here)) (both .0 e),
+      λ some. both .1 (last (some .0) (decLt places (some .0)) (some .1) (some .2) (some .3)),
+    )
+  where
+    last : (p : ℕ) → Dec (places < p) → 1 ≤ p → p ≤ suc places → P p → ((p : ℕ) × (1 ≤ p) × (p ≤ places) × P p) ⊎ P (suc places)
+    last p (yes beyond) low high held = inr (subst P (omega (arith, beyond, high)) held)
+    last p (no within) low high held = inl (p, low, omega (arith, within), held)
+
 pub decided : (q : Question) → (asked q ≡ true) ↔ Holds q
 decided (less a b) = (ltb-true a b, lt-ltb a b)
 decided (lessSigned a b) = signed-less a b
@@ -75,6 +92,7 @@ decided (noneOf xs others) = none-of xs others
 decided (isZero z) = (λ e. zero-magnitude z (eqb-true (natAbs z) 0 e), λ e. eq-eqb (natAbs z) 0 (ap natAbs e))
 decided (someOne bits) = some-one bits
 decided (either q r) = one-or-other (asked q) (asked r) (decided q) (decided r)
+decided (someAt places q) = some-place places (λ p. asked (q p)) (λ p. Holds (q p)) (λ p. decided (q p))
 
 -- not asked exactly if its case does not hold
 pub decided-not : (q : Question) → (asked q ≡ false) ↔ (Holds q → ⊥)

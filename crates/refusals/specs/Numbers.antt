@@ -23,6 +23,7 @@ numberOf Refusal.NoSuchKind = 11
 numberOf Refusal.WrongSheetLength = 12
 numberOf Refusal.FillingBitSet = 13
 numberOf Refusal.FixedAnglesDoNotSum = 14
+numberOf Refusal.ChoiceDoesNotClose = 15
 
 -- the column "Place"
 abbrev pub placeOf : Refusal → ℕ
@@ -40,6 +41,7 @@ placeOf Refusal.NoSuchKind = 0
 placeOf Refusal.WrongSheetLength = 0
 placeOf Refusal.FillingBitSet = 0
 placeOf Refusal.FixedAnglesDoNotSum = 0
+placeOf Refusal.ChoiceDoesNotClose = 0
 
 -- ---- the table by number
 
@@ -65,6 +67,7 @@ tableAt place =
     ∷ Refusal.WrongSheetLength
     ∷ Refusal.FillingBitSet
     ∷ Refusal.FixedAnglesDoNotSum
+    ∷ Refusal.ChoiceDoesNotClose
     ∷ []
 
 -- the refusal with a number of the table, at a place

@@ -1,6 +1,6 @@
 -- What the table asks: document 01, "Numbers given when a sheet is turned back", the column "Given when". A question is data: `Holds` says what it
 -- means that its case holds, and `asked` computes whether it does. That the two agree is one law, `decided` (proofs/Decided.antt).
-use Prim.Native.Nat.{ℕ, _<_}
+use Prim.Native.Nat.{ℕ, zero, suc, _≤_, _<_}
 use mathlib.Core.Bool.{Bool, true, false, not, _||_, _&&_}
 use mathlib.Core.List.{List, [], _∷_}
 use mathlib.Core.Logic.{_⊎_}
@@ -25,6 +25,8 @@ pub data Question : Type 0 where
   someOne : List Bool → Question
   -- one question or another
   either : Question → Question → Question
+  -- a question at some of the places 1, 2, .., places
+  someAt : (places : ℕ) → (ℕ → Question) → Question
 
 -- ---- what it means that a case holds
 
@@ -41,6 +43,7 @@ Holds (noneOf xs others) = IsNoneOf xs others
 Holds (isZero z) = z ≡ pos 0
 Holds (someOne bits) = (i : ℕ) × (i < length bits) × (getD bits i false ≡ true)
 Holds (either q r) = Holds q ⊎ Holds r
+Holds (someAt places q) = (p : ℕ) × (1 ≤ p) × (p ≤ places) × Holds (q p)
 
 -- ---- how it is computed
 
@@ -59,6 +62,10 @@ abbrev pub anyOne : List Bool → Bool
 anyOne [] = false
 anyOne (bit ∷ bits) = bit || anyOne bits
 
+abbrev pub anyPlace : (places : ℕ) → (holds : ℕ → Bool) → Bool
+anyPlace zero holds = false
+anyPlace (suc places) holds = anyPlace places holds || holds (suc places)
+
 abbrev pub asked : Question → Bool
 asked (less a b) = ltb a b
 asked (lessSigned a b) = ltZ a b
@@ -68,6 +75,7 @@ asked (noneOf xs others) = not (among xs others)
 asked (isZero z) = eqb (natAbs z) 0
 asked (someOne bits) = anyOne bits
 asked (either q r) = asked q || asked r
+asked (someAt places q) = anyPlace places (λ p. asked (q p))
 
 -- ---- a value lies outside least..most; both ends are inside
 

@@ -7,7 +7,7 @@ use lib.IntN.{ℤ, pos, negℤ, _*ℤ_}
 use lib.ListN.{length}
 use Rattle.refusals.specs.Numbers.{numbered}
 use Rattle.refusals.specs.Order.{Row, row, rowAt}
-use Rattle.refusals.specs.Questions.{Question, less, lessSigned, unequal, differ, noneOf, isZero, someOne, either, outside, outsideSigned}
+use Rattle.refusals.specs.Questions.{Question, less, lessSigned, unequal, differ, noneOf, isZero, someOne, either, someAt, outside, outsideSigned}
 use Rattle.refusals.specs.Ranges.{leastAngle, mostAngle, leastLogSine, mostLogSine, mostDifference}
 
 -- 1: code and n name no figure; `names` are the code and n of each
@@ -82,3 +82,11 @@ sumOfAll (value ∷ others) = value + sumOfAll others
 
 abbrev pub fixedSumRow : (fixed : List ℕ) → Row
 fixedSumRow fixed = row 14 (unequal (sumOfAll fixed) (fixedSum (length fixed)))
+
+-- 15: an offered choice breaks one of the two rules of document 02, M-104: at some angle it is not the whole tenth just below or just above the exact
+-- correction, or at some condition the rest is not 0
+abbrev pub choiceRow : (below above offered rests : List ℤ) → Row
+choiceRow below above offered rests =
+    row 15 (either
+    (someAt (length offered) (λ p. outsideSigned (numbered below p (pos 0)) (numbered above p (pos 0)) (numbered offered p (pos 0))))
+    (someAt (length rests) (λ p. outsideSigned (pos 0) (pos 0) (numbered rests p (pos 0)))))

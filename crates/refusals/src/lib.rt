@@ -47,6 +47,8 @@ pub enum Refusal {
     FillingBitSet,
     // 14: the fixed angles do not sum to 180° (n = 3) or 360° (n = 4).
     FixedAnglesDoNotSum,
+    // 15: an offered choice of whole tenths breaks a rule: one is not just below or just above, or a rest is not 0.
+    ChoiceDoesNotClose,
 }
 
 // What a test says.
@@ -79,6 +81,7 @@ pub fn number_of(refusal: Refusal) -> u32
         Refusal::WrongSheetLength => 12,
         Refusal::FillingBitSet => 13,
         Refusal::FixedAnglesDoNotSum => 14,
+        Refusal::ChoiceDoesNotClose => 15,
     }
 }
 
@@ -100,6 +103,7 @@ pub fn place_of(refusal: Refusal) -> usize
         Refusal::WrongSheetLength => 0,
         Refusal::FillingBitSet => 0,
         Refusal::FixedAnglesDoNotSum => 0,
+        Refusal::ChoiceDoesNotClose => 0,
     }
 }
 

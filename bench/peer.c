@@ -1,4 +1,4 @@
-/* The operations of the library in plain C, from document 01, and from M-100 to M-104 of document 02: figures by table, the central
+/* The operations of the library in plain C, from document 01, and from M-100 to M-105 of document 02: figures by table, the central
  * polygon by its formula, two sine conditions in the compiler's 128-bit numbers, sheets by four bytes at a time through a 64-bit
  * register, every loop over the figure's own count, results held back until every test has passed. */
 #include "peer.h"
@@ -304,17 +304,24 @@ static void subtract_targets(const struct figure *f, const uint32_t *fixed, int3
         sums[f->n] -= 2 * HALF_CIRCLE;
 }
 
-/* Nearest whole number, halves away from zero, since C's division cuts toward zero; of an odd denominator no quotient is a half. */
+/* Nearest whole number, halves to the even one. C's division cuts toward zero: away from it goes what is left past the half, and a half
+   after an odd quotient. */
 static int32_t rounded_tenths(int32_t numerator, int32_t denominator)
 {
-    const int32_t half = denominator / 2;
-    return (numerator + (numerator < 0 ? -half : half)) / denominator;
+    const int32_t quotient = numerator / denominator, left = numerator % denominator, sign = numerator < 0 ? -1 : 1;
+    return quotient + (2 * sign * left + (quotient & 1) > denominator ? sign : 0);
 }
 
-static int64_t rounded_wide(int64_t numerator, int64_t denominator)
+static int64_t rounded_long(int64_t numerator, int64_t denominator)
 {
-    const int64_t half = denominator / 2;
-    return (numerator + (numerator < 0 ? -half : half)) / denominator;
+    const int64_t quotient = numerator / denominator, left = numerator % denominator, sign = numerator < 0 ? -1 : 1;
+    return quotient + (2 * sign * left + (quotient & 1) > denominator ? sign : 0);
+}
+
+static wide rounded_wide(wide numerator, wide denominator)
+{
+    const wide quotient = numerator / denominator, left = numerator % denominator, sign = numerator < 0 ? -1 : 1;
+    return quotient + (2 * sign * left + (quotient & 1) > denominator ? sign : 0);
 }
 
 static bool is_angle(int64_t tenths)
@@ -434,7 +441,7 @@ static uint32_t work_one_sine(const struct figure *f, uint32_t tolerance, const 
     const int64_t factor = -100 * (int64_t)f->denominator * misclosure;
     const uint32_t angle_count = f->angles;
     for (uint32_t i = 0; i < angle_count; i++) {
-        const int64_t numerator = factor * out->reduced[i], rounded = rounded_wide(numerator, square_sum);
+        const int64_t numerator = factor * out->reduced[i], rounded = rounded_long(numerator, square_sum);
         const int64_t adjusted = (int64_t)angles[i] + rounded;
         if (!is_angle(adjusted))
             return refused(RESULT_RANGE, i + 1);
@@ -450,11 +457,10 @@ static uint32_t work_one_sine(const struct figure *f, uint32_t tolerance, const 
 static uint32_t correct_two_sines(const struct figure *f, const uint32_t *angles, wide pole_factor, wide side_factor, wide determinant,
     struct second_work *out)
 {
-    const wide half = determinant / 2;
     const uint32_t angle_count = f->angles;
     for (uint32_t i = 0; i < angle_count; i++) {
         const wide numerator = out->reduced[i] * pole_factor + out->side_reduced[i] * side_factor;
-        const int64_t rounded = (int64_t)((numerator + (numerator < 0 ? -half : half)) / determinant);
+        const int64_t rounded = (int64_t)rounded_wide(numerator, determinant);
         const int64_t adjusted = (int64_t)angles[i] + rounded;
         if (!is_angle(adjusted))
             return refused(RESULT_RANGE, i + 1);

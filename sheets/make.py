@@ -1,7 +1,7 @@
 #!/usr/bin/env python3
 """Makes the sample sheets and their expected outputs from values.py.
 
-An expected output is document 01's own text where it prints one, and the independent computation's otherwise.
+An expected output is document 01's own text where it prints one, with M-105's halves, and the independent computation's otherwise.
 `sheets/make.py` writes the files; `sheets/make.py --check` only tells whether they are as it would write them.
 """
 

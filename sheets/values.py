@@ -29,7 +29,8 @@ class Second(NamedTuple):
     sides: str = ""
 
 
-# Document 01, "Sheets worked through": the two sheets whose printed text it gives.
+# Document 01, "Sheets worked through": the two sheets whose printed text it gives. In the first M-105 has halves go to even: document
+# 02 overrides six corrections, six results and a rest.
 DOCUMENT = {
     "document-01-first": First(
         code=1,
@@ -62,13 +63,13 @@ DOCUMENT_TEXT = {
 figure 1 0 denominator 8
 1 1620004 -12 -2 1620002
 2 1620000 -12 -2 1619998
-3 1620000 -4 -1 1619999
-4 1620000 -4 -1 1619999
-5 1620000 4 1 1620001
-6 1620000 4 1 1620001
-7 1620000 -4 -1 1619999
-8 1620000 -4 -1 1619999
-condition 1 4 -2
+3 1620000 -4 0 1620000
+4 1620000 -4 0 1620000
+5 1620000 4 0 1620000
+6 1620000 4 0 1620000
+7 1620000 -4 0 1620000
+8 1620000 -4 0 1620000
+condition 1 4 0
 condition 2 0 0
 condition 3 0 0
 """,
@@ -343,10 +344,10 @@ EACH_FIGURE = {
              84 20 16.1, 9.9978758,  0.21
              40 01 51.0, 9.8083459,  2.51
              55 37 52.9, 9.9166764,  1.44
-             89 08 22.5, 9.9999510,  0.03
+             89 08 22.6, 9.9999510,  0.03
              49 43 53.1, 9.8825376,  1.78
              41 07 44.3, 9.8180650,  2.41
-             89 28 41.2, 9.9999820,  0.02
+             89 28 41.1, 9.9999820,  0.02
              41 37 07.5, 9.8222798,  2.37
              48 54 11.3, 9.8771405,  1.84
              97 02 40.2, 9.9967092, -0.26

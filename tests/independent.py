@@ -39,9 +39,9 @@ class SecondPass(NamedTuple):
 
 
 def rounded_quotient(numerator, denominator):
-    """Nearest whole number, halves away from zero."""
-    nearest = (2 * abs(numerator) + denominator) // (2 * denominator)
-    return nearest if numerator >= 0 else -nearest
+    """The nearest whole number; of two that are equally near, the even one: M-105, where document 01 has the one away from zero."""
+    below = numerator // denominator
+    return min((below, below + 1), key=lambda whole: (abs(numerator - whole * denominator), whole % 2))
 
 
 def corrected(angles, rounded):

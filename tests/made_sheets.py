@@ -18,6 +18,7 @@ The ones that need care:
 """
 
 import random
+from fractions import Fraction
 from itertools import combinations_with_replacement, islice, product
 from math import isqrt
 
@@ -532,6 +533,26 @@ def no_sine_part(rng):
                 )
 
 
+def sorts_of_halves(exact):
+    """Of the corrections that are a whole number and a half: on which side of zero they lie, and whether that number is odd."""
+    return {(value > 0, int(value) % 2 == 1) for value in exact if value.denominator == 2}
+
+
+EVERY_SORT = [*product((False, True), repeat=2)]
+
+
+def halves_of_the_first_pass(rng):
+    """First corrections of a whole number and a half, of every sort in every figure."""
+    for figure in FIGURES:
+        for sort in EVERY_SORT:
+            exact = ()
+            while sort not in sorts_of_halves(exact):
+                misclosures = misclosures_within(figure, min(FIRST_DEFAULTS), rng)
+                exact = [Fraction(numerator, figure.denominator) for numerator in first_numerators(figure, misclosures)]
+            kind = rng.choice(FIRST_KINDS)
+            yield f"halves, misclosures {misclosures} {label(kind, figure)}", first_sheet(figure, rng, 0, misclosures, kind=kind)
+
+
 def halves(rng):
     """Second corrections of a whole number and a half. With m angles of each sign and all differences 100 the signed ones
     sum to 0 in every condition, so A is D times d, and the exact correction is W / 2m with the sign of d turned."""
@@ -638,18 +659,14 @@ def determinants_of_whole_words(rng):
 
 
 def halves_of_two(rng):
-    """Second corrections of a whole number and a half, under two sine conditions."""
-    for figure in figures_with_sides():
-        found = 0
-        while found < 8:
+    """Second corrections of a whole number and a half, under two sine conditions, each sort twice."""
+    for figure, sort in product(figures_with_sides(), 2 * EVERY_SORT):
+        exact = ()
+        while sort not in sorts_of_halves(exact):
             differences = tuple(100 * rng.randint(-2, 2) for _ in figure.pole_signs)
             misclosures = tuple(rng.randint(-9, 9) for _ in figure.sines)
-            exact = exact_second_corrections(figure, differences, misclosures)
-            if exact and any(v.denominator == 2 for v in exact):
-                found += 1
-                yield f"halves, W {misclosures} {label(2, figure)}", second_sheet(
-                    figure, rng, LARGEST_TOLERANCE, differences, misclosures
-                )
+            exact = exact_second_corrections(figure, differences, misclosures) or ()
+        yield f"halves, W {misclosures} {label(2, figure)}", second_sheet(figure, rng, LARGEST_TOLERANCE, differences, misclosures)
 
 
 # --- bits, lengths, heads, noise ----------------------------------------------------------------------------------------
@@ -805,6 +822,7 @@ GROUPS = (
     very_large_sine_misclosures,
     very_large_side_misclosures,
     no_sine_part,
+    halves_of_the_first_pass,
     halves,
     dependent_sine_conditions,
     very_large_corrections,

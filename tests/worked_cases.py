@@ -1,12 +1,14 @@
 #!/usr/bin/env python3
-"""The independent computation held against document 01's worked cases, document 02's M-100 to M-104 and the published examples.
+"""The independent computation held against document 01's worked cases, document 02's M-100 to M-105 and the published examples.
 
 The program is not run here: this says that what it is compared with is right.
 """
 
 import math
+import random
 import sys
 import unittest
+from fractions import Fraction
 from pathlib import Path
 from typing import NamedTuple
 
@@ -32,7 +34,8 @@ from figures import (
 )
 from independent import first_pass, rounded_quotient, second_pass, signed_values, work, worked
 from made_choices import choice_sheets, offers
-from packed import Bits, Refused, Sheet, packed_values, read_sheet, read_values, sheet_size, write_sheet
+from made_sheets import EVERY_SORT, halves, halves_of_the_first_pass, halves_of_two, sorts_of_halves
+from packed import Bits, Refused, Sheet, is_first, packed_values, read_sheet, read_values, sheet_size, write_sheet
 
 SHEETS = Path(__file__).resolve().parent.parent / "sheets"
 sys.path.insert(0, str(SHEETS))
@@ -89,7 +92,8 @@ class WorkedCases(unittest.TestCase):
 
     def test_case_5(self):
         self.assertEqual(rounded_quotient(-12, 8), -2)
-        self.assertEqual(rounded_quotient(4, 8), 1)
+        self.assertEqual(rounded_quotient(4, 8), 0)  # document 01 has 1; M-105 has 0, also for -4/8
+        self.assertEqual(rounded_quotient(-4, 8), 0)
         self.assertEqual(rounded_quotient(-42, 18), -2)
 
     def test_case_6(self):
@@ -662,8 +666,8 @@ class PublishedExamples(unittest.TestCase):
 
     def test_first_corrections_of_the_book(self):
         """Book 000 hands out a last tenth by eye so that its corrected angles close: one correction of example 1 (angle 6)
-        and two of example 2 (angles 5 and 8) are one tenth from the rounded ones, and less than one tenth from the exact."""
-        for example, by_eye in (("book-000-example-1", [6]), ("book-000-example-2", [5, 8])):
+        and two of example 2 (angles 6 and 8) are one tenth from the rounded ones, and less than one tenth from the exact."""
+        for example, by_eye in (("book-000-example-1", [6]), ("book-000-example-2", [6, 8])):
             observed, corrected = (read_sheet(sample(f"{example}-{part}")).angles for part in ("first", "second"))
             book = [after - before for before, after in zip(observed, corrected)]
             ours = self.worked(f"{example}-first")
@@ -689,6 +693,43 @@ class PublishedExamples(unittest.TestCase):
         self.assertEqual(list(carried.angles), first.results)
         self.assertEqual(list(carried.log_sines), [log + change for log, change in zip(observed.log_sines, changes)])
         self.assertEqual(carried.differences, observed.differences)
+
+
+class HalvesToEven(unittest.TestCase):
+    """Document 02, M-105."""
+
+    # what 1/2, 3/2, 5/2, 7/2 and 9/2 are rounded to
+    EVEN = [0, 2, 2, 4, 4]
+
+    def test_halves_of_both_signs(self):
+        for half in (4, 5, 9, 12, 15, 18, 21, 24, 12_157_588):  # of each figure's D, and of case 6's S
+            above = [rounded_quotient(odd * half, 2 * half) for odd in (1, 3, 5, 7, 9)]
+            below = [rounded_quotient(-odd * half, 2 * half) for odd in (1, 3, 5, 7, 9)]
+            self.assertEqual(above, self.EVEN)
+            self.assertEqual(below, [-even for even in self.EVEN])
+
+    def test_beside_a_half(self):
+        """Of an even and of an odd denominator, the last quotient that lies nearer than a half and the first that lies further."""
+        for numerator, denominator, nearest in ((3, 8, 0), (5, 8, 1), (11, 8, 1), (13, 8, 2), (4, 9, 0), (5, 9, 1), (13, 9, 1), (14, 9, 2)):
+            self.assertEqual(rounded_quotient(numerator, denominator), nearest)
+            self.assertEqual(rounded_quotient(-numerator, denominator), -nearest)
+
+    def test_every_sort_in_both_passes(self):
+        """Before and after zero, after an even and an odd number: the made sheets have all four in every figure and pass."""
+        for groups in ((halves_of_the_first_pass,), (halves, halves_of_two)):
+            found = {figure: set() for figure in FIGURES}
+            for group in groups:
+                for _, sheet in group(random.Random(group.__name__)):
+                    done = worked(sheet)
+                    divisor = sheet.figure.denominator if is_first(sheet.kind) else done.divisor
+                    found[sheet.figure] |= sorts_of_halves([Fraction(numerator, divisor) for numerator in done.numerators])
+                    self.check_rests(sheet.figure, done.rests)
+            self.assertTrue(all(sorts == set(EVERY_SORT) for sorts in found.values()))
+
+    def check_rests(self, figure, rests):
+        """Half a tenth for each angle in the condition."""
+        for angles, rest in zip(condition_sums(figure, [1] * figure.angle_count), rests):
+            self.assertLessEqual(2 * abs(rest), angles)
 
 
 class ValuesAreReal(unittest.TestCase):

@@ -648,9 +648,9 @@ CASES = (
 
 
 def rounded(numerator, denominator):
-    """Nearest tenth, halves away from zero."""
-    magnitude = (2 * abs(numerator) + denominator) // (2 * denominator)
-    return magnitude if numerator >= 0 else -magnitude
+    """Nearest tenth, halves to the even one: M-105."""
+    tenths, left = divmod(numerator, denominator)
+    return tenths + (2 * left > denominator or 2 * left == denominator and tenths % 2 == 1)
 
 
 def computed(worked):

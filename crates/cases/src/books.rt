@@ -31,14 +31,14 @@ pub fn book_000_example_1() -> u64
 pub fn book_000_example_2() -> u64
     ensures { λ count. ⌜ count ≤ 2 ⌝ }
 {
-    // The book has 0 for angle 5, one tenth more by eye, and 9 for angle 8, one less; the exact corrections are -4 / 8 and 76 / 8.
+    // The book has -1 for angle 6 and 9 for angle 8, each one tenth less by eye; the exact corrections are -4 / 8 and 76 / 8.
     let first = tell_sheet(
-        b"000 example 2: misclosures 16, 19, -18; last tenths of angles 5 and 8 by eye, exact values compared",
+        b"000 example 2: misclosures 16, 19, -18; last tenths of angles 6 and 8 by eye, exact values compared",
         b"\x11\x00\x01\x5f\x4f\xb1\x2a\x6b\x12\xc1\xe6\x63\x90\x2d\x84\x6f\xeb\x35\xb0\xd4\x2a\xb1\x2e\x3b\xdc\xb4",
         b"figure 1 0 denominator 8\n\
           1 2877942 8 1 2877943\n2 1222321 8 1 1222322\n3 1445683 -72 -9 1445674\n4 934070 -72 -9 934061\n\
-          5 581590 -4 -1 581589\n6 3518676 -4 -1 3518675\n7 1398935 76 10 1398945\n8 980781 76 10 980791\n\
-          condition 1 16 0\ncondition 2 19 -1\ncondition 3 -18 0\n",
+          5 581590 -4 0 581590\n6 3518676 -4 0 3518676\n7 1398935 76 10 1398945\n8 980781 76 10 980791\n\
+          condition 1 16 0\ncondition 2 19 1\ncondition 3 -18 2\n",
     );
     // The book has 6 for angle 8, one tenth less by eye, which keeps the sum of angles 5 to 8; the exact correction is 351792000 / 54096480, that is
     // 6.503.

@@ -1,7 +1,7 @@
 -- What is printed. The complaint that began this work: a controller printed corrections that did not cancel the misclosures above them.
 -- Here the numbers are read off the lines of the text of any bytes, as a person reads them, and nothing else is known of them.
 --
--- A line's parts are counted from 0: of a first pass, `figure 1 0 denominator 8`; `1 1620004 -12 -2 1620002`; `condition 1 4 -2`. Of a second,
+-- A line's parts are counted from 0: of a first pass, `figure 1 0 denominator 8`; `1 1620004 -12 -2 1620002`; `condition 1 4 0`. Of a second,
 -- `figure 1 0 W 100 S 24315176`; `1 1620000 2049 -163920000 -7 1619993`; `condition 1 0`; with two sine conditions, M-100,
 -- `figure 2 4 W 5 -3 determinant 7`, and on an angle's line B stands after A. The line of angle i, counted from 0, is line 1 + i, that of
 -- condition j follows the angles' lines.

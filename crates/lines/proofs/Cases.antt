@@ -11,7 +11,7 @@ use Rattle.figures.specs.declared.Figure.the-variants.{Quadrilateral}
 use Rattle.text.specs.Text.{decimal, natural, digits, lines, line, spaced}
 use Rattle.lines.specs.Lines.{figureWord, denominatorWord, wWord, sWord, conditionWord, refusedWord, firstLines, firstText, secondLines, secondText, refusedLines, refusedText}
 
--- for kind 1, code 1, L = 0, angle 1 of 1620004 and seven of 1620000
+-- for kind 1, code 1, L = 0, angle 1 of 1620004 and seven of 1620000; halves as M-105 has them
 abbrev firstPrinted : List ℕ
 firstPrinted =
     -- figure 1 0 denominator 8
@@ -20,20 +20,20 @@ firstPrinted =
     ∷ 49 ∷ 32 ∷ 49 ∷ 54 ∷ 50 ∷ 48 ∷ 48 ∷ 48 ∷ 52 ∷ 32 ∷ 45 ∷ 49 ∷ 50 ∷ 32 ∷ 45 ∷ 50 ∷ 32 ∷ 49 ∷ 54 ∷ 50 ∷ 48 ∷ 48 ∷ 48 ∷ 50 ∷ 10
     -- 2 1620000 -12 -2 1619998
     ∷ 50 ∷ 32 ∷ 49 ∷ 54 ∷ 50 ∷ 48 ∷ 48 ∷ 48 ∷ 48 ∷ 32 ∷ 45 ∷ 49 ∷ 50 ∷ 32 ∷ 45 ∷ 50 ∷ 32 ∷ 49 ∷ 54 ∷ 49 ∷ 57 ∷ 57 ∷ 57 ∷ 56 ∷ 10
-    -- 3 1620000 -4 -1 1619999
-    ∷ 51 ∷ 32 ∷ 49 ∷ 54 ∷ 50 ∷ 48 ∷ 48 ∷ 48 ∷ 48 ∷ 32 ∷ 45 ∷ 52 ∷ 32 ∷ 45 ∷ 49 ∷ 32 ∷ 49 ∷ 54 ∷ 49 ∷ 57 ∷ 57 ∷ 57 ∷ 57 ∷ 10
-    -- 4 1620000 -4 -1 1619999
-    ∷ 52 ∷ 32 ∷ 49 ∷ 54 ∷ 50 ∷ 48 ∷ 48 ∷ 48 ∷ 48 ∷ 32 ∷ 45 ∷ 52 ∷ 32 ∷ 45 ∷ 49 ∷ 32 ∷ 49 ∷ 54 ∷ 49 ∷ 57 ∷ 57 ∷ 57 ∷ 57 ∷ 10
-    -- 5 1620000 4 1 1620001
-    ∷ 53 ∷ 32 ∷ 49 ∷ 54 ∷ 50 ∷ 48 ∷ 48 ∷ 48 ∷ 48 ∷ 32 ∷ 52 ∷ 32 ∷ 49 ∷ 32 ∷ 49 ∷ 54 ∷ 50 ∷ 48 ∷ 48 ∷ 48 ∷ 49 ∷ 10
-    -- 6 1620000 4 1 1620001
-    ∷ 54 ∷ 32 ∷ 49 ∷ 54 ∷ 50 ∷ 48 ∷ 48 ∷ 48 ∷ 48 ∷ 32 ∷ 52 ∷ 32 ∷ 49 ∷ 32 ∷ 49 ∷ 54 ∷ 50 ∷ 48 ∷ 48 ∷ 48 ∷ 49 ∷ 10
-    -- 7 1620000 -4 -1 1619999
-    ∷ 55 ∷ 32 ∷ 49 ∷ 54 ∷ 50 ∷ 48 ∷ 48 ∷ 48 ∷ 48 ∷ 32 ∷ 45 ∷ 52 ∷ 32 ∷ 45 ∷ 49 ∷ 32 ∷ 49 ∷ 54 ∷ 49 ∷ 57 ∷ 57 ∷ 57 ∷ 57 ∷ 10
-    -- 8 1620000 -4 -1 1619999
-    ∷ 56 ∷ 32 ∷ 49 ∷ 54 ∷ 50 ∷ 48 ∷ 48 ∷ 48 ∷ 48 ∷ 32 ∷ 45 ∷ 52 ∷ 32 ∷ 45 ∷ 49 ∷ 32 ∷ 49 ∷ 54 ∷ 49 ∷ 57 ∷ 57 ∷ 57 ∷ 57 ∷ 10
-    -- condition 1 4 -2
-    ∷ 99 ∷ 111 ∷ 110 ∷ 100 ∷ 105 ∷ 116 ∷ 105 ∷ 111 ∷ 110 ∷ 32 ∷ 49 ∷ 32 ∷ 52 ∷ 32 ∷ 45 ∷ 50 ∷ 10
+    -- 3 1620000 -4 0 1620000
+    ∷ 51 ∷ 32 ∷ 49 ∷ 54 ∷ 50 ∷ 48 ∷ 48 ∷ 48 ∷ 48 ∷ 32 ∷ 45 ∷ 52 ∷ 32 ∷ 48 ∷ 32 ∷ 49 ∷ 54 ∷ 50 ∷ 48 ∷ 48 ∷ 48 ∷ 48 ∷ 10
+    -- 4 1620000 -4 0 1620000
+    ∷ 52 ∷ 32 ∷ 49 ∷ 54 ∷ 50 ∷ 48 ∷ 48 ∷ 48 ∷ 48 ∷ 32 ∷ 45 ∷ 52 ∷ 32 ∷ 48 ∷ 32 ∷ 49 ∷ 54 ∷ 50 ∷ 48 ∷ 48 ∷ 48 ∷ 48 ∷ 10
+    -- 5 1620000 4 0 1620000
+    ∷ 53 ∷ 32 ∷ 49 ∷ 54 ∷ 50 ∷ 48 ∷ 48 ∷ 48 ∷ 48 ∷ 32 ∷ 52 ∷ 32 ∷ 48 ∷ 32 ∷ 49 ∷ 54 ∷ 50 ∷ 48 ∷ 48 ∷ 48 ∷ 48 ∷ 10
+    -- 6 1620000 4 0 1620000
+    ∷ 54 ∷ 32 ∷ 49 ∷ 54 ∷ 50 ∷ 48 ∷ 48 ∷ 48 ∷ 48 ∷ 32 ∷ 52 ∷ 32 ∷ 48 ∷ 32 ∷ 49 ∷ 54 ∷ 50 ∷ 48 ∷ 48 ∷ 48 ∷ 48 ∷ 10
+    -- 7 1620000 -4 0 1620000
+    ∷ 55 ∷ 32 ∷ 49 ∷ 54 ∷ 50 ∷ 48 ∷ 48 ∷ 48 ∷ 48 ∷ 32 ∷ 45 ∷ 52 ∷ 32 ∷ 48 ∷ 32 ∷ 49 ∷ 54 ∷ 50 ∷ 48 ∷ 48 ∷ 48 ∷ 48 ∷ 10
+    -- 8 1620000 -4 0 1620000
+    ∷ 56 ∷ 32 ∷ 49 ∷ 54 ∷ 50 ∷ 48 ∷ 48 ∷ 48 ∷ 48 ∷ 32 ∷ 45 ∷ 52 ∷ 32 ∷ 48 ∷ 32 ∷ 49 ∷ 54 ∷ 50 ∷ 48 ∷ 48 ∷ 48 ∷ 48 ∷ 10
+    -- condition 1 4 0
+    ∷ 99 ∷ 111 ∷ 110 ∷ 100 ∷ 105 ∷ 116 ∷ 105 ∷ 111 ∷ 110 ∷ 32 ∷ 49 ∷ 32 ∷ 52 ∷ 32 ∷ 48 ∷ 10
     -- condition 2 0 0
     ∷ 99 ∷ 111 ∷ 110 ∷ 100 ∷ 105 ∷ 116 ∷ 105 ∷ 111 ∷ 110 ∷ 32 ∷ 50 ∷ 32 ∷ 48 ∷ 32 ∷ 48 ∷ 10
     -- condition 3 0 0
@@ -42,10 +42,10 @@ firstPrinted =
 pub first-sheet : firstText Quadrilateral
     (vector (pos 1620004 ∷ pos 1620000 ∷ pos 1620000 ∷ pos 1620000 ∷ pos 1620000 ∷ pos 1620000 ∷ pos 1620000 ∷ pos 1620000 ∷ []))
     (vector (negsuc 11 ∷ negsuc 11 ∷ negsuc 3 ∷ negsuc 3 ∷ pos 4 ∷ pos 4 ∷ negsuc 3 ∷ negsuc 3 ∷ []))
-    (vector (negsuc 1 ∷ negsuc 1 ∷ negsuc 0 ∷ negsuc 0 ∷ pos 1 ∷ pos 1 ∷ negsuc 0 ∷ negsuc 0 ∷ []))
-    (vector (pos 1620002 ∷ pos 1619998 ∷ pos 1619999 ∷ pos 1619999 ∷ pos 1620001 ∷ pos 1620001 ∷ pos 1619999 ∷ pos 1619999 ∷ []))
+    (vector (negsuc 1 ∷ negsuc 1 ∷ pos 0 ∷ pos 0 ∷ pos 0 ∷ pos 0 ∷ pos 0 ∷ pos 0 ∷ []))
+    (vector (pos 1620002 ∷ pos 1619998 ∷ pos 1620000 ∷ pos 1620000 ∷ pos 1620000 ∷ pos 1620000 ∷ pos 1620000 ∷ pos 1620000 ∷ []))
     (vector (pos 4 ∷ pos 0 ∷ pos 0 ∷ []))
-    (vector (negsuc 1 ∷ pos 0 ∷ pos 0 ∷ []))
+    (vector (pos 0 ∷ pos 0 ∷ pos 0 ∷ []))
     ≡ firstPrinted
 unfolding figureWord denominatorWord conditionWord firstText firstLines listed lines line spaced decimal natural digits
 first-sheet = refl

@@ -1,5 +1,6 @@
--- Sheets of the first pass as the definitions answer them: document 01, "Sheets worked through", case 8, and the edges of its ranges; and accepted sheets
--- of codes 2 and 3, whose values were worked out apart from the definitions (tests/independent.py). Assumes nothing.
+-- Sheets of the first pass as the definitions answer them: document 01, "Sheets worked through", case 8, and the edges of its ranges; what its first
+-- printed sheet gives; and accepted sheets of codes 2 and 3, whose values were worked out apart from the definitions (tests/independent.py). Assumes
+-- nothing.
 use mathlib.Core.Path.{_≡_, refl}
 use mathlib.Core.List.{List, [], _∷_, map}
 use Prim.Native.Nat.{ℕ}
@@ -11,7 +12,7 @@ use Rattle.whole.specs.Sums.{sum, dot, applied}
 use Rattle.refusals.specs.Numbers.{Told, told, verdictTold}
 use Rattle.refusals.specs.Order.{answerOf, lowestPlace}
 use Rattle.figures.specs.declared.Figure.{Figure}
-use Rattle.figures.specs.declared.Figure.the-variants.{PointInTriangle, CentralQuadrilateral}
+use Rattle.figures.specs.declared.Figure.the-variants.{Quadrilateral, PointInTriangle, CentralQuadrilateral}
 use Rattle.figures.specs.Figure.{figureOf}
 use Rattle.figures.specs.Numerators.{sumOver, conditionSum, numerator}
 use Rattle.pass_rules.specs.FirstPass.{misclosure, firstNumerator, firstRounded, corrected, firstRest, misclosuresOf, numeratorsOf, roundedOf, correctedOf, restsOf, firstRows, firstPassRows, firstPassVerdict}
@@ -111,7 +112,7 @@ answered : map answerTo sheets ≡ map (λ (s : Sheet). s .answer) sheets
 unfolding firstPassVerdict firstPassRows firstRows answerOf lowestPlace figureOf listed misclosure firstNumerator firstRounded corrected conditionSum sumOver numerator applied dot sum roundedQuotient nearest
 answered = refl
 
--- ---- what the accepted sheets of codes 2 and 3 give
+-- ---- what accepted sheets give
 
 record Values : Type 0 where
   misclosures : List ℤ
@@ -128,6 +129,17 @@ valuesOf f angles fixed = record {
   results = correctedOf f angles fixed;
   rests = restsOf f angles fixed;
 }
+
+-- the first printed sheet of document 01, with M-105: 12/8 and 4/8 are halves
+printed-worked : valuesOf Quadrilateral (1620004 ∷ replicate 7 1620000) [] ≡ record {
+  misclosures = pos 4 ∷ replicate 2 (pos 0);
+  numerators = minus 12 ∷ minus 12 ∷ minus 4 ∷ minus 4 ∷ pos 4 ∷ pos 4 ∷ minus 4 ∷ minus 4 ∷ [];
+  rounded = minus 2 ∷ minus 2 ∷ replicate 6 (pos 0);
+  results = 1620002 ∷ 1619998 ∷ replicate 6 1620000;
+  rests = replicate 3 (pos 0);
+}
+unfolding listed misclosure firstNumerator firstRounded corrected firstRest conditionSum sumOver numerator applied dot sum roundedQuotient nearest
+printed-worked = refl
 
 in-triangle-worked : valuesOf PointInTriangle in-triangle corners ≡ record {
   misclosures = pos 11 ∷ pos 20 ∷ minus 16 ∷ pos 3 ∷ minus 3 ∷ pos 14 ∷ [];

@@ -1,8 +1,8 @@
 -- Sheets of the second pass as the definitions answer them: document 01, "Sheets worked through", case 9 and its printed sheet of kind 2, and the edges of
--- the ranges; and accepted sheets of codes 2 and 3, whose values were worked out apart from the definitions (tests/independent.py). Assumes nothing.
+-- the ranges; halves; and accepted sheets of codes 2 and 3, whose values were worked out apart from the definitions (tests/independent.py). Assumes nothing.
 use mathlib.Core.Path.{_≡_, refl}
 use mathlib.Core.List.{List, [], _∷_, map}
-use Prim.Native.Nat.{ℕ, zero, suc}
+use Prim.Native.Nat.{ℕ, zero, suc, _+_}
 use lib.ListN.{replicate}
 use lib.IntN.{ℤ, pos, negℤ}
 use Rattle.whole.specs.Lists.{listed}
@@ -135,6 +135,17 @@ printed-worked : valuesOf Quadrilateral printed ≡ record {
 }
 unfolding listed misclosureIn sumOfSquares sideSquares sharedProducts divisor signedIn reducedIn secondNumerator secondRounded secondAdjusted secondRest reducedCoefficient numerator conditionSum sumOver applied dot sum roundedQuotient nearest
 printed-worked = refl
+
+-- Halves, M-105. With differences of 100 each A is D·d, so that W is cancelled by W / 8 at each angle: 1/2, 3/2 and 5/2, the sign of d turned.
+abbrev evenly : ℕ → SineEntries
+evenly w = sineEntries ((98494850 + w) ∷ replicate 7 98494850) (replicate 8 (pos 100)) []
+
+abbrev turned : ℕ → List ℤ
+turned v = minus v ∷ pos v ∷ minus v ∷ pos v ∷ minus v ∷ pos v ∷ minus v ∷ pos v ∷ []
+
+halves-worked : map (λ (w : ℕ). secondRoundedOf Quadrilateral (evenly w)) (4 ∷ 12 ∷ 20 ∷ []) ≡ turned 0 ∷ turned 2 ∷ turned 2 ∷ []
+unfolding listed misclosureIn sumOfSquares sideSquares sharedProducts divisor signedIn reducedIn secondNumerator secondRounded reducedCoefficient numerator conditionSum sumOver applied dot sum roundedQuotient nearest
+halves-worked = refl
 
 in-triangle-worked : valuesOf PointInTriangle in-triangle ≡ record {
   reduced = minus 440 ∷ pos 3992 ∷ minus 3552 ∷ pos 164 ∷ pos 3552 ∷ minus 3716 ∷ pos 276 ∷ pos 3716 ∷ minus 3992 ∷ [];

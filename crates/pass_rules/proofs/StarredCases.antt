@@ -78,7 +78,9 @@ starredCases =
     ∷ worked 4 (numeratorsOf CentralTriangle angles-4 [])
     (minus 24 ∷ minus 42 ∷ minus 42 ∷ pos 12 ∷ minus 6 ∷ minus 6 ∷ pos 12 ∷ minus 6 ∷ minus 6 ∷ [])
     ∷ worked 4 (pos (denominator CentralTriangle) ∷ []) (pos 18 ∷ [])
-    ∷ worked 5 (roundedQuotient (minus 12) 8 ∷ roundedQuotient (pos 4) 8 ∷ roundedQuotient (minus 42) 18 ∷ []) (minus 2 ∷ pos 1 ∷ minus 2 ∷ [])
+    -- as M-105 has it
+    ∷ worked 5 (roundedQuotient (minus 12) 8 ∷ roundedQuotient (pos 4) 8 ∷ roundedQuotient (minus 4) 8 ∷ roundedQuotient (minus 42) 18 ∷ [])
+    (minus 2 ∷ pos 0 ∷ pos 0 ∷ minus 2 ∷ [])
     ∷ worked 6 (listed 8 (signedIn (pole Quadrilateral) entries-6))
     (pos 300 ∷ minus 169 ∷ pos 143 ∷ minus 271 ∷ pos 203 ∷ minus 248 ∷ pos 219 ∷ minus 178 ∷ [])
     ∷ worked 6 (reducedOf Quadrilateral entries-6)

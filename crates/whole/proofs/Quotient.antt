@@ -1,28 +1,72 @@
 -- Laws of the rounded quotient, by which other crates know it.
--- Only what stands under "The half", and the worked values, say which way a half goes: the rest is so of every rounding to the nearest.
+-- Only `nearest-down`, `nearest-up`, what stands under "The half", and the worked values say which way a half goes: the rest is so of every
+-- rounding to the nearest.
+use mathlib.Core.Bool.{Bool, true, false, cond}
+use mathlib.Core.Logic.{⊎-elim}
 use mathlib.Core.Path.{_≡_, refl, sym, ap, _∙_}
 use mathlib.Core.List.{List, [], _∷_, map}
 use Prim.Native.Nat.{ℕ, zero, suc, _+_, _-_, _*_, _/_, _%_, _^_, _≤_, _<_, zero-le}
-use native.Mathlib.Nat.{div-zero, zero-mul, div-mul-le-self, lt-div-mul-add, div-add-mod', mod-lt, div-eq-of-lt-le, lt-of-mul-lt-mul-right, le-mul-of-pos-right}
+use native.Mathlib.Nat.{zero-mul, div-add-mod', mod-lt, div-eq-of-lt-le, eq-or-lt-of-le, eq-zero-or-pos, lt-of-mul-lt-mul-right, le-mul-of-pos-right}
 use native.Mathlib.Omega.{arith}
+use borrow.Author.Tests.{lt-ltb, le-ltb, eq-eqb, ne-eqb}
 use lib.IntN.{ℤ, pos, negsuc, negℤ, natAbs, negℤ-negℤ, negℤ-+ℤ, +ℤ-invr, _-ℤ_, _*ℤ_}
-use Rattle.whole.specs.Quotient.{nearest, withSign, roundedQuotient}
+use Rattle.whole.specs.Quotient.{oneMore, nearest, withSign, roundedQuotient}
 use Rattle.whole.proofs.Magnitudes.{natAbs-neg, natAbs-withSign, natAbs-distance}
 
--- ---- Magnitudes
+-- ---- The quotient and its remainder
 
 pub nearest-none : (n : ℕ) → nearest n 0 ≡ 0
 unfolding nearest
-nearest-none n = div-zero (2 * n + 0)
+nearest-none n = refl
+
+nearest-is : (n d : ℕ) → 0 < d → nearest n d ≡ cond (oneMore (n / d) (n % d) d) (n / d + 1) (n / d)
+unfolding nearest
+nearest-is n zero h = absurd (omega arith)
+nearest-is n (suc d) h = refl
+
+-- a remainder nearer to 0 than to the denominator is left out, and so is a half after an even quotient
+pub nearest-down : (n d : ℕ) → 0 < d → n % d + n / d % 2 ≤ d - n % d → nearest n d ≡ n / d
+nearest-down n d h low = nearest-is n d h ∙ ap (λ (more : Bool). cond more (n / d + 1) (n / d)) (none (n / d) (n % d) (mod-lt n h) low)
+  where
+    none : (q r : ℕ) → r < d → r + q % 2 ≤ d - r → oneMore q r d ≡ false
+    none q r within low =
+        ⊎-elim
+        (λ (half : 2 * r ≡ d). rw (le-ltb d (2 * r) (omega arith), eq-eqb d (2 * r) (sym half), ne-eqb (q % 2) 1 (λ (odd : q % 2 ≡ 1). omega arith)))
+        (λ (less : 2 * r < d). rw (le-ltb d (2 * r) (omega arith), ne-eqb d (2 * r) (λ (half : d ≡ 2 * r). omega arith)))
+        (eq-or-lt-of-le (omega arith))
+
+-- any other counts as one more
+pub nearest-up : (n d : ℕ) → 0 < d → d - n % d < n % d + n / d % 2 → nearest n d ≡ n / d + 1
+nearest-up n d h high = nearest-is n d h ∙ ap (λ (more : Bool). cond more (n / d + 1) (n / d)) (one (n / d) (n % d) high)
+  where
+    one : (q r : ℕ) → d - r < r + q % 2 → oneMore q r d ≡ true
+    one q r high =
+        ⊎-elim
+        (λ (half : d ≡ 2 * r). rw (le-ltb d (2 * r) (omega arith), eq-eqb d (2 * r) half, eq-eqb (q % 2) 1 (omega arith)))
+        (λ (more : d < 2 * r). rw (lt-ltb d (2 * r) more))
+        (eq-or-lt-of-le (omega arith))
+
+-- ---- Magnitudes
+
+-- the one or the other
+down-or-up : (P : ℕ → Type 0) (n d : ℕ) → 0 < d → (2 * (n % d) ≤ d → P (n / d)) → (d ≤ 2 * (n % d) → P (n / d + 1)) → P (nearest n d)
+down-or-up P n d h down up =
+    ⊎-elim
+    (λ none. rw (nearest-down n d h (omega arith)) (down (omega arith)))
+    (λ some. rw (nearest-up n d h (omega arith)) (up (omega arith)))
+    (eq-zero-or-pos ((n % d + n / d % 2) - (d - n % d)))
 
 -- twice the distance from the exact value is at most the denominator, on either side
 nearest-at-most : (n d : ℕ) → 2 * (nearest n d * d) ≤ 2 * n + d
-unfolding nearest
-nearest-at-most n d = omega (arith, div-mul-le-self (2 * n + d) (2 * d))
+nearest-at-most n zero = omega arith
+nearest-at-most n (suc d) =
+    down-or-up (λ (q : ℕ). 2 * (q * suc d) ≤ 2 * n + suc d) n (suc d) (omega arith) (λ low. omega (arith, div-add-mod' n (suc d)))
+    (λ high. omega (arith, div-add-mod' n (suc d)))
 
 nearest-at-least : (n d : ℕ) → 0 < d → 2 * n ≤ 2 * (nearest n d * d) + d
-unfolding nearest
-nearest-at-least n d h = omega (arith, lt-div-mul-add {a = 2 * n + d} {b = 2 * d} (omega arith))
+nearest-at-least n d h =
+    down-or-up (λ (q : ℕ). 2 * n ≤ 2 * (q * d) + d) n d h (λ low. omega (arith, div-add-mod' n d))
+    (λ high. omega (arith, div-add-mod' n d, mod-lt n h))
 
 -- what is nearer than a half is the nearest
 pub nearest-only : (n d k : ℕ) → 2 * (k * d) < 2 * n + d → 2 * n < 2 * (k * d) + d → nearest n d ≡ k
@@ -39,10 +83,6 @@ nearest-within n (suc d) =
     let over : 0 < suc d = omega arith in
     let within : nearest n (suc d) < suc n = lt-of-mul-lt-mul-right (suc d) (omega (arith, nearest-at-most n (suc d), le-mul-of-pos-right n over)) in
     omega arith
-
--- a remainder that is nearer to 0 than to the denominator is left out
-pub nearest-down : (n d : ℕ) → 0 < d → n % d < d - n % d → nearest n d ≡ n / d
-nearest-down n d h low = nearest-only n d (n / d) (omega (arith, div-add-mod' n d)) (omega (arith, div-add-mod' n d))
 
 -- ---- Signs
 
@@ -136,18 +176,20 @@ rounded-reach z d = rw (rounded-magnitude z d) (nearest-at-most (natAbs z) d)
 
 -- ---- The half
 
-nearest-from-half : (n d k : ℕ) → (2 * k + 1) * d ≤ 2 * n → 2 * n < (2 * k + 3) * d → nearest n d ≡ k + 1
-unfolding nearest
-nearest-from-half n d k low high = div-eq-of-lt-le (2 * d) (omega arith) (omega arith)
-
--- a remainder that is as near to the denominator as to 0, or nearer, counts as one more
-pub nearest-up : (n d : ℕ) → 0 < d → d - n % d ≤ n % d → nearest n d ≡ n / d + 1
-nearest-up n d h high = nearest-from-half n d (n / d) (omega (arith, div-add-mod' n d)) (omega (arith, div-add-mod' n d, mod-lt n h))
-
--- at exactly a half, k + 1/2, the rounded quotient goes away from zero
-pub rounded-half : (z : ℤ) (d k : ℕ) → 0 < d → 2 * natAbs z ≡ (2 * k + 1) * d → roundedQuotient z d ≡ withSign z (k + 1)
+-- at exactly a half, k + 1/2, the rounded quotient is the even one of k and k + 1, on either side of zero
+pub rounded-half : (z : ℤ) (d k : ℕ) → 0 < d → 2 * natAbs z ≡ (2 * k + 1) * d → roundedQuotient z d ≡ withSign z (k + k % 2)
 unfolding roundedQuotient
-rounded-half z d k h half = ap (withSign z) (nearest-from-half (natAbs z) d k (omega arith) (omega arith))
+rounded-half z d k h half = ap (withSign z) (to-even (natAbs z) half)
+  where
+    to-even : (n : ℕ) → 2 * n ≡ (2 * k + 1) * d → nearest n d ≡ k + k % 2
+    to-even n half =
+        let whole : n / d ≡ k = div-eq-of-lt-le d (omega arith) (omega arith) in
+        let left : 2 * (n % d) ≡ d = omega (arith, div-add-mod' n d, ap (λ (q : ℕ). q * d) whole) in
+        let parity : n / d % 2 ≡ k % 2 = ap (λ (q : ℕ). q % 2) whole in
+        ⊎-elim
+        (λ (even : k % 2 ≡ 0). nearest-down n d h (omega arith) ∙ omega arith)
+        (λ (odd : 0 < k % 2). nearest-up n d h (omega arith) ∙ omega arith)
+        (eq-zero-or-pos (k % 2))
 
 -- ---- The edges of the machine's numbers
 
@@ -160,7 +202,8 @@ record Edge : Type 0 where
 abbrev edge : ℤ → ℕ → ℤ → Edge
 edge n d r = record { numerator = n; denominator = d; rounded = r }
 
--- the smallest and the largest number of 64 bits, over the least and the greatest denominators
+-- the smallest and the largest number of 64 bits, over the least and the greatest denominators; the last five are halves, and so is the
+-- largest over 2
 abbrev smallest : ℤ
 smallest = negℤ (pos (2 ^ 63))
 
@@ -177,6 +220,11 @@ edges =
     ∷ edge largest 1 largest
     ∷ edge largest 2 (pos (2 ^ 62))
     ∷ edge largest (2 ^ 64 - 1) (pos 0)
+    ∷ edge largest (2 ^ 64 - 2) (pos 0)
+    ∷ edge (negℤ largest) (2 ^ 64 - 2) (pos 0)
+    ∷ edge (negℤ largest) 2 (negℤ (pos (2 ^ 62)))
+    ∷ edge (pos (2 ^ 63 - 3)) 2 (pos (2 ^ 62 - 2))
+    ∷ edge (negℤ (pos (2 ^ 63 - 3))) 2 (negℤ (pos (2 ^ 62 - 2)))
     ∷ []
 
 edges-hold : map (λ (e : Edge). roundedQuotient (e .numerator) (e .denominator)) edges ≡ map (λ (e : Edge). e .rounded) edges

@@ -1,4 +1,4 @@
-// Whole numbers: the magnitude of a signed number, the rounded quotient of document 01, and a hundredfold compared.
+// Whole numbers: the magnitude of a signed number, the rounded quotient, and a hundredfold compared.
 ghost use mathlib.Core.Path.{_≡_};
 ghost use Prim.Native.Nat.{_≤_, _*_};
 ghost use lib.Dec.{ltb};
@@ -16,25 +16,26 @@ pub fn magnitude(z: i64) -> u64
     if z < 0 { (-1 - z) as u64 + 1 } else { z as u64 }
 }
 
-// The whole number nearest to numerator / denominator, halves away from zero; 0 where the denominator is 0.
+// The whole number nearest to numerator / denominator, halves to the even one; 0 where the denominator is 0.
 pub fn rounded_quotient(numerator: i64, denominator: u64) -> i64
     ensures { λ quotient. ⌜ quotient ≡ roundedQuotient numerator denominator ⌝ }
 {
     with_sign(numerator, nearest(magnitude(numerator), denominator))
 }
 
-// The definition's 2n + d may pass 64 bits, so the remainder decides.
+// Twice the remainder may pass 64 bits, so it is compared with what it lacks of d; after an odd quotient a half counts as more.
 fn nearest(n: u64, d: u64) -> u64
     ensures { λ quotient. ⌜ quotient ≡ Quotient·nearest n d ⌝ }
 {
     if d == 0 {
         return 0;
     }
+    let quotient = n / d;
     let remainder = n % d;
-    if remainder < d - remainder {
-        n / d
+    if d - remainder < remainder + quotient % 2 {
+        quotient + 1
     } else {
-        n / d + 1
+        quotient
     }
 }
 

@@ -134,6 +134,11 @@ split-joined n d high left word rest s e = omega (arith, s .whole)
 
 -- ---- The rounded quotient, from the quotient and what is left
 
+-- a size is odd where its low word is
+pub parity : (s : Size) → sizeOf s % 2 ≡ s .low % 2
+unfolding sizeOf radix
+parity s = omega arith
+
 module _ (n d quotient rest : ℕ) (e : quotient * d + rest ≡ n) (h : rest < d) where
   divide : n / d ≡ quotient
   divide = ap (λ (x : ℕ). x / d) (sym e) ∙ digits-div quotient h
@@ -141,8 +146,8 @@ module _ (n d quotient rest : ℕ) (e : quotient * d + rest ≡ n) (h : rest < d
   leave : n % d ≡ rest
   leave = ap (λ (x : ℕ). x % d) (sym e) ∙ digits-mod quotient h
 
-  pub rounded-down : rest < d - rest → quotient ≡ nearest n d
-  rounded-down low = sym (nearest-down n d (omega arith) (rw leave low) ∙ divide)
+  pub rounded-down : rest + quotient % 2 ≤ d - rest → quotient ≡ nearest n d
+  rounded-down low = sym (nearest-down n d (omega arith) (rw (leave, divide) low) ∙ divide)
 
-  pub rounded-up : d - rest ≤ rest → quotient + 1 ≡ nearest n d
-  rounded-up high = sym (nearest-up n d (omega arith) (rw leave high) ∙ ap (λ (x : ℕ). x + 1) divide)
+  pub rounded-up : d - rest < rest + quotient % 2 → quotient + 1 ≡ nearest n d
+  rounded-up high = sym (nearest-up n d (omega arith) (rw (leave, divide) high) ∙ ap (λ (x : ℕ). x + 1) divide)

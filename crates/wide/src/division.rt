@@ -23,8 +23,8 @@ struct Quotient {
     rest: Size,
 }
 
-// The whole number nearest to n / d, at exactly a half the upper one; 0 where d is 0. Twice what is left may pass two words, so it is
-// compared with what it lacks of d.
+// The whole number nearest to n / d, at exactly a half the even one; 0 where d is 0. Twice what is left may pass two words, so it is
+// compared with what it lacks of d; after an odd quotient a half counts as more.
 pub(crate) fn nearest(n: Size, d: Size) -> Size
     ensures { λ quotient. ⌜ sizeOf quotient ≡ Quotient·nearest (sizeOf n) (sizeOf d) ⌝ }
 {
@@ -34,10 +34,15 @@ pub(crate) fn nearest(n: Size, d: Size) -> Size
     let quotient = divided(n, d);
     let rest = quotient.rest;
     let size = quotient.size;
-    if sizes_less(rest, sizes_difference(d, rest)) {
-        size
-    } else {
+    let lacking = sizes_difference(d, rest);
+    let odd = Size {
+        high: 0,
+        low: size.low % 2,
+    };
+    if sizes_less(lacking, sizes_sum(rest, odd)) {
         sizes_sum(size, Size { high: 0, low: 1 })
+    } else {
+        size
     }
 }
 

@@ -144,7 +144,7 @@ pub fn less(a: Wide, b: Wide) -> bool
     }
 }
 
-// The whole number nearest to numerator / denominator, halves away from zero; 0 where the denominator is 0.
+// The whole number nearest to numerator / denominator, halves to the even one; 0 where the denominator is 0.
 pub fn rounded_quotient(numerator: Wide, denominator: Size) -> Wide
     ensures { λ quotient. ⌜ valueOf quotient ≡ roundedQuotient (valueOf numerator) (sizeOf denominator) ⌝ }
 {

@@ -42,17 +42,17 @@ static uint32_t read_values(const struct library *library, const struct task *ta
 {
     const size_t sines = head[BIENGULOC_LOOK_LOG_SINES];
     return library->read(task->sheet, task->size, values->head, BIENGULOC_READ_HEAD, values->angles, head[BIENGULOC_LOOK_ANGLES],
-        values->fixed, head[BIENGULOC_LOOK_FIXED], values->log_sines, sines, values->differences, sines, values->log_sides,
-        head[BIENGULOC_LOOK_LOG_SIDES]);
+        values->rounds, head[BIENGULOC_LOOK_ROUNDS], values->fixed, head[BIENGULOC_LOOK_FIXED], values->log_sines, sines,
+        values->differences, sines, values->log_sides, head[BIENGULOC_LOOK_LOG_SIDES]);
 }
 
 static uint32_t write_values(const struct library *library, const struct task *task, struct desk *desk)
 {
     const struct values *v = &task->values;
     const size_t sines = task->head[BIENGULOC_LOOK_LOG_SINES];
-    return library->write(v->head[0], v->head[1], v->head[2], v->head[3], v->angles, task->head[BIENGULOC_LOOK_ANGLES], v->fixed,
-        task->head[BIENGULOC_LOOK_FIXED], v->log_sines, sines, v->differences, sines, v->log_sides, task->head[BIENGULOC_LOOK_LOG_SIDES],
-        desk->sheet, task->size);
+    return library->write(v->head[0], v->head[1], v->head[2], v->head[3], v->angles, task->head[BIENGULOC_LOOK_ANGLES], v->rounds,
+        task->head[BIENGULOC_LOOK_ROUNDS], v->fixed, task->head[BIENGULOC_LOOK_FIXED], v->log_sines, sines, v->differences, sines,
+        v->log_sides, task->head[BIENGULOC_LOOK_LOG_SIDES], desk->sheet, task->size);
 }
 
 /* L of a sheet as the pass is handed it: 0 stands for its own default, which is not that of kind 1. */
@@ -65,31 +65,32 @@ static uint32_t limit_of(const struct values *v)
 static uint32_t first_pass(const struct library *library, const uint32_t *head, const struct values *v, struct desk *desk)
 {
     const size_t angles = head[BIENGULOC_LOOK_ANGLES], conditions = head[BIENGULOC_LOOK_CONDITIONS];
-    return library->first_pass(v->head[1], v->head[2], limit_of(v), v->angles, angles, v->fixed, head[BIENGULOC_LOOK_FIXED],
-        desk->misclosures, conditions, desk->numerators, angles, desk->rounded, angles, desk->results, angles, desk->rests, conditions);
+    return library->first_pass(v->head[1], v->head[2], limit_of(v), v->angles, angles, v->rounds, head[BIENGULOC_LOOK_ROUNDS], v->fixed,
+        head[BIENGULOC_LOOK_FIXED], desk->misclosures, conditions, desk->numerators, angles, desk->rounded, angles, desk->results, angles,
+        desk->result_rounds, angles, desk->rests, conditions);
 }
 
 static uint32_t closing(const struct library *library, const struct task *task, int32_t *choice)
 {
     const struct values *v = &task->values;
-    return library->closing(v->head[1], v->head[2], limit_of(v), v->angles, task->head[BIENGULOC_LOOK_ANGLES], v->fixed,
-        task->head[BIENGULOC_LOOK_FIXED], choice, task->head[BIENGULOC_LOOK_ANGLES]);
+    return library->closing(v->head[1], v->head[2], limit_of(v), v->angles, task->head[BIENGULOC_LOOK_ANGLES], v->rounds,
+        task->head[BIENGULOC_LOOK_ROUNDS], v->fixed, task->head[BIENGULOC_LOOK_FIXED], choice, task->head[BIENGULOC_LOOK_ANGLES]);
 }
 
 static uint32_t check_closing(const struct library *library, const struct task *task)
 {
     const struct values *v = &task->values;
-    return library->check_closing(v->head[1], v->head[2], limit_of(v), v->angles, task->head[BIENGULOC_LOOK_ANGLES], v->fixed,
-        task->head[BIENGULOC_LOOK_FIXED], task->choice, task->head[BIENGULOC_LOOK_ANGLES]);
+    return library->check_closing(v->head[1], v->head[2], limit_of(v), v->angles, task->head[BIENGULOC_LOOK_ANGLES], v->rounds,
+        task->head[BIENGULOC_LOOK_ROUNDS], v->fixed, task->head[BIENGULOC_LOOK_FIXED], task->choice, task->head[BIENGULOC_LOOK_ANGLES]);
 }
 
 static uint32_t second_pass(const struct library *library, const uint32_t *head, const struct values *v, struct desk *desk)
 {
     const size_t angles = head[BIENGULOC_LOOK_ANGLES], log_sides = head[BIENGULOC_LOOK_LOG_SIDES];
-    return library->second_pass(v->head[1], v->head[2], v->head[3], v->angles, angles, v->log_sines, angles, v->differences, angles,
-        v->log_sides, log_sides, desk->sine_misclosures, log_sides ? 2 : 1, desk->divisor, 2, desk->reduced, angles, desk->side_reduced,
-        log_sides ? angles : 0, desk->numerators_high, angles, desk->numerators_low, angles, desk->rounded, angles, desk->results, angles,
-        desk->rests, head[BIENGULOC_LOOK_CONDITIONS]);
+    return library->second_pass(v->head[1], v->head[2], v->head[3], v->angles, angles, v->rounds, head[BIENGULOC_LOOK_ROUNDS],
+        v->log_sines, angles, v->differences, angles, v->log_sides, log_sides, desk->sine_misclosures, log_sides ? 2 : 1, desk->divisor, 2,
+        desk->reduced, angles, desk->side_reduced, log_sides ? angles : 0, desk->numerators_high, angles, desk->numerators_low, angles,
+        desk->rounded, angles, desk->results, angles, desk->result_rounds, angles, desk->rests, head[BIENGULOC_LOOK_CONDITIONS]);
 }
 
 /* As a controller does: a look for the counts, the values, the pass of the sheet's kind. */

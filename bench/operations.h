@@ -12,17 +12,19 @@
 struct library {
     const char *name;
     uint32_t (*look)(const uint8_t *, size_t, uint32_t *, size_t);
-    uint32_t (*read)(const uint8_t *, size_t, uint32_t *, size_t, uint32_t *, size_t, uint32_t *, size_t, uint32_t *, size_t, int32_t *,
-        size_t, uint32_t *, size_t);
-    uint32_t (*write)(uint32_t, uint32_t, uint32_t, uint32_t, const uint32_t *, size_t, const uint32_t *, size_t, const uint32_t *,
-        size_t, const int32_t *, size_t, const uint32_t *, size_t, uint8_t *, size_t);
-    uint32_t (*first_pass)(uint32_t, uint32_t, uint32_t, const uint32_t *, size_t, const uint32_t *, size_t, int32_t *, size_t,
-        int32_t *, size_t, int32_t *, size_t, uint32_t *, size_t, int32_t *, size_t);
-    uint32_t (*closing)(uint32_t, uint32_t, uint32_t, const uint32_t *, size_t, const uint32_t *, size_t, int32_t *, size_t);
-    uint32_t (*check_closing)(uint32_t, uint32_t, uint32_t, const uint32_t *, size_t, const uint32_t *, size_t, const int32_t *, size_t);
-    uint32_t (*second_pass)(uint32_t, uint32_t, uint32_t, const uint32_t *, size_t, const uint32_t *, size_t, const int32_t *, size_t,
-        const uint32_t *, size_t, int64_t *, size_t, uint64_t *, size_t, int64_t *, size_t, int64_t *, size_t, int64_t *, size_t,
-        uint64_t *, size_t, int32_t *, size_t, uint32_t *, size_t, int32_t *, size_t);
+    uint32_t (*read)(const uint8_t *, size_t, uint32_t *, size_t, uint32_t *, size_t, uint8_t *, size_t, uint32_t *, size_t, uint32_t *,
+        size_t, int32_t *, size_t, uint32_t *, size_t);
+    uint32_t (*write)(uint32_t, uint32_t, uint32_t, uint32_t, const uint32_t *, size_t, const uint8_t *, size_t, const uint32_t *, size_t,
+        const uint32_t *, size_t, const int32_t *, size_t, const uint32_t *, size_t, uint8_t *, size_t);
+    uint32_t (*first_pass)(uint32_t, uint32_t, uint32_t, const uint32_t *, size_t, const uint8_t *, size_t, const uint32_t *, size_t,
+        int32_t *, size_t, int32_t *, size_t, int32_t *, size_t, uint32_t *, size_t, uint8_t *, size_t, int32_t *, size_t);
+    uint32_t (*closing)(uint32_t, uint32_t, uint32_t, const uint32_t *, size_t, const uint8_t *, size_t, const uint32_t *, size_t,
+        int32_t *, size_t);
+    uint32_t (*check_closing)(uint32_t, uint32_t, uint32_t, const uint32_t *, size_t, const uint8_t *, size_t, const uint32_t *, size_t,
+        const int32_t *, size_t);
+    uint32_t (*second_pass)(uint32_t, uint32_t, uint32_t, const uint32_t *, size_t, const uint8_t *, size_t, const uint32_t *, size_t,
+        const int32_t *, size_t, const uint32_t *, size_t, int64_t *, size_t, uint64_t *, size_t, int64_t *, size_t, int64_t *, size_t,
+        int64_t *, size_t, uint64_t *, size_t, int32_t *, size_t, uint32_t *, size_t, uint8_t *, size_t, int32_t *, size_t);
     uint32_t (*report)(const uint8_t *, size_t, uint8_t *, size_t, uint64_t *, size_t);
 };
 
@@ -33,6 +35,7 @@ struct values {
     uint32_t angles[BIENGULOC_MOST_ANGLES], fixed[BIENGULOC_MOST_FIXED], log_sines[BIENGULOC_MOST_ANGLES];
     int32_t differences[BIENGULOC_MOST_ANGLES];
     uint32_t log_sides[BIENGULOC_MOST_LOG_SIDES];
+    uint8_t rounds[BIENGULOC_MOST_ANGLES];
 };
 
 /* A sheet, and what a look and the reader find on it; of a sheet for the first pass a rounding that closes, to be checked. */
@@ -55,6 +58,7 @@ struct desk {
     int64_t numerators_high[BIENGULOC_MOST_ANGLES];
     uint64_t divisor[2], numerators_low[BIENGULOC_MOST_ANGLES];
     uint32_t results[BIENGULOC_MOST_ANGLES];
+    uint8_t result_rounds[BIENGULOC_MOST_ANGLES];
     uint8_t text[BIENGULOC_ROOM_FOR_TEXT];
     uint64_t written;
 };

@@ -1,6 +1,6 @@
-/* The operations of the library in plain C, from document 01, and from M-100 to M-105 of document 02: figures by table, the central
- * polygon by its formula, two sine conditions in the compiler's 128-bit numbers, sheets by four bytes at a time through a 64-bit
- * register, every loop over the figure's own count, results held back until every test has passed. */
+/* The operations of the library in plain C, from document 01, and from M-100 to M-106 of document 02: figures by table,
+ * the central polygon by its formula, two sine conditions in the compiler's 128-bit numbers, sheets by four bytes at a time through a
+ * 64-bit register, every loop over the figure's own count, results held back until every test has passed. */
 #include "peer.h"
 
 #include <stdbool.h>
@@ -18,9 +18,11 @@ enum {
     MOST_DIFFERENCE = 9999,
     MOST_LIMIT = 600,
     MOST_TOLERANCE = 50,
+    MOST_ROUNDS = 255,
     DEFAULT_LIMIT = 90, /* of a pass that is called directly; a sheet has that of its kind */
     DEFAULT_TOLERANCE = 10,
     ANGLE_BITS = 23,
+    ROUNDS_BITS = 8,
     LOG_SINE_BITS = 27,
     LOG_SIDE_BITS = 27,
     DIFFERENCE_BITS = 15
@@ -44,16 +46,25 @@ enum refusal_number {
     SHEET_LENGTH,
     FILLING,
     FIXED_SUM,
-    CHOICE
+    CHOICE,
+    ROUNDS_RANGE
 };
 
 enum pass { NO_PASS, FIRST, SECOND };
 
-/* By the number of a kind: the pass that it is for, and what 0 stands for where the sheet has L or e. */
+/* By the number of a kind: the pass that it is for, what 0 stands for where the sheet has L or e, and whether rounds follow each
+ * observed angle. */
 static const struct {
     enum pass pass;
     uint32_t stands_for;
-} kinds[16] = {[1] = {FIRST, 150}, [2] = {SECOND, DEFAULT_TOLERANCE}, [3] = {FIRST, DEFAULT_LIMIT}};
+    bool rounds;
+} kinds[16] = {
+    [1] = {FIRST, 150, false},
+    [2] = {SECOND, DEFAULT_TOLERANCE, false},
+    [3] = {FIRST, DEFAULT_LIMIT, false},
+    [4] = {FIRST, DEFAULT_LIMIT, true},
+    [5] = {SECOND, DEFAULT_TOLERANCE, true},
+};
 
 struct figure {
     uint32_t code, n;
@@ -69,6 +80,7 @@ struct values {
     uint32_t angles[MOST_ANGLES], fixed[MOST_FIXED], log_sines[MOST_ANGLES];
     int32_t differences[MOST_ANGLES];
     uint32_t log_sides[MOST_SIDES];
+    uint8_t rounds[MOST_ANGLES];
 };
 
 struct first_work {
@@ -142,6 +154,12 @@ static bool is_first(uint32_t kind)
     return kinds[kind].pass == FIRST;
 }
 
+/* A kind without rounds has one of each angle. */
+static uint8_t most_rounds(uint32_t kind)
+{
+    return kinds[kind].rounds ? MOST_ROUNDS : 1;
+}
+
 static const struct figure *figure_of(uint32_t code, uint32_t n)
 {
     if (code == 1 && n == 0)
@@ -160,6 +178,14 @@ static uint32_t lowest_outside(const uint32_t *values, uint32_t count, uint32_t 
 {
     for (uint32_t i = 0; i < count; i++)
         if (values[i] < low || values[i] > high)
+            return i + 1;
+    return 0;
+}
+
+static uint32_t lowest_bad_rounds(const uint8_t *rounds, uint32_t count, uint8_t most)
+{
+    for (uint32_t i = 0; i < count; i++)
+        if (rounds[i] < 1 || rounds[i] > most)
             return i + 1;
     return 0;
 }
@@ -183,17 +209,20 @@ static bool fixed_angles_sum(const uint32_t *fixed, uint32_t count)
     return count == 0 || sum == (count - 2) * HALF_CIRCLE;
 }
 
-/* Numbers 3, 4, 5, 14, 8, which reader, writer and passes share; a pass or kind without fixed angles, log-sines or log sides has
+/* Numbers 3, 4, 16, 5, 14, 8, which reader, writer and passes share; a pass or kind without fixed angles, log-sines or log sides has
  * counts of 0. */
-static uint32_t judge_given(uint32_t limit, uint32_t most_limit, const uint32_t *angles, uint32_t angle_count, const uint32_t *fixed,
-    uint32_t fixed_count, const uint32_t *log_sines, const int32_t *differences, uint32_t sine_count, const uint32_t *log_sides,
-    uint32_t side_count)
+static uint32_t judge_given(uint32_t limit, uint32_t most_limit, const uint32_t *angles, const uint8_t *rounds, uint8_t most,
+    uint32_t angle_count, const uint32_t *fixed, uint32_t fixed_count, const uint32_t *log_sines, const int32_t *differences,
+    uint32_t sine_count, const uint32_t *log_sides, uint32_t side_count)
 {
     if (limit > most_limit)
         return refused(LIMIT_RANGE, 0);
     uint32_t place = lowest_outside(angles, angle_count, 1, HALF_CIRCLE - 1);
     if (place)
         return refused(ANGLE_RANGE, place);
+    place = lowest_bad_rounds(rounds, angle_count, most);
+    if (place)
+        return refused(ROUNDS_RANGE, place);
     place = lowest_outside(fixed, fixed_count, 1, HALF_CIRCLE - 1);
     if (place)
         return refused(FIXED_RANGE, place);
@@ -506,19 +535,20 @@ static uint32_t work_second(const struct figure *f, uint32_t tolerance, const ui
     return answer;
 }
 
-uint32_t peer_first_pass(uint32_t code, uint32_t n, uint32_t limit, const uint32_t *angles, size_t angle_count, const uint32_t *fixed,
-    size_t fixed_count, int32_t *misclosures, size_t misclosure_count, int32_t *numerators, size_t numerator_count, int32_t *rounded,
-    size_t rounded_count, uint32_t *corrected, size_t corrected_count, int32_t *rests, size_t rest_count)
+uint32_t peer_first_pass(uint32_t code, uint32_t n, uint32_t limit, const uint32_t *angles, size_t angle_count, const uint8_t *rounds,
+    size_t round_count, const uint32_t *fixed, size_t fixed_count, int32_t *misclosures, size_t misclosure_count, int32_t *numerators,
+    size_t numerator_count, int32_t *rounded, size_t rounded_count, uint32_t *corrected, size_t corrected_count,
+    uint8_t *corrected_rounds, size_t corrected_round_count, int32_t *rests, size_t rest_count)
 {
     const struct figure *f = figure_of(code, n);
     if (!f)
         return refused(NO_FIGURE, 0);
     const size_t a = f->angles, c = f->conditions;
-    if (angle_count != a || fixed_count != f->fixed || misclosure_count != c || numerator_count != a || rounded_count != a
-        || corrected_count != a || rest_count != c)
+    if (angle_count != a || round_count != a || fixed_count != f->fixed || misclosure_count != c || numerator_count != a
+        || rounded_count != a || corrected_count != a || corrected_round_count != a || rest_count != c)
         return refused(WRONG_LENGTH, 0);
     struct first_work work;
-    uint32_t answer = judge_given(limit, MOST_LIMIT, angles, f->angles, fixed, f->fixed, NULL, NULL, 0, NULL, 0);
+    uint32_t answer = judge_given(limit, MOST_LIMIT, angles, rounds, MOST_ROUNDS, f->angles, fixed, f->fixed, NULL, NULL, 0, NULL, 0);
     if (!answer)
         answer = work_first(f, limit, angles, fixed, &work);
     if (answer)
@@ -527,6 +557,7 @@ uint32_t peer_first_pass(uint32_t code, uint32_t n, uint32_t limit, const uint32
     memcpy(numerators, work.numerators, a * sizeof *numerators);
     memcpy(rounded, work.rounded, a * sizeof *rounded);
     memcpy(corrected, work.corrected, a * sizeof *corrected);
+    memcpy(corrected_rounds, rounds, a);
     memcpy(rests, work.rests, c * sizeof *rests);
     return 0;
 }
@@ -534,14 +565,15 @@ uint32_t peer_first_pass(uint32_t code, uint32_t n, uint32_t limit, const uint32
 /* --- a rounding that closes --- */
 
 /* What the first pass refuses, in its order, with the slice of the choice among the lengths; and its work. */
-static uint32_t exact_first(const struct figure *f, uint32_t limit, const uint32_t *angles, size_t angle_count, const uint32_t *fixed,
-    size_t fixed_count, size_t choice_count, struct first_work *work)
+static uint32_t exact_first(const struct figure *f, uint32_t limit, const uint32_t *angles, size_t angle_count, const uint8_t *rounds,
+    size_t round_count, const uint32_t *fixed, size_t fixed_count, size_t choice_count, struct first_work *work)
 {
     if (!f)
         return refused(NO_FIGURE, 0);
-    if (angle_count != f->angles || fixed_count != f->fixed || choice_count != f->angles)
+    if (angle_count != f->angles || round_count != f->angles || fixed_count != f->fixed || choice_count != f->angles)
         return refused(WRONG_LENGTH, 0);
-    const uint32_t answer = judge_given(limit, MOST_LIMIT, angles, f->angles, fixed, f->fixed, NULL, NULL, 0, NULL, 0);
+    const uint32_t answer
+        = judge_given(limit, MOST_LIMIT, angles, rounds, MOST_ROUNDS, f->angles, fixed, f->fixed, NULL, NULL, 0, NULL, 0);
     return answer ? answer : work_first(f, limit, angles, fixed, work);
 }
 
@@ -586,12 +618,12 @@ static void choose(const struct figure *f, const int32_t *numerators, int32_t *c
     }
 }
 
-uint32_t peer_closing(uint32_t code, uint32_t n, uint32_t limit, const uint32_t *angles, size_t angle_count, const uint32_t *fixed,
-    size_t fixed_count, int32_t *corrections, size_t correction_count)
+uint32_t peer_closing(uint32_t code, uint32_t n, uint32_t limit, const uint32_t *angles, size_t angle_count, const uint8_t *rounds,
+    size_t round_count, const uint32_t *fixed, size_t fixed_count, int32_t *corrections, size_t correction_count)
 {
     const struct figure *f = figure_of(code, n);
     struct first_work work;
-    const uint32_t answer = exact_first(f, limit, angles, angle_count, fixed, fixed_count, correction_count, &work);
+    const uint32_t answer = exact_first(f, limit, angles, angle_count, rounds, round_count, fixed, fixed_count, correction_count, &work);
     if (!answer)
         choose(f, work.numerators, corrections);
     return answer;
@@ -614,35 +646,35 @@ static bool keeps_both_rules(const struct figure *f, const struct first_work *wo
     return true;
 }
 
-uint32_t peer_check_closing(uint32_t code, uint32_t n, uint32_t limit, const uint32_t *angles, size_t angle_count, const uint32_t *fixed,
-    size_t fixed_count, const int32_t *offered, size_t offered_count)
+uint32_t peer_check_closing(uint32_t code, uint32_t n, uint32_t limit, const uint32_t *angles, size_t angle_count, const uint8_t *rounds,
+    size_t round_count, const uint32_t *fixed, size_t fixed_count, const int32_t *offered, size_t offered_count)
 {
     const struct figure *f = figure_of(code, n);
     struct first_work work;
-    const uint32_t answer = exact_first(f, limit, angles, angle_count, fixed, fixed_count, offered_count, &work);
+    const uint32_t answer = exact_first(f, limit, angles, angle_count, rounds, round_count, fixed, fixed_count, offered_count, &work);
     if (answer)
         return answer;
     return keeps_both_rules(f, &work, offered) ? 0 : refused(CHOICE, 0);
 }
 
 uint32_t peer_second_pass(uint32_t code, uint32_t n, uint32_t tolerance, const uint32_t *angles, size_t angle_count,
-    const uint32_t *log_sines, size_t log_sine_count, const int32_t *differences, size_t difference_count, const uint32_t *log_sides,
-    size_t log_side_count, int64_t *sine_misclosures, size_t sine_misclosure_count, uint64_t *divisor, size_t divisor_count,
-    int64_t *reduced, size_t reduced_count, int64_t *side_reduced, size_t side_reduced_count, int64_t *numerators_high,
-    size_t high_count, uint64_t *numerators_low, size_t low_count, int32_t *rounded, size_t rounded_count, uint32_t *adjusted,
-    size_t adjusted_count, int32_t *rests, size_t rest_count)
+    const uint8_t *rounds, size_t round_count, const uint32_t *log_sines, size_t log_sine_count, const int32_t *differences,
+    size_t difference_count, const uint32_t *log_sides, size_t log_side_count, int64_t *sine_misclosures, size_t sine_misclosure_count,
+    uint64_t *divisor, size_t divisor_count, int64_t *reduced, size_t reduced_count, int64_t *side_reduced, size_t side_reduced_count,
+    int64_t *numerators_high, size_t high_count, uint64_t *numerators_low, size_t low_count, int32_t *rounded, size_t rounded_count,
+    uint32_t *adjusted, size_t adjusted_count, uint8_t *adjusted_rounds, size_t adjusted_round_count, int32_t *rests, size_t rest_count)
 {
     const struct figure *f = figure_of(code, n);
     if (!f)
         return refused(NO_FIGURE, 0);
     const size_t a = f->angles, of_side = f->sides ? a : 0, sines = f->sides ? 2 : 1;
-    if (angle_count != a || log_sine_count != a || difference_count != a || log_side_count != f->sides || sine_misclosure_count != sines
-        || divisor_count != 2 || reduced_count != a || side_reduced_count != of_side || high_count != a || low_count != a
-        || rounded_count != a || adjusted_count != a || rest_count != f->conditions)
+    if (angle_count != a || round_count != a || log_sine_count != a || difference_count != a || log_side_count != f->sides
+        || sine_misclosure_count != sines || divisor_count != 2 || reduced_count != a || side_reduced_count != of_side || high_count != a
+        || low_count != a || rounded_count != a || adjusted_count != a || adjusted_round_count != a || rest_count != f->conditions)
         return refused(WRONG_LENGTH, 0);
     struct second_work work;
-    uint32_t answer = judge_given(tolerance, MOST_TOLERANCE, angles, f->angles, NULL, 0, log_sines, differences, f->angles, log_sides,
-        f->sides);
+    uint32_t answer = judge_given(tolerance, MOST_TOLERANCE, angles, rounds, MOST_ROUNDS, f->angles, NULL, 0, log_sines, differences,
+        f->angles, log_sides, f->sides);
     if (!answer)
         answer = work_second(f, tolerance, angles, log_sines, differences, log_sides, &work);
     if (answer)
@@ -655,6 +687,7 @@ uint32_t peer_second_pass(uint32_t code, uint32_t n, uint32_t tolerance, const u
     memcpy(numerators_low, work.numerators_low, a * sizeof *numerators_low);
     memcpy(rounded, work.rounded, a * sizeof *rounded);
     memcpy(adjusted, work.adjusted, a * sizeof *adjusted);
+    memcpy(adjusted_rounds, rounds, a);
     memcpy(rests, work.rests, f->conditions * sizeof *rests);
     return 0;
 }
@@ -727,8 +760,9 @@ static void put_last_bytes(struct bits_out *out)
 
 static size_t sheet_size(uint32_t kind, const struct figure *f)
 {
-    const size_t row = ANGLE_BITS + LOG_SINE_BITS + DIFFERENCE_BITS;
-    const size_t first = 22 + ANGLE_BITS * (size_t)(f->angles + f->fixed), second = 18 + LOG_SIDE_BITS * (size_t)f->sides + row * f->angles;
+    const size_t angle = kinds[kind].rounds ? ANGLE_BITS + ROUNDS_BITS : ANGLE_BITS, row = angle + LOG_SINE_BITS + DIFFERENCE_BITS;
+    const size_t first = 22 + angle * f->angles + ANGLE_BITS * (size_t)f->fixed;
+    const size_t second = 18 + LOG_SIDE_BITS * (size_t)f->sides + row * f->angles;
     return ((is_first(kind) ? first : second) + 7) / 8;
 }
 
@@ -744,6 +778,12 @@ static uint32_t take_head(const uint8_t *sheet, size_t size, struct values *v)
     return v->figure ? 0 : refused(NO_FIGURE, 0);
 }
 
+static void take_angle(struct bits_in *in, struct values *v, uint32_t i)
+{
+    v->angles[i] = take(in, ANGLE_BITS);
+    v->rounds[i] = kinds[v->kind].rounds ? (uint8_t)take(in, ROUNDS_BITS) : 1;
+}
+
 /* Number 13 is tested before the values, so the filling is looked at once all fields are taken. */
 static uint32_t take_values(const uint8_t *sheet, size_t size, struct values *v)
 {
@@ -752,14 +792,14 @@ static uint32_t take_values(const uint8_t *sheet, size_t size, struct values *v)
     v->limit = take(&in, is_first(v->kind) ? 10 : 6);
     if (is_first(v->kind)) {
         for (uint32_t i = 0; i < f->angles; i++)
-            v->angles[i] = take(&in, ANGLE_BITS);
+            take_angle(&in, v, i);
         for (uint32_t i = 0; i < f->fixed; i++)
             v->fixed[i] = take(&in, ANGLE_BITS);
     } else {
         for (uint32_t i = 0; i < f->sides; i++)
             v->log_sides[i] = take(&in, LOG_SIDE_BITS);
         for (uint32_t i = 0; i < f->angles; i++) {
-            v->angles[i] = take(&in, ANGLE_BITS);
+            take_angle(&in, v, i);
             v->log_sines[i] = take(&in, LOG_SINE_BITS);
             const int32_t raw = (int32_t)take(&in, DIFFERENCE_BITS);
             v->differences[i] = raw < 1 << 14 ? raw : raw - (1 << 15);
@@ -771,10 +811,11 @@ static uint32_t take_values(const uint8_t *sheet, size_t size, struct values *v)
 static uint32_t judge_values(const struct values *v)
 {
     const struct figure *f = v->figure;
+    const uint8_t most = most_rounds(v->kind);
     if (is_first(v->kind))
-        return judge_given(v->limit, MOST_LIMIT, v->angles, f->angles, v->fixed, f->fixed, NULL, NULL, 0, NULL, 0);
-    return judge_given(v->limit, MOST_TOLERANCE, v->angles, f->angles, NULL, 0, v->log_sines, v->differences, f->angles, v->log_sides,
-        f->sides);
+        return judge_given(v->limit, MOST_LIMIT, v->angles, v->rounds, most, f->angles, v->fixed, f->fixed, NULL, NULL, 0, NULL, 0);
+    return judge_given(v->limit, MOST_TOLERANCE, v->angles, v->rounds, most, f->angles, NULL, 0, v->log_sines, v->differences, f->angles,
+        v->log_sides, f->sides);
 }
 
 uint32_t peer_look(const uint8_t *sheet, size_t size, uint32_t *head, size_t head_count)
@@ -783,7 +824,7 @@ uint32_t peer_look(const uint8_t *sheet, size_t size, uint32_t *head, size_t hea
     const uint32_t answer = take_head(sheet, size, &v);
     if (answer)
         return answer;
-    if (head_count != 8)
+    if (head_count != 9)
         return refused(WRONG_LENGTH, 0);
     const struct figure *f = v.figure;
     const bool first = is_first(v.kind);
@@ -795,12 +836,13 @@ uint32_t peer_look(const uint8_t *sheet, size_t size, uint32_t *head, size_t hea
     head[5] = first ? 0 : f->angles;
     head[6] = f->conditions;
     head[7] = first ? 0 : f->sides;
+    head[8] = f->angles;
     return 0;
 }
 
 uint32_t peer_read(const uint8_t *sheet, size_t size, uint32_t *head, size_t head_count, uint32_t *angles, size_t angle_count,
-    uint32_t *fixed, size_t fixed_count, uint32_t *log_sines, size_t log_sine_count, int32_t *differences, size_t difference_count,
-    uint32_t *log_sides, size_t log_side_count)
+    uint8_t *rounds, size_t round_count, uint32_t *fixed, size_t fixed_count, uint32_t *log_sines, size_t log_sine_count,
+    int32_t *differences, size_t difference_count, uint32_t *log_sides, size_t log_side_count)
 {
     struct values v;
     uint32_t answer = take_head(sheet, size, &v);
@@ -811,8 +853,8 @@ uint32_t peer_read(const uint8_t *sheet, size_t size, uint32_t *head, size_t hea
         return refused(SHEET_LENGTH, 0);
     const bool first = is_first(v.kind);
     const size_t fixed_here = first ? f->fixed : 0, sines_here = first ? 0 : f->angles, sides_here = first ? 0 : f->sides;
-    if (head_count != 4 || angle_count != f->angles || fixed_count != fixed_here || log_sine_count != sines_here
-        || difference_count != sines_here || log_side_count != sides_here)
+    if (head_count != 4 || angle_count != f->angles || round_count != f->angles || fixed_count != fixed_here
+        || log_sine_count != sines_here || difference_count != sines_here || log_side_count != sides_here)
         return refused(WRONG_LENGTH, 0);
     answer = take_values(sheet, size, &v);
     if (!answer)
@@ -824,6 +866,7 @@ uint32_t peer_read(const uint8_t *sheet, size_t size, uint32_t *head, size_t hea
     head[2] = f->n;
     head[3] = v.limit;
     memcpy(angles, v.angles, angle_count * sizeof *angles);
+    memcpy(rounds, v.rounds, round_count);
     memcpy(fixed, v.fixed, fixed_count * sizeof *fixed);
     memcpy(log_sines, v.log_sines, log_sine_count * sizeof *log_sines);
     memcpy(differences, v.differences, difference_count * sizeof *differences);
@@ -831,61 +874,72 @@ uint32_t peer_read(const uint8_t *sheet, size_t size, uint32_t *head, size_t hea
     return 0;
 }
 
-static void put_first(struct bits_out *out, uint32_t limit, const uint32_t *angles, size_t angle_count, const uint32_t *fixed,
-    size_t fixed_count)
+/* Without a kind's rounds there is nothing to put after the angle. */
+static inline void put_angle(struct bits_out *out, bool with_rounds, uint32_t angle, uint8_t rounds)
+{
+    put(out, ANGLE_BITS, angle);
+    if (with_rounds)
+        put(out, ROUNDS_BITS, rounds);
+}
+
+static void put_first(struct bits_out *out, uint32_t limit, bool with_rounds, const uint32_t *angles, const uint8_t *rounds,
+    size_t angle_count, const uint32_t *fixed, size_t fixed_count)
 {
     put(out, 10, limit);
     for (size_t i = 0; i < angle_count; i++)
-        put(out, ANGLE_BITS, angles[i]);
+        put_angle(out, with_rounds, angles[i], rounds[i]);
     for (size_t i = 0; i < fixed_count; i++)
         put(out, ANGLE_BITS, fixed[i]);
 }
 
-static void put_second(struct bits_out *out, uint32_t tolerance, const uint32_t *angles, const uint32_t *log_sines,
-    const int32_t *differences, size_t angle_count, const uint32_t *log_sides, size_t log_side_count)
+static void put_second(struct bits_out *out, uint32_t tolerance, bool with_rounds, const uint32_t *angles, const uint8_t *rounds,
+    const uint32_t *log_sines, const int32_t *differences, size_t angle_count, const uint32_t *log_sides, size_t log_side_count)
 {
     put(out, 6, tolerance);
     for (size_t i = 0; i < log_side_count; i++)
         put(out, LOG_SIDE_BITS, log_sides[i]);
     for (size_t i = 0; i < angle_count; i++) {
-        put(out, ANGLE_BITS, angles[i]);
+        put_angle(out, with_rounds, angles[i], rounds[i]);
         put(out, LOG_SINE_BITS, log_sines[i]);
         put(out, DIFFERENCE_BITS, (uint32_t)differences[i] & 0x7fff);
     }
 }
 
 static uint32_t judge_written(uint32_t kind, const struct figure *f, uint32_t limit, const uint32_t *angles, size_t angle_count,
-    const uint32_t *fixed, size_t fixed_count, const uint32_t *log_sines, size_t log_sine_count, const int32_t *differences,
-    size_t difference_count, const uint32_t *log_sides, size_t log_side_count, size_t size)
+    const uint8_t *rounds, size_t round_count, const uint32_t *fixed, size_t fixed_count, const uint32_t *log_sines,
+    size_t log_sine_count, const int32_t *differences, size_t difference_count, const uint32_t *log_sides, size_t log_side_count,
+    size_t size)
 {
     const bool first = is_first(kind);
     const uint32_t fixed_here = first ? f->fixed : 0, sines_here = first ? 0 : f->angles, sides_here = first ? 0 : f->sides;
-    if (angle_count != f->angles || fixed_count != fixed_here || log_sine_count != sines_here || difference_count != sines_here
-        || log_side_count != sides_here || size != sheet_size(kind, f))
+    if (angle_count != f->angles || round_count != f->angles || fixed_count != fixed_here || log_sine_count != sines_here
+        || difference_count != sines_here || log_side_count != sides_here || size != sheet_size(kind, f))
         return refused(WRONG_LENGTH, 0);
-    return judge_given(limit, first ? MOST_LIMIT : MOST_TOLERANCE, angles, f->angles, fixed, fixed_here, log_sines, differences,
-        sines_here, log_sides, sides_here);
+    return judge_given(limit, first ? MOST_LIMIT : MOST_TOLERANCE, angles, rounds, most_rounds(kind), f->angles, fixed, fixed_here,
+        log_sines, differences, sines_here, log_sides, sides_here);
 }
 
 uint32_t peer_write(uint32_t kind, uint32_t code, uint32_t n, uint32_t limit_or_tolerance, const uint32_t *angles, size_t angle_count,
-    const uint32_t *fixed, size_t fixed_count, const uint32_t *log_sines, size_t log_sine_count, const int32_t *differences,
-    size_t difference_count, const uint32_t *log_sides, size_t log_side_count, uint8_t *sheet, size_t size)
+    const uint8_t *rounds, size_t round_count, const uint32_t *fixed, size_t fixed_count, const uint32_t *log_sines,
+    size_t log_sine_count, const int32_t *differences, size_t difference_count, const uint32_t *log_sides, size_t log_side_count,
+    uint8_t *sheet, size_t size)
 {
     if (!is_kind(kind))
         return refused(NO_KIND, 0);
     const struct figure *f = figure_of(code, n);
     if (!f)
         return refused(NO_FIGURE, 0);
-    const uint32_t answer = judge_written(kind, f, limit_or_tolerance, angles, angle_count, fixed, fixed_count, log_sines,
-        log_sine_count, differences, difference_count, log_sides, log_side_count, size);
+    const uint32_t answer = judge_written(kind, f, limit_or_tolerance, angles, angle_count, rounds, round_count, fixed, fixed_count,
+        log_sines, log_sine_count, differences, difference_count, log_sides, log_side_count, size);
     if (answer)
         return answer;
     struct bits_out out = {sheet, 0, 0};
     put(&out, 12, kind << 8 | code << 4 | n);
+    const bool with_rounds = kinds[kind].rounds;
     if (is_first(kind))
-        put_first(&out, limit_or_tolerance, angles, angle_count, fixed, fixed_count);
+        put_first(&out, limit_or_tolerance, with_rounds, angles, rounds, angle_count, fixed, fixed_count);
     else
-        put_second(&out, limit_or_tolerance, angles, log_sines, differences, angle_count, log_sides, log_side_count);
+        put_second(&out, limit_or_tolerance, with_rounds, angles, rounds, log_sines, differences, angle_count, log_sides, log_side_count);
     put_last_bytes(&out);
     return 0;
 }
@@ -960,6 +1014,7 @@ static uint8_t *put_first_lines(uint8_t *at, const struct values *v, const struc
         at = put_next(put_number(at, i + 1), v->angles[i]);
         at = put_next(at, work->numerators[i]);
         at = put_next(put_next(at, work->rounded[i]), work->corrected[i]);
+        at = put_next(at, v->rounds[i]);
         *at++ = '\n';
     }
     for (uint32_t j = 0; j < f->conditions; j++) {
@@ -985,6 +1040,7 @@ static uint8_t *put_second_lines(uint8_t *at, const struct values *v, const stru
             at = put_next(at, work->side_reduced[i]);
         at = put_next_wide(at, from_words(work->numerators_high[i], work->numerators_low[i]));
         at = put_next(put_next(at, work->rounded[i]), work->adjusted[i]);
+        at = put_next(at, v->rounds[i]);
         *at++ = '\n';
     }
     for (uint32_t j = 0; j < f->conditions; j++) {

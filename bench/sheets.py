@@ -18,7 +18,7 @@ OF_EACH = 16
 def some_sheet(kind, figure, rng):
     if is_first(kind):
         return first_sheet(figure, rng, some_limit(rng), kind=kind)
-    return second_sheet(figure, rng, rng.randint(0, LARGEST_TOLERANCE), some_differences(figure, rng, 700))
+    return second_sheet(figure, rng, rng.randint(0, LARGEST_TOLERANCE), some_differences(figure, rng, 700), kind=kind)
 
 
 def accepted(kind, figure, rng):

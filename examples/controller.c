@@ -1,4 +1,5 @@
-/* Works one packed sheet, from a file or standard input, and prints the corrected angles in degrees, minutes and seconds:
+/* Works one packed sheet, from a file or standard input, and prints the corrected angles in degrees, minutes and seconds, each with
+ * its rounds:
  *
  *     controller [SHEET]
  *
@@ -13,6 +14,7 @@
 struct desk {
     uint32_t head[BIENGULOC_LOOK_HEAD], read_head[BIENGULOC_READ_HEAD];
     uint32_t angles[BIENGULOC_MOST_ANGLES], fixed[BIENGULOC_MOST_FIXED], log_sines[BIENGULOC_MOST_ANGLES];
+    uint8_t rounds[BIENGULOC_MOST_ANGLES];
     int32_t differences[BIENGULOC_MOST_ANGLES];
     uint32_t log_sides[BIENGULOC_MOST_LOG_SIDES];
     int32_t misclosures[BIENGULOC_MOST_CONDITIONS], rests[BIENGULOC_MOST_CONDITIONS];
@@ -23,6 +25,7 @@ struct desk {
     int64_t numerators_high[BIENGULOC_MOST_ANGLES];
     uint64_t numerators_low[BIENGULOC_MOST_ANGLES];
     uint32_t results[BIENGULOC_MOST_ANGLES];
+    uint8_t result_rounds[BIENGULOC_MOST_ANGLES];
 };
 
 /* The pass does not know the sheet's kind: a 0 on a sheet of kind 1 stands for another default than the pass's own. */
@@ -36,8 +39,9 @@ static uint32_t first_pass(struct desk *d, size_t angles, size_t conditions)
 {
     const uint32_t *h = d->read_head;
     return bienguloc_first_pass(h[BIENGULOC_HEAD_CODE], h[BIENGULOC_HEAD_N], limit_of(h),
-        d->angles, angles, d->fixed, d->head[BIENGULOC_LOOK_FIXED],
-        d->misclosures, conditions, d->numerators, angles, d->rounded, angles, d->results, angles, d->rests, conditions);
+        d->angles, angles, d->rounds, d->head[BIENGULOC_LOOK_ROUNDS], d->fixed, d->head[BIENGULOC_LOOK_FIXED],
+        d->misclosures, conditions, d->numerators, angles, d->rounded, angles,
+        d->results, angles, d->result_rounds, angles, d->rests, conditions);
 }
 
 /* A figure with log sides has a second sine condition, and so a second misclosure and reduced coefficients of its own. */
@@ -46,9 +50,11 @@ static uint32_t second_pass(struct desk *d, size_t angles, size_t conditions)
     const uint32_t *h = d->read_head;
     const size_t log_sides = d->head[BIENGULOC_LOOK_LOG_SIDES];
     return bienguloc_second_pass(h[BIENGULOC_HEAD_CODE], h[BIENGULOC_HEAD_N], h[BIENGULOC_READ_LIMIT_OR_TOLERANCE],
-        d->angles, angles, d->log_sines, angles, d->differences, angles, d->log_sides, log_sides,
+        d->angles, angles, d->rounds, d->head[BIENGULOC_LOOK_ROUNDS],
+        d->log_sines, angles, d->differences, angles, d->log_sides, log_sides,
         d->sine_misclosures, log_sides ? 2 : 1, d->divisor, 2, d->reduced, angles, d->side_reduced, log_sides ? angles : 0,
-        d->numerators_high, angles, d->numerators_low, angles, d->rounded, angles, d->results, angles, d->rests, conditions);
+        d->numerators_high, angles, d->numerators_low, angles, d->rounded, angles,
+        d->results, angles, d->result_rounds, angles, d->rests, conditions);
 }
 
 /* A look gives the counts, the reader the values, the pass of the sheet's kind the results: the second where it has log-sines. */
@@ -58,19 +64,19 @@ static uint32_t work(const uint8_t *sheet, size_t size, struct desk *d)
     if (answer != BIENGULOC_DONE)
         return answer;
     const size_t angles = d->head[BIENGULOC_LOOK_ANGLES], sines = d->head[BIENGULOC_LOOK_LOG_SINES];
-    answer = bienguloc_read(sheet, size, d->read_head, BIENGULOC_READ_HEAD, d->angles, angles,
-        d->fixed, d->head[BIENGULOC_LOOK_FIXED], d->log_sines, sines, d->differences, sines,
-        d->log_sides, d->head[BIENGULOC_LOOK_LOG_SIDES]);
+    answer = bienguloc_read(sheet, size, d->read_head, BIENGULOC_READ_HEAD,
+        d->angles, angles, d->rounds, d->head[BIENGULOC_LOOK_ROUNDS], d->fixed, d->head[BIENGULOC_LOOK_FIXED],
+        d->log_sines, sines, d->differences, sines, d->log_sides, d->head[BIENGULOC_LOOK_LOG_SIDES]);
     if (answer != BIENGULOC_DONE)
         return answer;
     const size_t conditions = d->head[BIENGULOC_LOOK_CONDITIONS];
     return sines ? second_pass(d, angles, conditions) : first_pass(d, angles, conditions);
 }
 
-static void print_angle(uint32_t number, uint32_t tenths)
+static void print_angle(uint32_t number, uint32_t tenths, uint8_t rounds)
 {
-    printf("%2" PRIu32 "  %3" PRIu32 " %02" PRIu32 " %02" PRIu32 ".%" PRIu32 "\n", number, tenths / 36000, tenths / 600 % 60,
-        tenths / 10 % 60, tenths % 10);
+    printf("%2" PRIu32 "  %3" PRIu32 " %02" PRIu32 " %02" PRIu32 ".%" PRIu32 "  %3" PRIu8 "\n", number, tenths / 36000, tenths / 600 % 60,
+        tenths / 10 % 60, tenths % 10, rounds);
 }
 
 static void print_answer(uint32_t answer, const struct desk *d)
@@ -78,7 +84,7 @@ static void print_answer(uint32_t answer, const struct desk *d)
     if (answer != BIENGULOC_DONE)
         printf("refused %" PRIu32 " %" PRIu32 "\n", BIENGULOC_NUMBER(answer), BIENGULOC_PLACE(answer));
     for (uint32_t i = 0; answer == BIENGULOC_DONE && i < d->head[BIENGULOC_LOOK_ANGLES]; i++)
-        print_angle(i + 1, d->results[i]);
+        print_angle(i + 1, d->results[i], d->result_rounds[i]);
 }
 
 int main(int argc, char **argv)

@@ -40,19 +40,26 @@ def figure_named(code, n):
     return figure_of(code, n) or quadrilateral()._replace(code=code, n=n)
 
 
+def rounds_of(values, angles):
+    """One of each angle where the sheet has none."""
+    return values.rounds[: len(angles)] or (1,) * len(angles)
+
+
 def first_sheet(values):
     angles = tuple(map(tenths, cells(values.angles)))
     fixed = tuple(map(tenths, cells(values.fixed))) if values.fixed else ()
-    return Sheet(values.kind, figure_named(values.code, values.n), values.limit, angles, fixed=fixed)
+    return Sheet(values.kind, figure_named(values.code, values.n), values.limit, angles, rounds_of(values, angles), fixed=fixed)
 
 
 def second_sheet(values):
     entries = cells(values.rows)
+    angles = tuple(map(tenths, entries[0::3]))
     return Sheet(
-        2,
+        values.kind,
         figure_named(values.code, values.n),
         values.tolerance,
-        tuple(map(tenths, entries[0::3])),
+        angles,
+        rounds_of(values, angles),
         log_sines=tuple(whole(log_sine, 7) for log_sine in entries[1::3]),
         differences=tuple(whole(difference, 2) for difference in entries[2::3]),
         log_sides=tuple(whole(side, 7) for side in cells(values.sides)) if values.sides else (),
@@ -64,8 +71,8 @@ def bytes_of(values):
 
 
 def broken(sheet, how):
-    if how == "kind 4":
-        return bytes([4 << 4 | sheet[0] & 0x0F]) + sheet[1:]
+    if how == "kind 6":
+        return bytes([6 << 4 | sheet[0] & 0x0F]) + sheet[1:]
     if how == "last bit 1":
         return sheet[:-1] + bytes([sheet[-1] | 1])
     return {"empty": b"", "one byte too long": sheet + b"\0", "one byte too short": sheet[:-1]}[how]

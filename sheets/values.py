@@ -2,14 +2,14 @@
 
 Angles are in degrees, minutes and seconds, log-sines have 10 added, differences are for 1" in units of the sixth decimal.
 A first sheet lists its angles in their order; a second sheet has one row for each angle: angle, log-sine, difference; and
-before them the log sides, where the figure has any.
+before them the log sides, where the figure has any. Of a sheet that has them, the rounds stand in the order of the angles.
 """
 
 from typing import NamedTuple
 
 
 class First(NamedTuple):
-    """A sheet of kind 1 or 3."""
+    """A sheet of kind 1, 3 or 4."""
 
     code: int
     n: int
@@ -17,20 +17,23 @@ class First(NamedTuple):
     angles: str
     fixed: str = ""
     kind: int = 1
+    rounds: tuple = ()  # of each angle, in kind 4
 
 
 class Second(NamedTuple):
-    """A sheet of kind 2."""
+    """A sheet of kind 2 or 5."""
 
     code: int
     n: int
     tolerance: int  # e in seconds, 0 for the default
     rows: str
     sides: str = ""
+    kind: int = 2
+    rounds: tuple = ()  # of each angle, in kind 5
 
 
 # Document 01, "Sheets worked through": the two sheets whose printed text it gives. In the first M-105 has halves go to even: document
-# 02 overrides six corrections, six results and a rest.
+# 02 overrides six corrections, six results and a rest. In both M-106 has an angle's line end in its rounds, one on sheets of these kinds.
 DOCUMENT = {
     "document-01-first": First(
         code=1,
@@ -61,28 +64,28 @@ DOCUMENT = {
 DOCUMENT_TEXT = {
     "document-01-first": """\
 figure 1 0 denominator 8
-1 1620004 -12 -2 1620002
-2 1620000 -12 -2 1619998
-3 1620000 -4 0 1620000
-4 1620000 -4 0 1620000
-5 1620000 4 0 1620000
-6 1620000 4 0 1620000
-7 1620000 -4 0 1620000
-8 1620000 -4 0 1620000
+1 1620004 -12 -2 1620002 1
+2 1620000 -12 -2 1619998 1
+3 1620000 -4 0 1620000 1
+4 1620000 -4 0 1620000 1
+5 1620000 4 0 1620000 1
+6 1620000 4 0 1620000 1
+7 1620000 -4 0 1620000 1
+8 1620000 -4 0 1620000 1
 condition 1 4 0
 condition 2 0 0
 condition 3 0 0
 """,
     "document-01-second": """\
 figure 1 0 W 100 S 24315176
-1 1620000 2049 -163920000 -7 1619993
-2 1620000 -1703 136240000 6 1620006
-3 1620000 1483 -118640000 -5 1619995
-4 1620000 -1829 146320000 6 1620006
-5 1620000 1977 -158160000 -7 1619993
-6 1620000 -1631 130480000 5 1620005
-7 1620000 1415 -113200000 -5 1619995
-8 1620000 -1761 140880000 6 1620006
+1 1620000 2049 -163920000 -7 1619993 1
+2 1620000 -1703 136240000 6 1620006 1
+3 1620000 1483 -118640000 -5 1619995 1
+4 1620000 -1829 146320000 6 1620006 1
+5 1620000 1977 -158160000 -7 1619993 1
+6 1620000 -1631 130480000 5 1620005 1
+7 1620000 1415 -113200000 -5 1619995 1
+8 1620000 -1761 140880000 6 1620006 1
 condition 1 0
 condition 2 -1
 condition 3 -1
@@ -524,6 +527,17 @@ KIND_3 = {
     if isinstance(values, First)
 }
 
+# How often the angles of a figure were observed, angle 1 first; a smaller figure has the first of these counts.
+ROUNDS = (9, 6, 12, 4, 6, 9, 2, 255, 1, 12, 8, 3, 16, 6, 10, 24, 5, 7, 100, 18, 2, 11, 20, 15)
+
+# Document 02, M-106: the sheets of document 01 and of each figure with rounds, the first as ones of kind 4 and the second of kind 5.
+KIND_4 = {name.replace("-kind-3", "-kind-4"): values._replace(kind=4, rounds=ROUNDS) for name, values in KIND_3.items()}
+KIND_5 = {
+    name.replace("-second", "-kind-5"): values._replace(kind=5, rounds=ROUNDS)
+    for name, values in {**DOCUMENT, **EACH_FIGURE}.items()
+    if isinstance(values, Second)
+}
+
 QUADRILATERAL = EACH_FIGURE["quadrilateral-first"]
 POINT_IN_TRIANGLE = EACH_FIGURE["point-in-triangle-first"]
 POINT_IN_QUADRILATERAL = EACH_FIGURE["point-in-quadrilateral-first"]
@@ -684,15 +698,17 @@ REFUSED = {
         14,
         0,
     ),
+    "refused-16-no-rounds-of-angle-8": (KIND_4["quadrilateral-kind-4"]._replace(rounds=(9, 6, 12, 4, 6, 9, 2, 0)), 16, 8),
+    "refused-16-no-rounds-of-angles-1-and-5": (KIND_5["document-01-kind-5"]._replace(rounds=(0, 6, 12, 4, 0, 9, 2, 1)), 16, 1),
 }
 
 # Sheets that no values make: another sheet's bytes, changed. Each with what is done and the number it is refused with.
 BROKEN = {
-    "refused-11-kind-4": ("quadrilateral-first", "kind 4", 11),
+    "refused-11-kind-6": ("quadrilateral-first", "kind 6", 11),
     "refused-12-empty": ("quadrilateral-first", "empty", 12),
     "refused-12-one-byte-too-long": ("quadrilateral-first", "one byte too long", 12),
     "refused-12-one-byte-too-short": ("quadrilateral-first", "one byte too short", 12),
-    "refused-12-one-byte-past-the-longest": ("polygon-8-second", "one byte too long", 12),
+    "refused-12-one-byte-past-the-longest": ("polygon-8-kind-5", "one byte too long", 12),
     "refused-13-last-filling-bit": ("quadrilateral-first", "last bit 1", 13),
 }
 
@@ -701,6 +717,8 @@ BY_VALUES = {
     **BOOKS,
     **EACH_FIGURE,
     **KIND_3,
+    **KIND_4,
+    **KIND_5,
     **JUST_ACCEPTED,
     **{name: values for name, (values, _, _) in REFUSED.items()},
 }

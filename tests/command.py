@@ -21,6 +21,7 @@ ADJUST = ROOT / "bin" / "adjust"
 WORKED = ROOT / "sheets" / "document-01-first.sheet"
 TEXT = WORKED.with_suffix(".expected").read_text(encoding="ascii")
 REFUSED = b"\x00"
+LONGEST = ROOT / "sheets" / "polygon-8-kind-5.sheet"
 PATIENCE = 900  # seconds: the first run may have to build the program
 TOOLS = "bash cat chmod cp env find git mkdir mv readlink rm sleep".split()
 
@@ -80,6 +81,9 @@ def try_sheets(folder):
     expect("a worked sheet", call([ADJUST], input=sheet), (0, TEXT, ""))
     expect("a refused sheet", call([ADJUST], input=REFUSED), (1, "refused 12 0\n", ""))
     expect("an empty sheet", call([ADJUST], input=b""), (1, "refused 12 0\n", ""))
+    longest = LONGEST.read_bytes()
+    expect("the longest sheet", call([ADJUST], input=longest), (0, LONGEST.with_suffix(".expected").read_text(encoding="ascii"), ""))
+    expect("one byte more than the longest", call([ADJUST], input=longest + b"\0"), (1, "refused 12 0\n", ""))
     expect("a sheet by its name", call([ADJUST, WORKED]), (0, f"{WORKED}:\n{TEXT}", ""))
     expect("one of two refused", call([ADJUST, refused, WORKED]), (1, f"{refused}:\nrefused 12 0\n{WORKED}:\n{TEXT}", ""))
     expect("- is standard input", call([ADJUST, "-", WORKED], input=REFUSED), (1, f"-:\nrefused 12 0\n{WORKED}:\n{TEXT}", ""))

@@ -15,7 +15,7 @@ from concurrent.futures import ThreadPoolExecutor
 from pathlib import Path
 from typing import NamedTuple
 
-from independent import work
+from independent import BYTES_HELD, work
 from made_sheets import made_sheets, print_reached, reached
 from packed import Refused, read_sheet, write_sheet
 
@@ -91,7 +91,7 @@ def complaint(command, check):
 
 
 def tell(check, wrong):
-    print(f"FAILED {check.name}\nsheet {check.sheet[:200].hex()}\nexpected\n{check.expected}the program {wrong}")
+    print(f"FAILED {check.name}\nsheet {check.sheet[:BYTES_HELD].hex()}\nexpected\n{check.expected}the program {wrong}")
 
 
 def independent_complaint(check):

@@ -16,7 +16,7 @@ from figures import (
 )
 from packed import FIRST, KINDS, LARGEST_ANGLE, SECOND, Refused, read_sheet, refuse_first
 
-BYTES_HELD = 199  # "The program holds 199 bytes at once, so that a longer sheet is seen."
+BYTES_HELD = 223  # M-106, where document 01 has 199: one more than the longest sheet, "so that a longer sheet is seen"
 DEFAULTS = {FIRST: 90, SECOND: 10}  # what 0 stands for in a pass that is called directly: L by M-102, e by document 01
 
 
@@ -25,6 +25,7 @@ class FirstPass(NamedTuple):
     numerators: list
     rounded: list
     results: list
+    rounds: list  # of each result: those of its angle, unchanged (M-106)
     rests: list
 
 
@@ -35,6 +36,7 @@ class SecondPass(NamedTuple):
     numerators: list
     rounded: list
     results: list
+    rounds: list  # of each result: those of its angle, unchanged (M-106)
     rests: list
 
 
@@ -62,7 +64,7 @@ def first_pass(sheet):
     rounded = [rounded_quotient(numerator, figure.denominator) for numerator in numerators]
     results = corrected(sheet.angles, rounded)
     rests = [w + change for w, change in zip(misclosures, condition_sums(figure, rounded))]
-    return FirstPass(misclosures, numerators, rounded, results, rests)
+    return FirstPass(misclosures, numerators, rounded, results, list(sheet.rounds), rests)
 
 
 def check_tolerance(tolerance, sine_misclosure, signed_differences):
@@ -127,7 +129,7 @@ def second_pass(sheet):
     rounded = [rounded_quotient(numerator, divisor) for numerator in numerators]
     results = corrected(sheet.angles, rounded)
     rests = condition_sums(figure, rounded)
-    return SecondPass(sine_misclosures, divisor, reduced, numerators, rounded, results, rests)
+    return SecondPass(sine_misclosures, divisor, reduced, numerators, rounded, results, list(sheet.rounds), rests)
 
 
 def numbered(*columns):
@@ -137,7 +139,7 @@ def numbered(*columns):
 def first_lines(sheet, done):
     figure = sheet.figure
     yield "figure", figure.code, figure.n, "denominator", figure.denominator
-    yield from numbered(sheet.angles, done.numerators, done.rounded, done.results)
+    yield from numbered(sheet.angles, done.numerators, done.rounded, done.results, done.rounds)
     for row in numbered(done.misclosures, done.rests):
         yield "condition", *row
 
@@ -146,7 +148,7 @@ def second_lines(sheet, done):
     figure = sheet.figure
     divisor = "S" if len(figure.sines) == 1 else "determinant"
     yield "figure", figure.code, figure.n, "W", *done.sine_misclosures, divisor, done.divisor
-    yield from numbered(sheet.angles, *done.reduced, done.numerators, done.rounded, done.results)
+    yield from numbered(sheet.angles, *done.reduced, done.numerators, done.rounded, done.results, done.rounds)
     for row in numbered(done.rests):
         yield "condition", *row
 

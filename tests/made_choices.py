@@ -58,7 +58,7 @@ def stout_sheet(figure, misclosures, rng):
     while True:
         found = closing_angles(figure, misclosures, lambda low, high: rng.randint((3 * low + high) // 4, (low + 3 * high) // 4))
         if found and all(FAR <= angle <= LARGEST_ANGLE - FAR for angle in found[0]):
-            return Sheet(3, figure, LARGEST_LIMIT, found[0], fixed=found[1])
+            return Sheet(3, figure, LARGEST_LIMIT, found[0], (1,) * figure.angle_count, fixed=found[1])
 
 
 def choice_sheets(each):

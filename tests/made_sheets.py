@@ -3,9 +3,9 @@
 
 The same sheets come out every time. Run as a program it tells how many there are and which refusal numbers they reach.
 
-Every number of document 01's table, and 14 of M-101, is reached but one. Number 2 is about a slice that a caller lends: the
-program lends slices of exactly the sheet's counts, which it has from the sheet's own head, so no sheet can bring it about.
-Nor can one bring about 15 of M-104, which is about corrections that a caller offers.
+Every number of document 01's table, 14 of M-101 and 16 of M-106 is reached but one. Number 2 is about a slice that a caller
+lends: the program lends slices of exactly the sheet's counts, which it has from the sheet's own head, so no sheet can bring it
+about. Nor can one bring about 15, which M-104 gives a choice of corrections that a caller offers.
 The ones that need care:
 - 1 comes after 11 and before 12, so it shows on sheets of any length from two bytes.
 - 7 of the first pass needs an angle within a few tenths of an end of its range in a figure that still closes: needles.
@@ -13,8 +13,9 @@ The ones that need care:
   is 0), or signed differences that are a sum of conditions, which wants some of them negative. Of two sine conditions it is
   enough that one's reduced coefficients are a multiple of the other's.
 - 9 comes after 10, so it needs a difference that counts.
-- 12 of a sheet longer than the 199 bytes that the program holds looks like 12 of 199 bytes.
+- 12 of a sheet longer than the 223 bytes that the program holds looks like 12 of 223 bytes.
 - 14 needs fixed angles within their range. Elsewhere they sum as they must, or 6 and 7 of code 2 would not be seen.
+- 16 needs a kind that has rounds: their field holds 0 to 255, of which 0 alone is outside.
 """
 
 import random
@@ -34,6 +35,7 @@ from packed import (
     LARGEST_LIMIT,
     LARGEST_LOG_SIDE,
     LARGEST_LOG_SINE,
+    LARGEST_ROUNDS,
     LARGEST_TOLERANCE,
     LIMIT_BITS,
     LOG_SIDE_BITS,
@@ -48,14 +50,18 @@ from packed import (
 )
 
 SEED = 1978
+NUMBERS = range(1, 17)
 UNREACHABLE = {2, 15}
 
 FIRST_KINDS = [kind for kind in KINDS if is_first(kind)]
+SECOND_KINDS = [kind for kind in KINDS if not is_first(kind)]
+KINDS_WITH_ROUNDS = [kind for kind in KINDS if KINDS[kind].has_rounds]
 FIRST_DEFAULTS = [KINDS[kind].default for kind in FIRST_KINDS]
 
 SIGN_BIT = 1 << (DIFFERENCE_BITS - 1)
 MOST_IN_LIMIT = (1 << LIMIT_BITS) - 1
 MOST_IN_TOLERANCE = (1 << TOLERANCE_BITS) - 1
+MOST_LENGTH = 234  # every length of a sheet up to this is tried: some bytes past the 223 that the program holds
 
 OUTSIDE_ANGLES = (0, LARGEST_ANGLE + 1, (1 << ANGLE_BITS) - 1)
 OUTSIDE_LOG_SINES = (0, LARGEST_LOG_SINE + 1, (1 << LOG_SINE_BITS) - 1)
@@ -77,6 +83,13 @@ def with_value(values, place, value):
 
 def some_limit(rng):
     return rng.choice((0, 1, 20, *FIRST_DEFAULTS, LARGEST_LIMIT, rng.randint(1, LARGEST_LIMIT)))
+
+
+def some_rounds(kind, figure, rng):
+    """Of each angle; one each where the sheet has no place for them."""
+    if not KINDS[kind].has_rounds:
+        return (1,) * figure.angle_count
+    return tuple(rng.choice((1, 2, LARGEST_ROUNDS, rng.randint(1, LARGEST_ROUNDS))) for _ in range(figure.angle_count))
 
 
 def misclosures_within(figure, limit, rng):
@@ -103,7 +116,7 @@ def first_sheet(figure, rng, limit=0, misclosures=None, needle=False, over=0, ki
         wanted = misclosures or misclosures_within(figure, limit or KINDS[kind].default, rng)
         found = closing_angles(figure, wanted, choose, over)
         if found:
-            return Sheet(kind, figure, limit, found[0], fixed=found[1])
+            return Sheet(kind, figure, limit, found[0], some_rounds(kind, figure, rng), fixed=found[1])
 
 
 def largest_sine_misclosure(sine, tolerance, differences):
@@ -156,19 +169,20 @@ def some_differences(figure, rng, largest=None):
     return tuple(rng.randint(-largest, largest) for _ in figure.pole_signs)
 
 
-def second_sheet(figure, rng, tolerance=0, differences=None, sine_misclosures=None, log_sides=None):
-    """A sheet of kind 2 within its tolerance, unless a given W goes beyond it."""
+def second_sheet(figure, rng, tolerance=0, differences=None, sine_misclosures=None, log_sides=None, kind=2):
+    """A sheet of the second pass within its tolerance, unless a given W goes beyond it."""
     differences = differences or some_differences(figure, rng)
     wanted = sine_misclosures or misclosures_within_tolerance(figure, tolerance, differences, rng)
     angles = tuple(rng.randint(36_000, LARGEST_ANGLE - 36_000) for _ in figure.pole_signs)
     log_sines, sides = entries_with(figure, wanted, rng, log_sides)
-    return Sheet(2, figure, tolerance, angles, log_sines=log_sines, differences=differences, log_sides=sides)
+    rounds = some_rounds(kind, figure, rng)
+    return Sheet(kind, figure, tolerance, angles, rounds, log_sines=log_sines, differences=differences, log_sides=sides)
 
 
 def ordinary_sheet(kind, figure, rng):
     if is_first(kind):
         return first_sheet(figure, rng, kind=kind)
-    return second_sheet(figure, rng, differences=some_differences(figure, rng, 700))
+    return second_sheet(figure, rng, differences=some_differences(figure, rng, 700), kind=kind)
 
 
 def each_kind_and_figure():
@@ -178,7 +192,8 @@ def each_kind_and_figure():
 def good_sheet(kind, figure, rng):
     if is_first(kind):
         return first_sheet(figure, rng, some_limit(rng), kind=kind)
-    return second_sheet(figure, rng, rng.choice((0, 1, 10, LARGEST_TOLERANCE, rng.randint(1, LARGEST_TOLERANCE))))
+    tolerance = rng.choice((0, 1, 10, LARGEST_TOLERANCE, rng.randint(1, LARGEST_TOLERANCE)))
+    return second_sheet(figure, rng, tolerance, kind=kind)
 
 
 def good_sheets(rng):
@@ -203,11 +218,11 @@ def limits(rng):
         for limit in (0, 1, KINDS[kind].default, LARGEST_LIMIT - 1, LARGEST_LIMIT, LARGEST_LIMIT + 1, MOST_IN_LIMIT):
             sheet = first_sheet(figure, rng, min(limit, LARGEST_LIMIT), kind=kind)
             yield f"limit {limit} {label(kind, figure)}", sheet._replace(limit=limit)
-    for figure in FIGURES:
+    for kind, figure in product(SECOND_KINDS, FIGURES):
         largest = LARGEST_TOLERANCE
-        for tolerance in (0, 1, KINDS[2].default, largest - 1, largest, largest + 1, MOST_IN_TOLERANCE):
-            sheet = second_sheet(figure, rng, min(tolerance, largest))
-            yield f"tolerance {tolerance} {label(2, figure)}", sheet._replace(limit=tolerance)
+        for tolerance in (0, 1, KINDS[kind].default, largest - 1, largest, largest + 1, MOST_IN_TOLERANCE):
+            sheet = second_sheet(figure, rng, min(tolerance, largest), kind=kind)
+            yield f"tolerance {tolerance} {label(kind, figure)}", sheet._replace(limit=tolerance)
 
 
 def misclosures_at_the_limit(rng):
@@ -246,6 +261,56 @@ def angles_at_the_edge(rng):
                 yield f"angle {place} of {angle} {label(kind, figure)}", sheet._replace(
                     angles=with_value(sheet.angles, place, angle)
                 )
+
+
+def rounds_at_the_edge(rng):
+    """Number 16 at every place; one round and 255 are accepted."""
+    for kind, figure in product(KINDS_WITH_ROUNDS, FIGURES):
+        for place in range(1, figure.angle_count + 1):
+            for rounds in outside_and_edge((0,), (1, LARGEST_ROUNDS), place, figure.angle_count):
+                sheet = ordinary_sheet(kind, figure, rng)
+                yield f"{rounds} rounds of angle {place} {label(kind, figure)}", sheet._replace(
+                    rounds=with_value(sheet.rounds, place, rounds)
+                )
+
+
+def rounds_of_their_own(rng):
+    """Each angle has its own count, and all have the same: none is lost, and none belongs to a neighbour."""
+    for kind, figure in product(KINDS_WITH_ROUNDS, FIGURES):
+        count = figure.angle_count
+        for rounds in (range(1, count + 1), range(LARGEST_ROUNDS, LARGEST_ROUNDS - count, -1), (1,) * count, (LARGEST_ROUNDS,) * count):
+            sheet = ordinary_sheet(kind, figure, rng)._replace(rounds=tuple(rounds))
+            yield f"rounds {rounds[0]} to {rounds[-1]} {label(kind, figure)}", sheet
+
+
+def rounds_of_0_among_others(rng):
+    """The lowest of several places is named; after 4, and before whatever comes later in the order."""
+    for kind, figure in product(KINDS_WITH_ROUNDS, FIGURES):
+        count = figure.angle_count
+        for places in ((1, count), (2, count), (count - 1, count), range(1, count + 1)):
+            sheet = ordinary_sheet(kind, figure, rng)
+            rounds = tuple(0 if place in places else own for place, own in enumerate(sheet.rounds, start=1))
+            yield f"no rounds of {len(places)} angles {label(kind, figure)}", sheet._replace(rounds=rounds)
+        for sheet in turned_back_later(kind, figure, rng):
+            yield f"no rounds, and more {label(kind, figure)}", spoil_rounds(sheet, rng)
+        for first, last in ((1, count), (count, 1), (count, count)):
+            sheet = ordinary_sheet(kind, figure, rng)
+            yield f"angle {first} of 0 and no rounds of {last} {label(kind, figure)}", sheet._replace(
+                angles=with_value(sheet.angles, first, 0), rounds=with_value(sheet.rounds, last, 0)
+            )
+
+
+def turned_back_later(kind, figure, rng):
+    """Sheets that give 6 or 14, or 10 or 9."""
+    if not is_first(kind):
+        yield second_sheet(figure, rng, differences=(0,) * figure.angle_count, sine_misclosures=(1,) * len(figure.sines), kind=kind)
+        differences = some_differences(figure, rng, 700)
+        beyond = tuple(1 + largest_sine_misclosure(sine, 0, differences) for sine in figure.sines)
+        yield second_sheet(figure, rng, 0, differences, beyond, kind=kind)
+        return
+    yield first_sheet(figure, rng, misclosures=(KINDS[kind].default + 1,) * len(figure.conditions), kind=kind)
+    if figure.fixed_count:
+        yield first_sheet(figure, rng, over=1, kind=kind)
 
 
 def figures_with_fixed_angles():
@@ -384,7 +449,8 @@ def needles_near_180_degrees(figure, limit, result, rng):
         largest = max(found[0]) if found else 0
         if largest > LARGEST_ANGLE - 100:
             place = found[0].index(largest) + 1
-            moved = with_first_result(Sheet(1, figure, limit, found[0], fixed=found[1]), place, misclosures, result)
+            once = (1,) * figure.angle_count
+            moved = with_first_result(Sheet(1, figure, limit, found[0], once, fixed=found[1]), place, misclosures, result)
             if moved:
                 yield place, moved
 
@@ -700,10 +766,10 @@ def filling_bits_set(rng):
 
 
 def every_length(rng):
-    """0 to 210 bytes: a short sheet and the longest one, cut off or run on, and noise; then lengths past any buffer."""
+    """From no byte on: a short sheet and the longest one, cut off or run on, and noise; then lengths past any buffer."""
     short = packed_values(ordinary_sheet(1, figure_of(1, 0), rng))
-    longest = packed_values(ordinary_sheet(2, figure_of(3, 8), rng))
-    for length in range(211):
+    longest = packed_values(ordinary_sheet(5, figure_of(3, 8), rng))
+    for length in range(MOST_LENGTH + 1):
         yield f"short sheet of length {length}", short[:length].ljust(length, b"\0")
         yield f"longest sheet of length {length}", longest[:length].ljust(length, b"\0")
         yield f"noise of length {length}", rng.randbytes(length)
@@ -761,6 +827,10 @@ def spoil_angle(sheet, rng):
     return sheet._replace(angles=spoiled(sheet.angles, OUTSIDE_ANGLES, rng))
 
 
+def spoil_rounds(sheet, rng):
+    return sheet._replace(rounds=spoiled(sheet.rounds, (0,), rng))
+
+
 def spoil_fixed_sum(sheet, rng):
     """One fixed angle a tenth larger, for which `closing_angles` leaves room."""
     place = rng.randint(1, len(sheet.fixed))
@@ -784,10 +854,10 @@ def spoil_log_side(sheet, rng):
 
 
 def spoilers(kind, figure):
+    values = (spoil_limit, spoil_angle, spoil_rounds) if KINDS[kind].has_rounds else (spoil_limit, spoil_angle)
     if not is_first(kind):
-        entries = (spoil_limit, spoil_angle, spoil_log_sine, spoil_difference)
+        entries = (*values, spoil_log_sine, spoil_difference)
         return (*entries, spoil_log_side) if figure.side_count else entries
-    values = (spoil_limit, spoil_angle)
     return (*values, spoil_fixed_sum, spoil_fixed_angle) if figure.fixed_count else values
 
 
@@ -806,6 +876,9 @@ GROUPS = (
     misclosures_at_the_limit,
     several_misclosures_beyond,
     angles_at_the_edge,
+    rounds_at_the_edge,
+    rounds_of_their_own,
+    rounds_of_0_among_others,
     fixed_angles_at_the_edge,
     edge_fixed_angles_that_sum,
     fixed_angles_that_do_not_sum,
@@ -868,7 +941,7 @@ def print_reached(found):
     for number in sorted(found):
         count, first = found[number]
         print(f"{count:6} {'refused ' + str(number) if number else 'accepted':11} first by {first}")
-    missing = set(range(1, 16)) - found.keys()
+    missing = set(NUMBERS) - found.keys()
     print(f"       not reached: {sorted(missing)}; no sheet can reach: {sorted(UNREACHABLE)}")
     return missing == UNREACHABLE
 

@@ -1,5 +1,5 @@
 #!/usr/bin/env python3
-"""The independent computation held against document 01's worked cases, document 02's M-100 to M-105 and the published examples.
+"""The independent computation held against document 01's worked cases, document 02's M-100 to M-106 and the published examples.
 
 The program is not run here: this says that what it is compared with is right.
 """
@@ -35,16 +35,17 @@ from figures import (
 from independent import first_pass, rounded_quotient, second_pass, signed_values, work, worked
 from made_choices import choice_sheets, offers
 from made_sheets import EVERY_SORT, halves, halves_of_the_first_pass, halves_of_two, sorts_of_halves
-from packed import Bits, Refused, Sheet, is_first, packed_values, read_sheet, read_values, sheet_size, write_sheet
+from packed import KINDS, Bits, Refused, Sheet, is_first, packed_values, read_sheet, read_values, sheet_size, used_bits, write_sheet
 
 SHEETS = Path(__file__).resolve().parent.parent / "sheets"
 sys.path.insert(0, str(SHEETS))
 
-from values import BOOKS, DOCUMENT_TEXT, EACH_FIGURE, KIND_3, Second  # noqa: E402
+from values import BOOKS, DOCUMENT_TEXT, EACH_FIGURE, KIND_3, KIND_4, KIND_5, ROUNDS, Second  # noqa: E402
 
 QUADRILATERAL = figure_of(1, 0)
 POINT_IN_QUADRILATERAL = figure_of(2, 4)
 FORTY_FIVE_DEGREES = 1_620_000
+ONCE = (1,) * 8
 LOG_SINE_OF_45 = 98_494_850
 CASE_6_SIGNED = (300, -169, 143, -271, 203, -248, 219, -178)
 CASE_6_REDUCED = [2049, -1703, 1483, -1829, 1977, -1631, 1415, -1761]
@@ -56,13 +57,13 @@ def sample(name):
 
 def first_quadrilateral(first_angle, limit=0):
     """All angles 45 degrees but the first."""
-    return Sheet(1, QUADRILATERAL, limit, (first_angle,) + (FORTY_FIVE_DEGREES,) * 7)
+    return Sheet(1, QUADRILATERAL, limit, (first_angle,) + (FORTY_FIVE_DEGREES,) * 7, ONCE)
 
 
 def second_quadrilateral(sine_misclosure, differences):
     log_sines = (LOG_SINE_OF_45 + sine_misclosure,) + (LOG_SINE_OF_45,) * 7
     angles = (FORTY_FIVE_DEGREES,) * 8
-    return Sheet(2, QUADRILATERAL, 10, angles, log_sines=log_sines, differences=tuple(differences))
+    return Sheet(2, QUADRILATERAL, 10, angles, ONCE, log_sines=log_sines, differences=tuple(differences))
 
 
 def rests_of(figure, misclosures, rounded):
@@ -145,6 +146,15 @@ class Sizes(unittest.TestCase):
     def test_nine_figures(self):
         self.assertEqual(len(FIGURES), 9)
 
+    def test_sizes_of_m_106(self):
+        """8 bits more for each angle than kinds 3 and 2 have: of 24 angles 24 bytes more."""
+        for kind, without in ((4, 3), (5, 2)):
+            for figure in FIGURES:
+                self.assertEqual(used_bits(kind, figure) - used_bits(without, figure), 8 * figure.angle_count)
+        self.assertEqual([sheet_size(kind, QUADRILATERAL) for kind in (4, 5)], [26 + 8, 68 + 8])
+        self.assertEqual(max(sheet_size(kind, figure) for kind in KINDS for figure in FIGURES), 222)
+        self.assertEqual([(k, f.code, f.n) for k in KINDS for f in FIGURES if sheet_size(k, f) == 222], [(5, 3, 8)])
+
 
 def cyclic(entries):
     """Coefficients by triangle or corner, indices taken round; one that is named twice counts twice."""
@@ -179,8 +189,8 @@ class PointInQuadrilateral(unittest.TestCase):
     def test_printed_form(self):
         text = work(sample("point-in-quadrilateral-second")).splitlines()
         self.assertEqual(text[0], "figure 2 4 W -290 43 determinant 920843533810944")
-        self.assertEqual(text[1], "1 3628111 -189 -650 -15867082251302400 -17 3628094")
-        self.assertEqual([len(line.split()) for line in text], [8] + [7] * 12 + [3] * 8)
+        self.assertEqual(text[1], "1 3628111 -189 -650 -15867082251302400 -17 3628094 1")
+        self.assertEqual([len(line.split()) for line in text], [8] + [8] * 12 + [3] * 8)
 
     def test_both_sine_misclosures_are_cancelled(self):
         for name in ("point-in-quadrilateral-second", "book-004-example-1-second"):
@@ -300,10 +310,10 @@ class DefaultLimit(unittest.TestCase):
             for place in range(1, len(figure.conditions) + 1):
                 misclosures = [misclosure if number == place else 0 for number in range(1, len(figure.conditions) + 1)]
                 angles, fixed = closing_angles(figure, misclosures, lambda low, high: (low + high) // 2)
-                yield place, Sheet(kind, figure, 0, angles, fixed=fixed)
+                yield place, Sheet(kind, figure, 0, angles, (1,) * len(angles), fixed=fixed)
 
     def test_default_of_each_kind(self):
-        for kind, most in ((1, 150), (3, 90)):
+        for kind, most in ((1, 150), (3, 90), (4, 90)):
             for side in (-1, 1):
                 for place, sheet in self.opened(kind, side * most):
                     self.assertIn(f"condition {place} {side * most} ", work(packed_values(sheet)))
@@ -322,7 +332,7 @@ class DefaultLimit(unittest.TestCase):
 
     def test_given_limit(self):
         """In any kind a limit other than 0 is the limit."""
-        for kind in (1, 3):
+        for kind in (1, 3, 4):
             for limit in (89, 90, 91, 150, 151, 600):
                 _, at = next(self.opened(kind, -limit))
                 _, beyond = next(self.opened(kind, limit + 1))
@@ -348,7 +358,7 @@ class DefaultLimit(unittest.TestCase):
 
     def test_kinds_that_are_none(self):
         body = sample("document-01-first")
-        for kind in (0, *range(4, 16)):
+        for kind in (0, *range(6, 16)):
             self.assertEqual(work(bytes([kind << 4 | body[0] & 15]) + body[1:]), "refused 11 0\n")
 
 
@@ -427,11 +437,11 @@ class RoundingThatCloses(unittest.TestCase):
     def test_7_by_ordinary_rounding(self):
         """Angle 2 of 2 tenths, rounded by -2 and chosen as -1: 7, as of the first pass. Angle 1 of a tenth, rounded by 0 and chosen
         as -1: none, though the two together are 0."""
-        out = Sheet(3, QUADRILATERAL, 0, (3_240_002, 2) + (FORTY_FIVE_DEGREES,) * 6)
+        out = Sheet(3, QUADRILATERAL, 0, (3_240_002, 2) + (FORTY_FIVE_DEGREES,) * 6, ONCE)
         self.assertEqual(answer_of(first_pass, out), (7, 2))
         self.assertEqual(answer_of(closing_corrections, out), (7, 2))
         self.assertEqual(answer_of(check_closing, out, [-2, -1, -1, 0, 0, 1, -1, 0]), (7, 2))
-        kept = Sheet(3, QUADRILATERAL, 0, (1, 3_240_000) + (FORTY_FIVE_DEGREES,) * 6)
+        kept = Sheet(3, QUADRILATERAL, 0, (1, 3_240_000) + (FORTY_FIVE_DEGREES,) * 6, ONCE)
         self.assertEqual(first_pass(kept).rounded, [0] * 8)
         self.assertEqual(closing_corrections(kept), [-1] + [0] * 7)
         self.assertEqual(answer_of(check_closing, kept, [-1] + [0] * 7), (0, 0))
@@ -625,7 +635,7 @@ class Writer(unittest.TestCase):
     """The writer's refusals, and that a sheet read and written again has the same bits."""
 
     def test_round_trip(self):
-        for name in {**EACH_FIGURE, **KIND_3}:
+        for name in {**EACH_FIGURE, **KIND_3, **KIND_4, **KIND_5}:
             self.assertEqual(write_sheet(read_sheet(sample(name))), sample(name))
 
     def refusal(self, **changes):
@@ -641,7 +651,7 @@ class Writer(unittest.TestCase):
         self.assertEqual(self.refusal(**bad), (3, 0))
         self.assertEqual(self.refusal(**bad, log_sines=(1,)), (2, 0))
         self.assertEqual(self.refusal(**bad, log_sines=(1,), figure=None), (1, 0))
-        self.assertEqual(self.refusal(**bad, log_sines=(1,), figure=None, kind=4), (11, 0))
+        self.assertEqual(self.refusal(**bad, log_sines=(1,), figure=None, kind=6), (11, 0))
 
 
 class PublishedExamples(unittest.TestCase):
@@ -730,6 +740,114 @@ class HalvesToEven(unittest.TestCase):
         """Half a tenth for each angle in the condition."""
         for angles, rest in zip(condition_sums(figure, [1] * figure.angle_count), rests):
             self.assertLessEqual(2 * abs(rest), angles)
+
+
+class Rounds(unittest.TestCase):
+    """Document 02, M-106."""
+
+    def answer(self, name, **changes):
+        return work(packed_values(read_sheet(sample(name))._replace(**changes))).splitlines()[0]
+
+    def writing(self, name, **changes):
+        """Number and place, or nothing where the sheet is written."""
+        try:
+            write_sheet(read_sheet(sample(name))._replace(**changes))
+        except Refused as refusal:
+            return refusal.number, refusal.place
+        return None
+
+    def older(self, name):
+        """The same sheet without rounds."""
+        return name.replace("-kind-4", "-kind-3").replace("-kind-5", "-second")
+
+    def bits(self, sheet):
+        return f"{int.from_bytes(sheet, 'big'):0{8 * len(sheet)}b}"
+
+    def test_right_after_each_observed_angle(self):
+        """From the words of M-106: the bits of the older kind, with 8 more after the first 23 of each angle's row."""
+        for name in [*KIND_4, *KIND_5]:
+            sheet, without = read_sheet(sample(name)), read_sheet(sample(self.older(name)))
+            figure = sheet.figure
+            bits = self.bits(sample(self.older(name)))[: used_bits(without.kind, figure)]
+            start, row = (22, 23) if is_first(sheet.kind) else (18 + 27 * figure.side_count, 65)
+            end = start + row * figure.angle_count
+            rows = [bits[at : at + 23] + f"{rounds:08b}" + bits[at + 23 : at + row] for at, rounds in zip(range(start, end, row), ROUNDS)]
+            right = "".join([f"{sheet.kind:04b}", bits[4:start], *rows, bits[end:]])
+            self.assertEqual(self.bits(sample(name)), right + "0" * (-len(right) % 8), name)
+
+    def test_printed_last_on_its_line(self):
+        """The lines of the older kind, where every angle's line ends in 1, with the sheet's own rounds in the place of that."""
+        for name in [*KIND_4, *KIND_5]:
+            older = work(sample(self.older(name))).splitlines()
+            lines = work(sample(name)).splitlines()
+            for before, line in zip(older, lines):
+                if before[0].isdigit():
+                    number = int(before.split()[0])
+                    self.assertTrue(before.endswith(" 1"))
+                    before = f"{before[:-2]} {ROUNDS[number - 1]}"
+                self.assertEqual(line, before)
+            self.assertEqual(len(lines), len(older))
+
+    def test_unchanged_through_both_passes(self):
+        for name in KIND_4:
+            if name != "document-01-kind-4":
+                first, second = read_sheet(sample(name)), read_sheet(sample(name.replace("-kind-4", "-kind-5")))
+                done = worked(first)
+                self.assertEqual((done.results, done.rounds), (list(second.angles), list(second.rounds)))
+                self.assertEqual(worked(second).rounds, list(ROUNDS[: first.figure.angle_count]))
+
+    def test_older_kinds_read_as_one_round(self):
+        for name in {**EACH_FIGURE, **KIND_3}:
+            self.assertEqual(set(read_sheet(sample(name)).rounds), {1})
+
+    def test_older_kinds_written_with_another_count(self):
+        """At the lowest such angle."""
+        for name in {**EACH_FIGURE, **KIND_3}:
+            count = read_sheet(sample(name)).figure.angle_count
+            for place in (1, count):
+                for other in (0, 2, 255):
+                    rounds = (1,) * (place - 1) + (other,) * (count - place + 1)
+                    self.assertEqual(self.writing(name, rounds=rounds), (16, place))
+            self.assertIsNone(self.writing(name, rounds=(1,) * count))
+
+    def test_count_of_0(self):
+        for name in [*KIND_4, *KIND_5]:
+            count = read_sheet(sample(name)).figure.angle_count
+            for place in range(1, count + 1):
+                rounds = ROUNDS[: place - 1] + (0,) + ROUNDS[place:count]
+                self.assertEqual(self.answer(name, rounds=rounds), f"refused 16 {place}")
+                self.assertEqual(self.writing(name, rounds=rounds), (16, place))
+            for most in (1, 255):
+                self.assertTrue(self.answer(name, rounds=(most,) * count).startswith("figure"))
+                self.assertIsNone(self.writing(name, rounds=(most,) * count))
+
+    def test_place_in_the_order(self):
+        """After 3 and 4, before 5, 14 and 8, in reader and writer; 6, 10 and 9 come later still."""
+        none, outside = (0,) * 24, (1,) * 8 + (0,)
+        first, second = "point-in-triangle-kind-4", "point-in-triangle-kind-5"
+        fixed = {5: (0, 3_240_000, 3_240_000), 14: (2_160_000, 2_160_000, 2_160_001), 6: (2_160_000,) * 3}
+        for number, values in fixed.items():
+            self.assertTrue(self.answer(first, fixed=values).startswith(f"refused {number} "))
+            self.assertEqual(self.answer(first, fixed=values, rounds=none[:9]), "refused 16 1")
+        entries = {8: (0,) * 9, 10: (50_000_000,) * 9}
+        for number, values in entries.items():
+            changes = {"log_sines": values, "differences": (0,) * 9}
+            self.assertTrue(self.answer(second, **changes).startswith(f"refused {number} "))
+            self.assertEqual(self.answer(second, **changes, rounds=none[:9]), "refused 16 1")
+        for name in (first, second):
+            self.assertEqual(self.answer(name, rounds=none[:9], angles=outside), "refused 4 9")
+            self.assertEqual(self.answer(name, rounds=none[:9], angles=outside, limit=63 if name == second else 601), "refused 3 0")
+            self.assertEqual(self.writing(name, rounds=none[:9], angles=outside), (4, 9))
+        self.assertEqual(self.writing(first, rounds=none[:9], fixed=fixed[5]), (16, 1))
+        self.assertEqual(self.writing(first, rounds=none[:9], fixed=fixed[14]), (16, 1))
+        self.assertEqual(self.writing(first, rounds=none[:8]), (2, 0))
+
+    def test_longest_and_one_more(self):
+        longest = sample("polygon-8-kind-5")
+        self.assertEqual(len(longest), 222)
+        self.assertTrue(work(longest).startswith("figure 3 8 "))
+        for more in (1, 2, 1_000):
+            self.assertEqual(work(longest + bytes(more)), "refused 12 0\n")
 
 
 class ValuesAreReal(unittest.TestCase):

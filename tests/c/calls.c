@@ -116,22 +116,24 @@ uint32_t answer_of(const struct call *call, const struct lent *lent)
     case LOOK:
         return bienguloc_look(SLICE(const uint8_t, 0), SLICE(uint32_t, 1));
     case READ:
-        return bienguloc_read(SLICE(const uint8_t, 0), SLICE(uint32_t, 1), SLICE(uint32_t, 2), SLICE(uint32_t, 3), SLICE(uint32_t, 4),
-            SLICE(int32_t, 5), SLICE(uint32_t, 6));
+        return bienguloc_read(SLICE(const uint8_t, 0), SLICE(uint32_t, 1), SLICE(uint32_t, 2), SLICE(uint8_t, 3), SLICE(uint32_t, 4),
+            SLICE(uint32_t, 5), SLICE(int32_t, 6), SLICE(uint32_t, 7));
     case WRITE:
-        return bienguloc_write(n[0], n[1], n[2], n[3], SLICE(const uint32_t, 0), SLICE(const uint32_t, 1), SLICE(const uint32_t, 2),
-            SLICE(const int32_t, 3), SLICE(const uint32_t, 4), SLICE(uint8_t, 5));
+        return bienguloc_write(n[0], n[1], n[2], n[3], SLICE(const uint32_t, 0), SLICE(const uint8_t, 1), SLICE(const uint32_t, 2),
+            SLICE(const uint32_t, 3), SLICE(const int32_t, 4), SLICE(const uint32_t, 5), SLICE(uint8_t, 6));
     case FIRST_PASS:
-        return bienguloc_first_pass(n[0], n[1], n[2], SLICE(const uint32_t, 0), SLICE(const uint32_t, 1), SLICE(int32_t, 2),
-            SLICE(int32_t, 3), SLICE(int32_t, 4), SLICE(uint32_t, 5), SLICE(int32_t, 6));
+        return bienguloc_first_pass(n[0], n[1], n[2], SLICE(const uint32_t, 0), SLICE(const uint8_t, 1), SLICE(const uint32_t, 2),
+            SLICE(int32_t, 3), SLICE(int32_t, 4), SLICE(int32_t, 5), SLICE(uint32_t, 6), SLICE(uint8_t, 7), SLICE(int32_t, 8));
     case CLOSING:
-        return bienguloc_closing(n[0], n[1], n[2], SLICE(const uint32_t, 0), SLICE(const uint32_t, 1), SLICE(int32_t, 2));
+        return bienguloc_closing(
+            n[0], n[1], n[2], SLICE(const uint32_t, 0), SLICE(const uint8_t, 1), SLICE(const uint32_t, 2), SLICE(int32_t, 3));
     case CHECK_CLOSING:
-        return bienguloc_check_closing(n[0], n[1], n[2], SLICE(const uint32_t, 0), SLICE(const uint32_t, 1), SLICE(const int32_t, 2));
+        return bienguloc_check_closing(
+            n[0], n[1], n[2], SLICE(const uint32_t, 0), SLICE(const uint8_t, 1), SLICE(const uint32_t, 2), SLICE(const int32_t, 3));
     case SECOND_PASS:
-        return bienguloc_second_pass(n[0], n[1], n[2], SLICE(const uint32_t, 0), SLICE(const uint32_t, 1), SLICE(const int32_t, 2),
-            SLICE(const uint32_t, 3), SLICE(int64_t, 4), SLICE(uint64_t, 5), SLICE(int64_t, 6), SLICE(int64_t, 7), SLICE(int64_t, 8),
-            SLICE(uint64_t, 9), SLICE(int32_t, 10), SLICE(uint32_t, 11), SLICE(int32_t, 12));
+        return bienguloc_second_pass(n[0], n[1], n[2], SLICE(const uint32_t, 0), SLICE(const uint8_t, 1), SLICE(const uint32_t, 2),
+            SLICE(const int32_t, 3), SLICE(const uint32_t, 4), SLICE(int64_t, 5), SLICE(uint64_t, 6), SLICE(int64_t, 7), SLICE(int64_t, 8),
+            SLICE(int64_t, 9), SLICE(uint64_t, 10), SLICE(int32_t, 11), SLICE(uint32_t, 12), SLICE(uint8_t, 13), SLICE(int32_t, 14));
     case REPORT:
         return bienguloc_report(SLICE(const uint8_t, 0), SLICE(uint8_t, 1), SLICE(uint64_t, 2));
     }

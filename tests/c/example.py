@@ -20,10 +20,10 @@ from packed import Refused, read_sheet  # noqa: E402
 EVERY = 29  # of the made sheets
 
 
-def degrees(number, tenths):
-    """An angle's line: number, degrees, minutes, seconds."""
+def angle_line(number, tenths, rounds):
+    """Number, degrees, minutes, seconds, rounds."""
     minutes, seconds = divmod(tenths, 600)
-    return f"{number:2}  {minutes // 60:3} {minutes % 60:02} {seconds // 10:02}.{seconds % 10}\n"
+    return f"{number:2}  {minutes // 60:3} {minutes % 60:02} {seconds // 10:02}.{seconds % 10}  {rounds:3}\n"
 
 
 def expected(sheet):
@@ -31,7 +31,7 @@ def expected(sheet):
         done = worked(read_sheet(sheet))
     except Refused as refusal:
         return f"refused {refusal.number} {refusal.place}\n"
-    return "".join(degrees(number, tenths) for number, tenths in enumerate(done.results, start=1))
+    return "".join(angle_line(number, *row) for number, row in enumerate(zip(done.results, done.rounds), start=1))
 
 
 def printed(command, sheet=b""):

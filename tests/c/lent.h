@@ -7,7 +7,7 @@
 #include <stddef.h>
 #include <stdint.h>
 
-enum { MOST_SLICES = 13, MOST_BYTES = 320 * 1024 };
+enum { MOST_SLICES = 15, MOST_BYTES = 320 * 1024 };
 
 /* Which end of the slice lies at the page. */
 enum side { PAGE_AFTER, PAGE_BEFORE };

@@ -25,6 +25,7 @@ from figures import figure_of, least_squares_corrections  # noqa: E402
 from independent import DEFAULTS, first_pass, second_pass, work  # noqa: E402
 from made_choices import choice_sheets, offers  # noqa: E402
 from made_sheets import (  # noqa: E402
+    MOST_LENGTH,
     each_kind_and_figure,
     fixed_angles_moved,
     fixed_angles_that_do_not_sum,
@@ -33,7 +34,17 @@ from made_sheets import (  # noqa: E402
     ordinary_sheet,
     with_value,
 )
-from packed import KINDS, Refused, check_values, counts, is_first, read_sheet, sheet_size, write_sheet  # noqa: E402
+from packed import (  # noqa: E402
+    KINDS,
+    LARGEST_ROUNDS,
+    Refused,
+    check_values,
+    counts,
+    is_first,
+    read_sheet,
+    sheet_size,
+    write_sheet,
+)
 
 SEED = 1978
 EVERY = 50
@@ -41,13 +52,17 @@ OFFERS = 2  # of a sort, for a sheet
 
 # Outside the range, and beside a value within it where bits are lost: 2^23 and 2^27 are past the fields, 2^31 and 2^32 - 1 at the ends.
 ODD_ANGLES = (0, 6_480_000, 2**23 + 1_620_000, 2**31, 2**31 + 1_620_000, 2**32 - 1)
+ODD_ROUNDS = (0, 2, 255)  # of the last two a pass and kinds 4 and 5 take both, and the older kinds neither
 ODD_LOG_SINES = (0, 100_000_001, 2**27 + 50_000_000, 2**31 + 50_000_000, 2**32 - 1)
 ODD_LOG_SIDES = (0, 100_000_001, 2**27 + 37_000_000, 2**31 + 37_000_000, 2**32 - 1)
 ODD_DIFFERENCES = (-(2**31), -(2**15) + 100, -10_000, 10_000, 2**15 + 100, 2**31 - 1)
 ODD_LIMITS = (601, 1_023, 1_024 + 150, 2**16 + 150, 2**31, 2**32 - 1)
 ODD_TOLERANCES = (51, 63, 64 + 10, 256 + 10, 2**31, 2**32 - 1)
 ODD_NAMES = ((0, 0), (1, 3), (2, 0), (2, 5), (3, 2), (3, 9), (4, 3), (257, 0), (1, 256), (3, 2**31 + 3), (3, 2**32 - 5), (2**32 - 1,) * 2)
-ODD_KINDS = (0, 4, 17, 18, 256 + 1, 2**31 + 2, 2**32 - 1)
+ODD_KINDS = (0, 6, 17, 18, 256 + 1, 2**31 + 2, 2**32 - 1)
+
+# The lists of values that the reader stores and the writer is given, in the order of the header.
+VALUE_TYPES = {"angles": "u32", "rounds": "u8", "fixed": "u32", "log_sines": "u32", "differences": "i32", "log_sides": "u32"}
 
 
 def answered(compute):
@@ -96,21 +111,19 @@ def look_call(name, sheet):
     head = None
     if found:
         kind, figure = found
-        angles, fixed, log_sines, _, log_sides = counts(kind, figure)
-        head = (kind, figure.code, figure.n, angles, fixed, log_sines, len(figure.conditions), log_sides)
-    return lines("look", (), answer, [listed("sheet", "u8", sheet), stored("u32", 8, head)], name)
+        angles, rounds, fixed, log_sines, _, log_sides = counts(kind, figure)
+        head = (kind, figure.code, figure.n, angles, fixed, log_sines, len(figure.conditions), log_sides, rounds)
+    return lines("look", (), answer, [listed("sheet", "u8", sheet), stored("u32", 9, head)], name)
 
 
 def read_call(name, sheet):
     _, found = answered(lambda: named_head(sheet))
-    lent = counts(*found) if found else (8, 0, 0, 0, 0)
+    lent = counts(*found) if found else (8, 8, 0, 0, 0, 0)
     answer, values = answered(lambda: read_sheet(sheet))
-    columns = (None,) * 6
+    columns = (None,) * 7
     if values:
-        figure = values.figure
-        head = (values.kind, figure.code, figure.n, values.limit)
-        columns = (head, values.angles, values.fixed, values.log_sines, values.differences, values.log_sides)
-    slices = [stored(*row) for row in zip(("u32",) * 4 + ("i32", "u32"), (4, *lent), columns)]
+        columns = ((*own(values), values.limit), *value_lists(values))
+    slices = [stored(*row) for row in zip(("u32", *VALUE_TYPES.values()), (4, *lent), columns)]
     return lines("read", (), answer, [listed("sheet", "u8", sheet), *slices], name)
 
 
@@ -123,10 +136,13 @@ def report_call(name, sheet):
 # --- calls that take values ---------------------------------------------------------------------------------------------
 
 
+def value_lists(values):
+    return [getattr(values, column) for column in VALUE_TYPES]
+
+
 def given(values):
-    """The five lists of values, as the writer takes them."""
-    lists = (values.angles, values.fixed, values.log_sines, values.differences, values.log_sides)
-    return [listed("in", value_type, column) for value_type, column in zip(("u32",) * 3 + ("i32", "u32"), lists)]
+    """The lists of values, as the writer takes them."""
+    return [listed("in", value_type, column) for value_type, column in zip(VALUE_TYPES.values(), value_lists(values))]
 
 
 def own(values):
@@ -143,29 +159,30 @@ def write_call(name, values, head=None):
 
 
 def passed(values, figure, one_pass):
-    """A pass over values that may lie outside their ranges: 1, then 3, 4, 5, 14, 8 as the writer has them, then the pass's
-    own."""
+    """A pass over values that may lie outside their ranges: 1, then 3, 4, 16, 5, 14, 8 as the writer has them, but with any rounds
+    up to 255, then the pass's own."""
     if figure is None:
         raise Refused(1)
-    check_values(values)
+    check_values(values, LARGEST_ROUNDS)
     return one_pass(values)
 
 
 def first_call(name, values, numbers):
     answer, done = answered(lambda: passed(values, figure_of(*numbers[:2]), first_pass))
     angles, conditions = values.figure.angle_count, len(values.figure.conditions)
-    columns = zip(("i32", "i32", "i32", "u32", "i32"), (conditions, angles, angles, angles, conditions), done or (None,) * 5)
-    return lines("first", numbers, answer, [*given(values)[:2], *(stored(*row) for row in columns)], name)
+    lent = (conditions, angles, angles, angles, angles, conditions)
+    columns = zip(("i32", "i32", "i32", "u32", "u8", "i32"), lent, done or (None,) * len(lent))
+    return lines("first", numbers, answer, [*given(values)[:3], *(stored(*row) for row in columns)], name)
 
 
 def closing_call(name, values, numbers):
     answer, ours = answered(lambda: passed(values, figure_of(*numbers[:2]), closing_corrections))
-    return lines("closing", numbers, answer, [*given(values)[:2], stored("i32", values.figure.angle_count, ours)], name)
+    return lines("closing", numbers, answer, [*given(values)[:3], stored("i32", values.figure.angle_count, ours)], name)
 
 
 def check_call(name, values, numbers, offered):
     answer, _ = answered(lambda: passed(values, figure_of(*numbers[:2]), lambda taken: check_closing(taken, offered)))
-    return lines("check", numbers, answer, [*given(values)[:2], listed("in", "i32", offered)], name)
+    return lines("check", numbers, answer, [*given(values)[:3], listed("in", "i32", offered)], name)
 
 
 def first_calls(name, values, numbers):
@@ -186,18 +203,19 @@ def second_results(done):
     """What the call stores, in the order of the header."""
     high, low = zip(*map(words, done.numerators))
     side_reduced = done.reduced[1] if len(done.reduced) == 2 else ()
-    return done.sine_misclosures, words(done.divisor), done.reduced[0], side_reduced, high, low, done.rounded, done.results, done.rests
+    sums = done.sine_misclosures, words(done.divisor)
+    return *sums, done.reduced[0], side_reduced, high, low, done.rounded, done.results, done.rounds, done.rests
 
 
 def second_call(name, values, numbers):
     answer, done = answered(lambda: passed(values, figure_of(*numbers[:2]), second_pass))
     figure = values.figure
     angles, sines = figure.angle_count, len(figure.sines)
-    lent = (sines, 2, angles, angles if sines == 2 else 0, angles, angles, angles, angles, len(figure.conditions))
-    types = ("i64", "u64", "i64", "i64", "i64", "u64", "i32", "u32", "i32")
+    lent = (sines, 2, angles, angles if sines == 2 else 0, angles, angles, angles, angles, angles, len(figure.conditions))
+    types = ("i64", "u64", "i64", "i64", "i64", "u64", "i32", "u32", "u8", "i32")
     columns = zip(types, lent, second_results(done) if done else (None,) * len(lent))
-    taken = given(values)
-    return lines("second", numbers, answer, [taken[0], *taken[2:], *(stored(*row) for row in columns)], name)
+    angles_in, rounds_in, _, *entries_in = given(values)
+    return lines("second", numbers, answer, [angles_in, rounds_in, *entries_in, *(stored(*row) for row in columns)], name)
 
 
 def as_handed(values):
@@ -224,7 +242,7 @@ def sample_sheets():
 
 def plain_sheets():
     """All zero and all ones, of every length; and under every good head, at its size."""
-    for length in range(211):
+    for length in range(MOST_LENGTH + 1):
         yield f"{length} bytes of 0", bytes(length)
         yield f"{length} bytes of ones", b"\xff" * length
     for kind, figure in each_kind_and_figure():
@@ -237,6 +255,7 @@ def spoilt_columns(values):
     """The values with one odd value at a place: every odd value at the first place, and one at each other."""
     columns = (
         ("angles", ODD_ANGLES),
+        ("rounds", ODD_ROUNDS),
         ("fixed", ODD_ANGLES),
         ("log_sines", ODD_LOG_SINES),
         ("differences", ODD_DIFFERENCES),
@@ -252,8 +271,9 @@ def spoilt_columns(values):
 def all_alike(values):
     """Every value 0, and every bit 1."""
     for name, unsigned, signed in (("all 0", 0, 0), ("all ones", 2**32 - 1, -1)):
-        fill = {column: (unsigned,) * len(getattr(values, column)) for column in ("angles", "fixed", "log_sines", "log_sides")}
-        yield name, values._replace(**fill, differences=(signed,) * len(values.differences))
+        of_type = {"u32": unsigned, "i32": signed, "u8": unsigned % 2**8}
+        filled = {column: (of_type[value_type],) * len(getattr(values, column)) for column, value_type in VALUE_TYPES.items()}
+        yield name, values._replace(**filled)
 
 
 def odd_values(rng):
@@ -322,12 +342,12 @@ def all_calls():
 
 MUST_REACH = {
     "look": {0, 12, 11, 1},
-    "read": {0, 12, 11, 1, 13, 3, 4, 5, 14, 8},
-    "write": {0, 11, 1, 3, 4, 5, 14, 8},
-    "first": {0, 1, 3, 4, 5, 14, 6, 7},
-    "closing": {0, 1, 3, 4, 5, 14, 6, 7},
-    "check": {0, 1, 3, 4, 5, 14, 6, 7, 15},
-    "second": {0, 1, 3, 4, 8, 10, 9, 7},
+    "read": {0, 12, 11, 1, 13, 3, 4, 16, 5, 14, 8},
+    "write": {0, 11, 1, 3, 4, 16, 5, 14, 8},
+    "first": {0, 1, 3, 4, 16, 5, 14, 6, 7},
+    "closing": {0, 1, 3, 4, 16, 5, 14, 6, 7},
+    "check": {0, 1, 3, 4, 16, 5, 14, 6, 7, 15},
+    "second": {0, 1, 3, 4, 16, 8, 10, 9, 7},
     "report": {0},
 }
 

@@ -14,7 +14,7 @@ use report::report;
 pub(crate) fn work_input() {
     // One byte more than the longest sheet, so that a sheet that is too long is seen. When it is full, the next read has
     // no room and ends the loop.
-    let mut sheet = [0u8; 199];
+    let mut sheet = [0u8; 223];
     let mut size = 0;
     let mut more = 1;
     let mut has_failed = false;

@@ -16,22 +16,33 @@ pub fn first_pass_refuses(limit: u32, angles: [u32; 8], expected: &[u8]) -> bool
     let mut numerators = [0; 8];
     let mut rounded = [0; 8];
     let mut corrected = [0; 8];
+    let mut corrected_rounds = [0; 8];
     let mut rests = [0; 3];
     let Verdict::Failed(refusal) = first_pass(
         1,
         0,
         limit,
         &angles,
+        &[1; 8],
         &[0; 0],
         &mut misclosures,
         &mut numerators,
         &mut rounded,
         &mut corrected,
+        &mut corrected_rounds,
         &mut rests,
     ) else {
         return false;
     };
-    reads(refusal, expected) && first_unchanged(misclosures, numerators, rounded, corrected, rests)
+    reads(refusal, expected)
+        && first_unchanged(
+            misclosures,
+            numerators,
+            rounded,
+            corrected,
+            corrected_rounds,
+            rests,
+        )
 }
 
 // Shown as the program shows results, with no given angles.
@@ -40,6 +51,7 @@ fn first_unchanged(
     numerators: [i32; 8],
     rounded: [i32; 8],
     corrected: [u32; 8],
+    corrected_rounds: [u8; 8],
     rests: [i32; 3],
 ) -> bool {
     let mut text = [0; LONGEST_TEXT];
@@ -47,6 +59,7 @@ fn first_unchanged(
         &mut text,
         Figure::Quadrilateral,
         &[0; 0],
+        &corrected_rounds,
         &numerators,
         &rounded,
         &corrected,
@@ -57,7 +70,7 @@ fn first_unchanged(
         &text,
         end,
         b"figure 1 0 denominator 8\n\
-          1 0 0 0 0\n2 0 0 0 0\n3 0 0 0 0\n4 0 0 0 0\n5 0 0 0 0\n6 0 0 0 0\n7 0 0 0 0\n8 0 0 0 0\n\
+          1 0 0 0 0 0\n2 0 0 0 0 0\n3 0 0 0 0 0\n4 0 0 0 0 0\n5 0 0 0 0 0\n6 0 0 0 0 0\n7 0 0 0 0 0\n8 0 0 0 0 0\n\
           condition 1 0 0\ncondition 2 0 0\ncondition 3 0 0\n",
     )
 }
@@ -69,12 +82,14 @@ pub fn second_pass_refuses(log_sines: [u32; 8], expected: &[u8]) -> bool {
     let mut numerators_low = [0; 8];
     let mut rounded = [0; 8];
     let mut adjusted = [0; 8];
+    let mut adjusted_rounds = [0; 8];
     let mut rests = [0; 3];
     let SecondAnswer::Refused(refusal) = second_pass(
         1,
         0,
         0,
         &[1620000; 8],
+        &[1; 8],
         &log_sines,
         &[0; 8],
         &[0; 0],
@@ -84,6 +99,7 @@ pub fn second_pass_refuses(log_sines: [u32; 8], expected: &[u8]) -> bool {
         &mut numerators_low,
         &mut rounded,
         &mut adjusted,
+        &mut adjusted_rounds,
         &mut rests,
     ) else {
         return false;
@@ -95,6 +111,7 @@ pub fn second_pass_refuses(log_sines: [u32; 8], expected: &[u8]) -> bool {
             numerators_low,
             rounded,
             adjusted,
+            adjusted_rounds,
             rests,
         )
 }
@@ -106,6 +123,7 @@ fn second_unchanged(
     numerators_low: [u64; 8],
     rounded: [i32; 8],
     adjusted: [u32; 8],
+    adjusted_rounds: [u8; 8],
     rests: [i32; 3],
 ) -> bool {
     let mut text = [0; LONGEST_TEXT];
@@ -117,6 +135,7 @@ fn second_unchanged(
         0,
         0,
         &[0; 0],
+        &adjusted_rounds,
         &reduced,
         &[0; 0],
         &numerators_high,
@@ -129,7 +148,7 @@ fn second_unchanged(
         &text,
         end,
         b"figure 1 0 W 0 S 0\n\
-          1 0 0 0 0 0\n2 0 0 0 0 0\n3 0 0 0 0 0\n4 0 0 0 0 0\n5 0 0 0 0 0\n6 0 0 0 0 0\n7 0 0 0 0 0\n8 0 0 0 0 0\n\
+          1 0 0 0 0 0 0\n2 0 0 0 0 0 0\n3 0 0 0 0 0 0\n4 0 0 0 0 0 0\n5 0 0 0 0 0 0\n6 0 0 0 0 0 0\n7 0 0 0 0 0 0\n8 0 0 0 0 0 0\n\
           condition 1 0\ncondition 2 0\ncondition 3 0\n",
     )
 }

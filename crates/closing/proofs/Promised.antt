@@ -64,39 +64,39 @@ stored-part part (Failed r) new old = refl
 
 -- ---- the first pass, whose slices for results have the figure's lengths
 
-module _ (f : Figure) (limit : ℕ) (angles fixed : List ℕ) where
+module _ (f : Figure) (limit : ℕ) (angles rounds fixed : List ℕ) where
   module _ (entry : FirstLent) {exit : FirstLent} {answer : Verdict} (lengths : firstResultsLent entry ≡ firstResultLengths f)
-      (promise : FirstPromiseOf f limit angles fixed entry answer exit) where
-    same-rows : judged (firstRows f limit angles fixed (length angles ∷ length fixed ∷ firstResultsLent entry)) ≡ judged (passRows f limit angles fixed)
-    same-rows = ap (λ (l : List ℕ). judged (firstRows f limit angles fixed (length angles ∷ length fixed ∷ l))) lengths
+      (promise : FirstPromiseOf f limit angles rounds fixed entry answer exit) where
+    same-rows : judged (firstRows f limit angles rounds fixed (length angles ∷ length rounds ∷ length fixed ∷ firstResultsLent entry)) ≡ judged (passRows f limit angles rounds fixed)
+    same-rows = ap (λ (l : List ℕ). judged (firstRows f limit angles rounds fixed (length angles ∷ length rounds ∷ length fixed ∷ l))) lengths
 
-    pub pass-answered : answer ≡ judged (passRows f limit angles fixed)
+    pub pass-answered : answer ≡ judged (passRows f limit angles rounds fixed)
     pass-answered = promise .answered ∙ same-rows
 
     pub pass-leaves : {M : Type 0} (part : FirstLent → M)
-        → part exit ≡ stored (judged (passRows f limit angles fixed)) (part (firstValuesOf f angles fixed)) (part entry)
+        → part exit ≡ stored (judged (passRows f limit angles rounds fixed)) (part (firstValuesOf f angles rounds fixed)) (part entry)
     pass-leaves part =
-        ap part (promise .leaves) ∙ stored-part part (firstVerdictOf f limit angles fixed entry) (firstValuesOf f angles fixed) entry
-        ∙ ap (λ (v : Verdict). stored v (part (firstValuesOf f angles fixed)) (part entry)) same-rows
+        ap part (promise .leaves) ∙ stored-part part (firstVerdictOf f limit angles rounds fixed entry) (firstValuesOf f angles rounds fixed) entry
+        ∙ ap (λ (v : Verdict). stored v (part (firstValuesOf f angles rounds fixed)) (part entry)) same-rows
 
   -- what an accepted one says of its numbers
-  module _ (passed : judged (passRows f limit angles fixed) ≡ Passed) where
-    ok : Accepted f limit angles fixed (length angles ∷ length fixed ∷ firstResultLengths f)
-    ok = accepted f limit angles fixed _ passed
+  module _ (passed : judged (passRows f limit angles rounds fixed) ≡ Passed) where
+    ok : Accepted f limit angles rounds fixed (length angles ∷ length rounds ∷ length fixed ∷ firstResultLengths f)
+    ok = accepted f limit angles rounds fixed _ passed
 
     pub numerators-small : Within mostNumerator (numeratorsOf f angles fixed)
-    numerators-small = listed-within (angleCount f) (firstNumerator f angles fixed) mostNumerator (λ i h. first-numerator-small f limit angles fixed _ ok i)
+    numerators-small = listed-within (angleCount f) (firstNumerator f angles fixed) mostNumerator (λ i h. first-numerator-small f limit angles rounds fixed _ ok i)
 
-    pub numerators-are : {exact : List ℤ} (before : List ℤ) → exact ≡ stored (judged (passRows f limit angles fixed)) (numeratorsOf f angles fixed) before
+    pub numerators-are : {exact : List ℤ} (before : List ℤ) → exact ≡ stored (judged (passRows f limit angles rounds fixed)) (numeratorsOf f angles fixed) before
         → exact ≡ numeratorsOf f angles fixed
     numerators-are before e = e ∙ ap (λ (v : Verdict). stored v (numeratorsOf f angles fixed) before) passed
 
-    pub misclosures-are : {w : List ℤ} (before : List ℤ) → w ≡ stored (judged (passRows f limit angles fixed)) (misclosuresOf f angles fixed) before
+    pub misclosures-are : {w : List ℤ} (before : List ℤ) → w ≡ stored (judged (passRows f limit angles rounds fixed)) (misclosuresOf f angles fixed) before
         → w ≡ misclosuresOf f angles fixed
     misclosures-are before e = e ∙ ap (λ (v : Verdict). stored v (misclosuresOf f angles fixed) before) passed
 
     pub misclosures-small : Within mostLimit (misclosuresOf f angles fixed)
-    misclosures-small = listed-within (conditionCount f) (misclosure f angles fixed) mostLimit (misclosure-small f limit angles fixed _ ok)
+    misclosures-small = listed-within (conditionCount f) (misclosure f angles fixed) mostLimit (misclosure-small f limit angles rounds fixed _ ok)
 
 -- ---- our own choice
 
@@ -114,39 +114,39 @@ choice-is f angles fixed =
     (λ i h. listed-at (angleCount f) (firstNumerator f angles fixed) i h))
 
 -- number 2 of the one slice
-module _ (f : Figure) (limit : ℕ) (angles fixed : List ℕ) (lent : ℕ) where
+module _ (f : Figure) (limit : ℕ) (angles rounds fixed : List ℕ) (lent : ℕ) where
   abbrev lengthRow : Row
   lengthRow = lengthsRow (lent ∷ []) (angleCount f ∷ [])
 
-  pub length-wrong : (lent ≡ angleCount f → ⊥) → judged (closingRowsFor f limit angles fixed lent) ≡ Failed Refusal.WrongLength
+  pub length-wrong : (lent ≡ angleCount f → ⊥) → judged (closingRowsFor f limit angles rounds fixed lent) ≡ Failed Refusal.WrongLength
   unfolding closingRowsFor
   length-wrong other =
-      judged-after-failure (lengthRow ∷ []) (passRows f limit angles fixed) Refusal.WrongLength
+      judged-after-failure (lengthRow ∷ []) (passRows f limit angles rounds fixed) Refusal.WrongLength
       (answer-of-one (verdictOf lengthRow) ∙ ap (λ (same : Bool). failsIf (not (same && true)) Refusal.WrongLength) (ne-eqb lent (angleCount f) other))
 
-  pub length-right : lent ≡ angleCount f → judged (closingRowsFor f limit angles fixed lent) ≡ judged (passRows f limit angles fixed)
+  pub length-right : lent ≡ angleCount f → judged (closingRowsFor f limit angles rounds fixed lent) ≡ judged (passRows f limit angles rounds fixed)
   unfolding closingRowsFor
   length-right own =
-      judged-after-pass (lengthRow ∷ []) (passRows f limit angles fixed)
+      judged-after-pass (lengthRow ∷ []) (passRows f limit angles rounds fixed)
       (answer-of-one (verdictOf lengthRow) ∙ lengths-pass (lent ∷ []) (angleCount f ∷ []) (ap (λ (n : ℕ). n ∷ []) own))
 
-module _ (f : Figure) (limit : ℕ) (angles fixed : List ℕ) (entry : List ℤ) where
-  pub refused-length : (length entry ≡ angleCount f → ⊥) → ClosingPromiseOf f limit angles fixed entry (Failed Refusal.WrongLength) entry
+module _ (f : Figure) (limit : ℕ) (angles rounds fixed : List ℕ) (entry : List ℤ) where
+  pub refused-length : (length entry ≡ angleCount f → ⊥) → ClosingPromiseOf f limit angles rounds fixed entry (Failed Refusal.WrongLength) entry
   refused-length other =
-      let answered = length-wrong f limit angles fixed (length entry) other in
+      let answered = length-wrong f limit angles rounds fixed (length entry) other in
       record { answered = sym answered; leaves = kept _ _ _ Refusal.WrongLength answered }
 
-  module _ (own : length entry ≡ angleCount f) (v : Verdict) (is : v ≡ judged (passRows f limit angles fixed)) where
-    same : v ≡ closingAnswerOf f limit angles fixed entry
-    same = is ∙ sym (length-right f limit angles fixed (length entry) own)
+  module _ (own : length entry ≡ angleCount f) (v : Verdict) (is : v ≡ judged (passRows f limit angles rounds fixed)) where
+    same : v ≡ closingAnswerOf f limit angles rounds fixed entry
+    same = is ∙ sym (length-right f limit angles rounds fixed (length entry) own)
 
-    pub refused-by-pass : (r : Refusal) → v ≡ Failed r → ClosingPromiseOf f limit angles fixed entry v entry
+    pub refused-by-pass : (r : Refusal) → v ≡ Failed r → ClosingPromiseOf f limit angles rounds fixed entry v entry
     refused-by-pass r e = record { answered = same; leaves = kept _ _ _ r (sym same ∙ e) }
 
-    pub chosen-by-pass : v ≡ Passed → (exact before : List ℤ) → exact ≡ stored (judged (passRows f limit angles fixed)) (numeratorsOf f angles fixed) before
-        → {exit : List ℤ} → exit ≡ listed (angleCount f) (chosen f (vector exact)) → ClosingPromiseOf f limit angles fixed entry v exit
+    pub chosen-by-pass : v ≡ Passed → (exact before : List ℤ) → exact ≡ stored (judged (passRows f limit angles rounds fixed)) (numeratorsOf f angles fixed) before
+        → {exit : List ℤ} → exit ≡ listed (angleCount f) (chosen f (vector exact)) → ClosingPromiseOf f limit angles rounds fixed entry v exit
     chosen-by-pass e exact before are made =
-        let exact-is = numerators-are f limit angles fixed (sym is ∙ e) before are in
+        let exact-is = numerators-are f limit angles rounds fixed (sym is ∙ e) before are in
         record {
           answered = same;
           leaves =
@@ -198,32 +198,32 @@ module _ (f : Figure) (w numerators offered : List ℤ) (own : length offered �
         go (no h) = subst (λ (y : ℤ). natAbs y ≤ mostSummed) (sym (List·getD-eq-default offered (pos 0) {n = i} (omega arith))) zero-le
 
 -- of a figure that is named
-module _ (f : Figure) (limit : ℕ) (angles fixed : List ℕ) (offered : List ℤ) where
+module _ (f : Figure) (limit : ℕ) (angles rounds fixed : List ℕ) (offered : List ℤ) where
   abbrev rowsBefore : List Row
-  rowsBefore = closingRowsFor f limit angles fixed (length offered)
+  rowsBefore = closingRowsFor f limit angles rounds fixed (length offered)
 
-  refused-before : (r : Refusal) → judged rowsBefore ≡ Failed r → checkAnswerOf f limit angles fixed offered ≡ Failed r
+  refused-before : (r : Refusal) → judged rowsBefore ≡ Failed r → checkAnswerOf f limit angles rounds fixed offered ≡ Failed r
   unfolding checkRowsFor
   refused-before r e = judged-after-failure rowsBefore (rulesRow f angles fixed offered ∷ []) r e
 
-  pub check-length : (length offered ≡ angleCount f → ⊥) → Failed Refusal.WrongLength ≡ checkAnswerOf f limit angles fixed offered
-  check-length other = sym (refused-before Refusal.WrongLength (length-wrong f limit angles fixed (length offered) other))
+  pub check-length : (length offered ≡ angleCount f → ⊥) → Failed Refusal.WrongLength ≡ checkAnswerOf f limit angles rounds fixed offered
+  check-length other = sym (refused-before Refusal.WrongLength (length-wrong f limit angles rounds fixed (length offered) other))
 
-  module _ (own : length offered ≡ angleCount f) (v : Verdict) (is : v ≡ judged (passRows f limit angles fixed)) where
-    pub check-refused : (r : Refusal) → v ≡ Failed r → v ≡ checkAnswerOf f limit angles fixed offered
-    check-refused r e = e ∙ sym (refused-before r (length-right f limit angles fixed (length offered) own ∙ sym is ∙ e))
+  module _ (own : length offered ≡ angleCount f) (v : Verdict) (is : v ≡ judged (passRows f limit angles rounds fixed)) where
+    pub check-refused : (r : Refusal) → v ≡ Failed r → v ≡ checkAnswerOf f limit angles rounds fixed offered
+    check-refused r e = e ∙ sym (refused-before r (length-right f limit angles rounds fixed (length offered) own ∙ sym is ∙ e))
 
-    pub check-asked : v ≡ Passed → verdictOf (rulesRow f angles fixed offered) ≡ checkAnswerOf f limit angles fixed offered
+    pub check-asked : v ≡ Passed → verdictOf (rulesRow f angles fixed offered) ≡ checkAnswerOf f limit angles rounds fixed offered
     unfolding checkRowsFor
     check-asked e =
-        sym (judged-after-pass rowsBefore (rulesRow f angles fixed offered ∷ []) (length-right f limit angles fixed (length offered) own ∙ sym is ∙ e)
+        sym (judged-after-pass rowsBefore (rulesRow f angles fixed offered ∷ []) (length-right f limit angles rounds fixed (length offered) own ∙ sym is ∙ e)
         ∙ answer-of-one (verdictOf (rulesRow f angles fixed offered)))
 
 -- ---- and of code and n
 
 module _ (given : FirstGiven) (entry : List ℤ) where
   abbrev closingRowsNamed : Figure → List Row
-  closingRowsNamed f = closingRowsFor f (given .limit) (given .angles) (given .fixed) (length entry)
+  closingRowsNamed f = closingRowsFor f (given .limit) (given .angles) (given .rounds) (given .fixed) (length entry)
 
   pub none-named : figureOf (given .code) (given .n) ≡ Nothing → ClosingPromise given entry (Failed Refusal.NoSuchFigure) entry
   none-named e = record {
@@ -232,7 +232,7 @@ module _ (given : FirstGiven) (entry : List ℤ) where
   }
 
   pub of-figure : (f : Figure) → figureOf (given .code) (given .n) ≡ As f → {answer : Verdict} {exit : List ℤ}
-      → ClosingPromiseOf f (given .limit) (given .angles) (given .fixed) entry answer exit → ClosingPromise given entry answer exit
+      → ClosingPromiseOf f (given .limit) (given .angles) (given .rounds) (given .fixed) entry answer exit → ClosingPromise given entry answer exit
   of-figure f named promise =
       let verdict = sym (one-judged (given .code) (given .n) closingRowsNamed named) in
       record {
@@ -243,11 +243,11 @@ module _ (given : FirstGiven) (entry : List ℤ) where
       }
 
   abbrev checkRowsNamed : Figure → List Row
-  checkRowsNamed f = checkRowsFor f (given .limit) (given .angles) (given .fixed) entry
+  checkRowsNamed f = checkRowsFor f (given .limit) (given .angles) (given .rounds) (given .fixed) entry
 
   pub check-none-named : figureOf (given .code) (given .n) ≡ Nothing → Failed Refusal.NoSuchFigure ≡ checkAnswer given entry
   check-none-named e = sym (none-judged (given .code) (given .n) checkRowsNamed e)
 
   pub check-of-figure : (f : Figure) → figureOf (given .code) (given .n) ≡ As f
-      → checkAnswerOf f (given .limit) (given .angles) (given .fixed) entry ≡ checkAnswer given entry
+      → checkAnswerOf f (given .limit) (given .angles) (given .rounds) (given .fixed) entry ≡ checkAnswer given entry
   check-of-figure f named = sym (one-judged (given .code) (given .n) checkRowsNamed named)

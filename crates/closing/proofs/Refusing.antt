@@ -39,10 +39,10 @@ use Rattle.closing.proofs.Promised.{length-right, check-asked, check-re
 
 module _ (given : FirstGiven) (lent : List ℤ) where
   abbrev ownRows : Figure → List Row
-  ownRows f = closingRowsFor f (given .limit) (given .angles) (given .fixed) (length lent)
+  ownRows f = closingRowsFor f (given .limit) (given .angles) (given .rounds) (given .fixed) (length lent)
 
   abbrev ownChecks : Figure → List Row
-  ownChecks f = checkRowsFor f (given .limit) (given .angles) (given .fixed) lent
+  ownChecks f = checkRowsFor f (given .limit) (given .angles) (given .rounds) (given .fixed) lent
 
   pub closing-in-table : T (allInTable (closingRows given lent))
   unfolding closingRowsFor firstRows
@@ -72,7 +72,7 @@ never-fifteen given lent p e =
     ⊎-elim (λ (zero : 15 ≡ 0). absurd (omega arith)) (not-standing 15 (closingRows given lent) (go (figureOf (given .code) (given .n))))
     (answered-stands (closingRows given lent) 15 p (answers-exactly (closingRows given lent) (closing-in-table given lent) 15 p .0 e))
   where
-    go : (m : Named) → T (others 15 (ofNamed m [] (λ f. closingRowsFor f (given .limit) (given .angles) (given .fixed) (length lent))))
+    go : (m : Named) → T (others 15 (ofNamed m [] (λ f. closingRowsFor f (given .limit) (given .angles) (given .rounds) (given .fixed) (length lent))))
     go Nothing = tt
     go (As f) = tt
 
@@ -80,22 +80,22 @@ never-fifteen given lent p e =
 
 module _ (given : FirstGiven) (lent : FirstLent) (corrections : List ℤ) (fitting : Fitting given lent corrections) where
   abbrev firstOwn : Figure → List Row
-  firstOwn f = firstRows f (given .limit) (given .angles) (given .fixed) (firstLengthsLent given lent)
+  firstOwn f = firstRows f (given .limit) (given .angles) (given .rounds) (given .fixed) (firstLengthsLent given lent)
 
   abbrev passOf : Figure → List Row
-  passOf f = passRows f (given .limit) (given .angles) (given .fixed)
+  passOf f = passRows f (given .limit) (given .angles) (given .rounds) (given .fixed)
 
   first-is : (f : Figure) → figureOf (given .code) (given .n) ≡ As f → firstAnswer given lent ≡ judged (passOf f)
   unfolding firstPassVerdict firstPassRows
   first-is f named =
       one-judged (given .code) (given .n) firstOwn named
-      ∙ ap (λ (l : List ℕ). judged (firstRows f (given .limit) (given .angles) (given .fixed) (length (given .angles) ∷ length (given .fixed) ∷ l)))
+      ∙ ap (λ (l : List ℕ). judged (firstRows f (given .limit) (given .angles) (given .rounds) (given .fixed) (length (given .angles) ∷ length (given .rounds) ∷ length (given .fixed) ∷ l)))
       (fitting f named .1)
 
   closing-is : (f : Figure) → figureOf (given .code) (given .n) ≡ As f → closingAnswer given corrections ≡ judged (passOf f)
   closing-is f named =
       one-judged (given .code) (given .n) (ownRows given corrections) named
-      ∙ length-right f (given .limit) (given .angles) (given .fixed) (length corrections) (fitting f named .0)
+      ∙ length-right f (given .limit) (given .angles) (given .rounds) (given .fixed) (length corrections) (fitting f named .0)
 
   -- the same number and place, or done
   pub as-the-first-pass : closingAnswer given corrections ≡ firstAnswer given lent
@@ -117,14 +117,14 @@ module _ (given : FirstGiven) (lent : FirstLent) (corrections : List ℤ) (fitti
           none-judged (given .code) (given .n) (ownChecks given corrections) none ∙ sym (none-judged (given .code) (given .n) firstOwn none) ∙ failed
       go (As f) named =
           one-judged (given .code) (given .n) (ownChecks given corrections) named
-          ∙ sym (check-refused f (given .limit) (given .angles) (given .fixed) corrections (fitting f named .0) (firstAnswer given lent) (first-is f named) r failed) ∙ failed
+          ∙ sym (check-refused f (given .limit) (given .angles) (given .rounds) (given .fixed) corrections (fitting f named .0) (firstAnswer given lent) (first-is f named) r failed) ∙ failed
 
   -- and else asks both rules
   module _ (passed : firstAnswer given lent ≡ Passed) (f : Figure) (named : figureOf (given .code) (given .n) ≡ As f) where
     check-is : checkAnswer given corrections ≡ verdictOf (rulesRow f (given .angles) (given .fixed) corrections)
     check-is =
         one-judged (given .code) (given .n) (ownChecks given corrections) named
-        ∙ sym (check-asked f (given .limit) (given .angles) (given .fixed) corrections (fitting f named .0) (firstAnswer given lent) (first-is f named) passed)
+        ∙ sym (check-asked f (given .limit) (given .angles) (given .rounds) (given .fixed) corrections (fitting f named .0) (firstAnswer given lent) (first-is f named) passed)
 
     pub check-passes : (checkAnswer given corrections ≡ Passed) ↔ BothRules f (given .angles) (given .fixed) (vector corrections)
     check-passes =
@@ -145,18 +145,18 @@ module _ (given : FirstGiven) (lent : FirstLent) (corrections : List ℤ) (fitti
 
 -- ---- the check accepts our own choice
 
-pass-passed : (f : Figure) (limit : ℕ) (angles fixed : List ℕ) (lent : ℕ) → judged (closingRowsFor f limit angles fixed lent) ≡ Passed
-    → judged (passRows f limit angles fixed) ≡ Passed
+pass-passed : (f : Figure) (limit : ℕ) (angles rounds fixed : List ℕ) (lent : ℕ) → judged (closingRowsFor f limit angles rounds fixed lent) ≡ Passed
+    → judged (passRows f limit angles rounds fixed) ≡ Passed
 unfolding closingRowsFor
-pass-passed f limit angles fixed lent e = both-parts (lengthsRow (lent ∷ []) (angleCount f ∷ []) ∷ []) (passRows f limit angles fixed) e .1
+pass-passed f limit angles rounds fixed lent e = both-parts (lengthsRow (lent ∷ []) (angleCount f ∷ []) ∷ []) (passRows f limit angles rounds fixed) e .1
 
 pub own-choice-passes : (given : FirstGiven) (entry : List ℤ) (f : Figure) → figureOf (given .code) (given .n) ≡ As f → closingAnswer given entry ≡ Passed
     → checkAnswer given (choiceOf f (given .angles) (given .fixed)) ≡ Passed
 own-choice-passes given entry f named passed =
     let chosen : List ℤ = choiceOf f (given .angles) (given .fixed) in
     let own : length chosen ≡ angleCount f = length-listed (angleCount f) (choice f (misclosure f (given .angles) (given .fixed))) in
-    let ok : judged (passRows f (given .limit) (given .angles) (given .fixed)) ≡ Passed =
-    pass-passed f (given .limit) (given .angles) (given .fixed) (length entry) (sym (one-judged (given .code) (given .n) (ownRows given entry) named) ∙ passed) in
+    let ok : judged (passRows f (given .limit) (given .angles) (given .rounds) (given .fixed)) ≡ Passed =
+    pass-passed f (given .limit) (given .angles) (given .rounds) (given .fixed) (length entry) (sym (one-judged (given .code) (given .n) (ownRows given entry) named) ∙ passed) in
     one-judged (given .code) (given .n) (ownChecks given chosen) named
-    ∙ sym (check-asked f (given .limit) (given .angles) (given .fixed) chosen own Passed (sym ok) refl)
+    ∙ sym (check-asked f (given .limit) (given .angles) (given .rounds) (given .fixed) chosen own Passed (sym ok) refl)
     ∙ row-passes-exactly f (given .angles) (given .fixed) chosen own .1 (choice-keeps-rules f (given .angles) (given .fixed))

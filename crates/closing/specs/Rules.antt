@@ -17,8 +17,8 @@ use Rattle.closing.specs.Choice.{choice}
 use Rattle.closing.specs.Floor.{floorQuotient, ceilingQuotient}
 
 -- the rows of the first pass, whose slices for results have the figure's lengths
-abbrev pub passRows : Figure → (limit : ℕ) → (angles fixed : List ℕ) → List Row
-passRows f limit angles fixed = firstRows f limit angles fixed (length angles ∷ length fixed ∷ firstResultLengths f)
+abbrev pub passRows : Figure → (limit : ℕ) → (angles rounds fixed : List ℕ) → List Row
+passRows f limit angles rounds fixed = firstRows f limit angles rounds fixed (length angles ∷ length rounds ∷ length fixed ∷ firstResultLengths f)
 
 -- ---- the rules, of corrections x
 

@@ -20,16 +20,17 @@ pub fn closing_corrections(
     n: u32,
     limit: u32,
     angles: &[u32],
+    rounds: &[u8],
     fixed: &[u32],
     corrections: &mut [i32],
 ) -> Verdict
-    ensures { λ answer. ⌜ ClosingPromise (firstGiven code n limit (now (angles .entry)) (now (fixed .entry)))
+    ensures { λ answer. ⌜ ClosingPromise (firstGiven code n limit (now (angles .entry)) (now (rounds .entry)) (now (fixed .entry)))
         (now (corrections .entry)) answer (now (corrections .exit)) ⌝ }
 {
     let Named::As(figure) = figures::figure_of(code, n) else {
         return Verdict::Failed(Refusal::NoSuchFigure);
     };
-    closing_of(figure, limit, angles, fixed, corrections)
+    closing_of(figure, limit, angles, rounds, fixed, corrections)
 }
 
 // The same of a figure that is named already.
@@ -37,10 +38,11 @@ fn closing_of(
     figure: Figure,
     limit: u32,
     angles: &[u32],
+    rounds: &[u8],
     fixed: &[u32],
     corrections: &mut [i32],
 ) -> Verdict
-    ensures { λ answer. ⌜ ClosingPromiseOf figure limit (now (angles .entry)) (now (fixed .entry))
+    ensures { λ answer. ⌜ ClosingPromiseOf figure limit (now (angles .entry)) (now (rounds .entry)) (now (fixed .entry))
         (now (corrections .entry)) answer (now (corrections .exit)) ⌝ }
 {
     let counts = figure_tables::counts_of(figure);
@@ -51,7 +53,15 @@ fn closing_of(
     }
     let mut w = [0i32; MOST_CONDITIONS];
     let mut exact = [0i32; MOST_ANGLES];
-    let verdict = exact_into(figure, limit, angles, fixed, &mut w[..m], &mut exact[..n]);
+    let verdict = exact_into(
+        figure,
+        limit,
+        angles,
+        rounds,
+        fixed,
+        &mut w[..m],
+        &mut exact[..n],
+    );
     if let Verdict::Passed = verdict {
         choice_into(figure, counts.denominator as u64, &exact[..n], corrections);
     }
@@ -64,20 +74,28 @@ pub fn check_closing(
     n: u32,
     limit: u32,
     angles: &[u32],
+    rounds: &[u8],
     fixed: &[u32],
     offered: &[i32],
 ) -> Verdict
     ensures { λ answer. ⌜ answer
-        ≡ checkAnswer (firstGiven code n limit (now (angles .entry)) (now (fixed .entry))) (now (offered .entry)) ⌝ }
+        ≡ checkAnswer (firstGiven code n limit (now (angles .entry)) (now (rounds .entry)) (now (fixed .entry))) (now (offered .entry)) ⌝ }
 {
     let Named::As(figure) = figures::figure_of(code, n) else {
         return Verdict::Failed(Refusal::NoSuchFigure);
     };
-    check_of(figure, limit, angles, fixed, offered)
+    check_of(figure, limit, angles, rounds, fixed, offered)
 }
 
-fn check_of(figure: Figure, limit: u32, angles: &[u32], fixed: &[u32], offered: &[i32]) -> Verdict
-    ensures { λ answer. ⌜ answer ≡ checkAnswerOf figure limit (now (angles .entry)) (now (fixed .entry)) (now (offered .entry)) ⌝ }
+fn check_of(
+    figure: Figure,
+    limit: u32,
+    angles: &[u32],
+    rounds: &[u8],
+    fixed: &[u32],
+    offered: &[i32],
+) -> Verdict
+    ensures { λ answer. ⌜ answer ≡ checkAnswerOf figure limit (now (angles .entry)) (now (rounds .entry)) (now (fixed .entry)) (now (offered .entry)) ⌝ }
 {
     let counts = figure_tables::counts_of(figure);
     let n = counts.angles;
@@ -87,7 +105,15 @@ fn check_of(figure: Figure, limit: u32, angles: &[u32], fixed: &[u32], offered: 
     }
     let mut w = [0i32; MOST_CONDITIONS];
     let mut exact = [0i32; MOST_ANGLES];
-    let verdict = exact_into(figure, limit, angles, fixed, &mut w[..m], &mut exact[..n]);
+    let verdict = exact_into(
+        figure,
+        limit,
+        angles,
+        rounds,
+        fixed,
+        &mut w[..m],
+        &mut exact[..n],
+    );
     if let Verdict::Failed(_) = verdict {
         return verdict;
     }

@@ -28,7 +28,7 @@ module _ (sheet head : List ℕ) where
   by-verdict found v e judged-so = ap₂ (λ (l : Look) (w : Verdict). ofHead l head (λ kind f. stored w (lookHead kind f) head)) e judged-so
 
   pub look-refusal : (refusal : Refusal) → lookOf sheet ≡ Look.Refused refusal → judged (lookRows sheet head) ≡ Failed refusal
-  look-refusal refusal e = judged-after-failure (headRows sheet) (lengthsRow (length head ∷ []) (8 ∷ []) ∷ []) refusal (sym (look-judged sheet) ∙ ap headVerdict e)
+  look-refusal refusal e = judged-after-failure (headRows sheet) (lengthsRow (length head ∷ []) (9 ∷ []) ∷ []) refusal (sym (look-judged sheet) ∙ ap headVerdict e)
 
   pub look-refused : {answer : ℕ} (refusal : Refusal) → lookOf sheet ≡ Look.Refused refusal → answer ≡ answerNumber (refusalTold refusal) → LookPromise sheet head answer head
   look-refused refusal e answer = record {
@@ -40,21 +40,21 @@ module _ (sheet head : List ℕ) where
     passed : judged (headRows sheet) ≡ Passed
     passed = sym (look-judged sheet) ∙ ap headVerdict found
 
-    length-decides : judged (lookRows sheet head) ≡ judged (lengthsRow (length head ∷ []) (8 ∷ []) ∷ [])
-    length-decides = judged-after-pass (headRows sheet) (lengthsRow (length head ∷ []) (8 ∷ []) ∷ []) passed
+    length-decides : judged (lookRows sheet head) ≡ judged (lengthsRow (length head ∷ []) (9 ∷ []) ∷ [])
+    length-decides = judged-after-pass (headRows sheet) (lengthsRow (length head ∷ []) (9 ∷ []) ∷ []) passed
 
-    pub look-wrong : {answer : ℕ} → (length head ≡ 8 → ⊥) → answer ≡ answerNumber (refusalTold Refusal.WrongLength) → LookPromise sheet head answer head
+    pub look-wrong : {answer : ℕ} → (length head ≡ 9 → ⊥) → answer ≡ answerNumber (refusalTold Refusal.WrongLength) → LookPromise sheet head answer head
     look-wrong differs answer =
-        let failed = length-decides ∙ wrong-length (length head) 8 differs [] in
+        let failed = length-decides ∙ wrong-length (length head) 9 differs [] in
         record {
           answered = answer ∙ sym (ap (λ (v : Verdict). answerNumber (verdictTold v)) failed);
           leaves = sym (by-verdict (Head kind f) (Failed Refusal.WrongLength) found failed);
         }
 
-    pub look-done : {left : List ℕ} → length head ≡ 8 → left ≡ lookHead kind f → LookPromise sheet head 0 left
+    pub look-done : {left : List ℕ} → length head ≡ 9 → left ≡ lookHead kind f → LookPromise sheet head 0 left
     unfolding answerOf
     look-done right stores =
-        let done = length-decides ∙ right-length (length head) 8 right [] in
+        let done = length-decides ∙ right-length (length head) 9 right [] in
         record {
           answered = sym (ap (λ (v : Verdict). answerNumber (verdictTold v)) done ∙ done-number);
           leaves = stores ∙ sym (by-verdict (Head kind f) Passed found done);

@@ -82,13 +82,17 @@ write-within kind code n v size = λ no-kind no-figure. go (headOf kind code n)
     go (Head k f) = λ lengths range. (
         let same = same-lengths (lengthsGiven v ++ (size ∷ [])) (ownLengths k f ++ (sheetSize k f ∷ [])) lengths in
         let by-angle : length (v .angles) ≡ lengthsOf k f .angles = cc in
+        let by-rounds : length (v .rounds) ≡ lengthsOf k f .rounds = cc in
         let by-fixed : length (v .fixed) ≡ lengthsOf k f .fixed = cc in
         let by-sine : length (v .logSines) ≡ lengthsOf k f .«log_sines» = cc in
         let by-side : length (v .logSides) ≡ lengthsOf k f .«log_sides» = cc in
         let entries : length (v .logSines ++ v .logSides) ≤ mostAngles =
         omega (arith, length-append (v .logSines) (v .logSides), entry-bound k f) in (
           omega (arith, by-angle, angle-bound f),
-          λ angles. (omega (arith, by-fixed, fixed-in-few k f), λ fixed summed. (entries, λ sines. tt)),
+          λ angles. (
+            omega (arith, by-rounds, angle-bound f),
+            λ rounds. (omega (arith, by-fixed, fixed-in-few k f), λ fixed summed. (entries, λ sines. tt)),
+          ),
         )
         )
     go (Look.Refused refusal) = tt
@@ -101,14 +105,15 @@ first-within given lent = λ no-figure. go (figureOf (given .code) (given .n))
   where
     go : (named : Named)
         → PlacesWithin mostAngles
-        (ofNamed named [] (λ f. firstRows f (given .limit) (given .angles) (given .fixed) (firstLengthsLent given lent)))
+        (ofNamed named [] (λ f. firstRows f (given .limit) (given .angles) (given .rounds) (given .fixed) (firstLengthsLent given lent)))
     go Nothing = tt
     go (As f) =
-        pages.first-within f (given .limit) (given .angles) (given .fixed) (firstLengthsLent given lent) (λ lengths.
+        pages.first-within f (given .limit) (given .angles) (given .rounds) (given .fixed) (firstLengthsLent given lent) (λ lengths.
         let same = same-lengths (firstLengthsLent given lent) (firstLengths f) lengths in
         let by-angle : length (given .angles) ≡ angleCount f = cc in
+        let by-rounds : length (given .rounds) ≡ angleCount f = cc in
         let by-fixed : length (given .fixed) ≡ fixedCount f = cc in
-        (omega (arith, by-angle, angle-bound f), omega (arith, by-fixed, fixed-few f)))
+        (omega (arith, by-angle, angle-bound f), omega (arith, by-rounds, angle-bound f), omega (arith, by-fixed, fixed-few f)))
 
 -- ---- the rounding that closes: the first pass's rows, and two without a place
 
@@ -118,21 +123,22 @@ appended most (row k question ∷ rows) later a b = λ none. appended most rows 
 appended most (rowAt k places question ∷ rows) later a b = (a .0, λ none. appended most rows later (a .1 none) b)
 
 module _ (given : FirstGiven) (lent : List ℤ) where
-  pass-within : (f : Figure) → PlacesWithin mostAngles (passRows f (given .limit) (given .angles) (given .fixed))
+  pass-within : (f : Figure) → PlacesWithin mostAngles (passRows f (given .limit) (given .angles) (given .rounds) (given .fixed))
   pass-within f =
-      let lengths : List ℕ = length (given .angles) ∷ length (given .fixed) ∷ firstResultLengths f in
-      pages.first-within f (given .limit) (given .angles) (given .fixed) lengths (λ held.
+      let lengths : List ℕ = length (given .angles) ∷ length (given .rounds) ∷ length (given .fixed) ∷ firstResultLengths f in
+      pages.first-within f (given .limit) (given .angles) (given .rounds) (given .fixed) lengths (λ held.
       let same = same-lengths lengths (firstLengths f) held in
       let by-angle : length (given .angles) ≡ angleCount f = cc in
+      let by-rounds : length (given .rounds) ≡ angleCount f = cc in
       let by-fixed : length (given .fixed) ≡ fixedCount f = cc in
-      (omega (arith, by-angle, angle-bound f), omega (arith, by-fixed, fixed-few f)))
+      (omega (arith, by-angle, angle-bound f), omega (arith, by-rounds, angle-bound f), omega (arith, by-fixed, fixed-few f)))
 
   pub closing-within : PlacesWithin mostAngles (closingRows given lent)
   unfolding closingRowsFor
   closing-within = λ no-figure. go (figureOf (given .code) (given .n))
     where
       go : (named : Named)
-          → PlacesWithin mostAngles (ofNamed named [] (λ f. closingRowsFor f (given .limit) (given .angles) (given .fixed) (length lent)))
+          → PlacesWithin mostAngles (ofNamed named [] (λ f. closingRowsFor f (given .limit) (given .angles) (given .rounds) (given .fixed) (length lent)))
       go Nothing = tt
       go (As f) = λ own. pass-within f
 
@@ -140,29 +146,30 @@ module _ (given : FirstGiven) (lent : List ℤ) where
   unfolding checkRowsFor closingRowsFor
   check-within = λ no-figure. go (figureOf (given .code) (given .n))
     where
-      go : (named : Named) → PlacesWithin mostAngles (ofNamed named [] (λ f. checkRowsFor f (given .limit) (given .angles) (given .fixed) lent))
+      go : (named : Named) → PlacesWithin mostAngles (ofNamed named [] (λ f. checkRowsFor f (given .limit) (given .angles) (given .rounds) (given .fixed) lent))
       go Nothing = tt
       go (As f) =
-          λ own. appended mostAngles (passRows f (given .limit) (given .angles) (given .fixed)) (rulesRow f (given .angles) (given .fixed) lent ∷ []) (pass-within f)
+          λ own. appended mostAngles (passRows f (given .limit) (given .angles) (given .rounds) (given .fixed)) (rulesRow f (given .angles) (given .fixed) lent ∷ []) (pass-within f)
           (λ rules. tt)
 
 -- the lengths that are judged are those of the slices, or none
-judged-lengths : (b c : Bool) (f : Figure) (angles : List ℕ) (e : SineEntries) (others : List ℕ)
-    → cond b (cond c (length angles ∷ length (e .logSines) ∷ length (e .differences) ∷ length (e .logSides) ∷ others) []) []
+judged-lengths : (b c : Bool) (f : Figure) (angles rounds : List ℕ) (e : SineEntries) (others : List ℕ)
+    → cond b (cond c (length angles ∷ length rounds ∷ length (e .logSines) ∷ length (e .differences) ∷ length (e .logSides) ∷ others) []) []
     ≡ secondLengths f
-    → (length angles ≤ mostAngles) × (length (e .logSines ++ e .logSides) ≤ mostAngles)
-judged-lengths true true f angles e others same =
+    → (length angles ≤ mostAngles) × (length rounds ≤ mostAngles) × (length (e .logSines ++ e .logSides) ≤ mostAngles)
+judged-lengths true true f angles rounds e others same =
     let by-angle : length angles ≡ angleCount f = cc in
+    let by-rounds : length rounds ≡ angleCount f = cc in
     let by-sine : length (e .logSines) ≡ angleCount f = cc in
     let by-side : length (e .logSides) ≡ sideCount f = cc in
     let entries : length (e .logSines ++ e .logSides) ≤ mostAngles =
     omega (arith, length-append (e .logSines) (e .logSides), by-sine, by-side, entry-bound Two f) in
-    (omega (arith, by-angle, angle-bound f), entries)
-judged-lengths true false f angles e others same = absurd (let z : _≡_ {A = ℕ} 0 1 = cc in omega arith)
-judged-lengths false c f angles e others same = absurd (let z : _≡_ {A = ℕ} 0 1 = cc in omega arith)
+    (omega (arith, by-angle, angle-bound f), omega (arith, by-rounds, angle-bound f), entries)
+judged-lengths true false f angles rounds e others same = absurd (let z : _≡_ {A = ℕ} 0 1 = cc in omega arith)
+judged-lengths false c f angles rounds e others same = absurd (let z : _≡_ {A = ℕ} 0 1 = cc in omega arith)
 
 pub sums-in-table : (given : SecondGiven) (lent : SumsLent) → T (allInTable (sumsRows given lent))
-sums-in-table given lent = second-in-table (given .code) (given .n) (given .tolerance) (given .angles) (given .entries) _
+sums-in-table given lent = second-in-table (given .code) (given .n) (given .tolerance) (given .angles) (given .rounds) (given .entries) _
 
 pub sums-within : (given : SecondGiven) (lent : SumsLent) → PlacesWithin mostAngles (sumsRows given lent)
 unfolding secondPassRows
@@ -170,12 +177,12 @@ sums-within given lent = λ no-figure. go (figureOf (given .code) (given .n))
   where
     go : (named : Named)
         → PlacesWithin mostAngles
-        (ofNamed named [] (λ f. secondRows f (given .tolerance) (given .angles) (given .entries) (sumsLengths given lent)))
+        (ofNamed named [] (λ f. secondRows f (given .tolerance) (given .angles) (given .rounds) (given .entries) (sumsLengths given lent)))
     go Nothing = tt
     go (As f) =
-        pages.second-within f (given .tolerance) (given .angles) (given .entries) _ (λ lengths.
+        pages.second-within f (given .tolerance) (given .angles) (given .rounds) (given .entries) _ (λ lengths.
         judged-lengths (eqb (length (lent .misclosures)) (sineCount (given .code) (given .n))) (eqb (length (lent .divisor)) 2) f
-        (given .angles) (given .entries) _ (same-lengths _ (secondLengths f) lengths))
+        (given .angles) (given .rounds) (given .entries) _ (same-lengths _ (secondLengths f) lengths))
 
 -- ---- a sheet's text
 

@@ -70,7 +70,7 @@ module _ (given : SecondGiven) (entry : SumsLent) where
 
   -- what is judged in given lengths
   abbrev rowsIn : List ℕ → Verdict
-  rowsIn lent = judged (secondPassRows code n (given .tolerance) (given .angles) (given .entries) lent)
+  rowsIn lent = judged (secondPassRows code n (given .tolerance) (given .angles) (given .rounds) (given .entries) lent)
 
   -- whether the slices of C's own have their lengths
   abbrev asMany : Bool
@@ -140,7 +140,7 @@ module _ (given : SecondGiven) (entry : SumsLent) where
     unfolding secondPassVerdict
     told-verdict =
         ap secondTold (promise .answered)
-        ∙ second-tells code n (given .tolerance) (given .angles) (given .entries) (secondLengthsLent given (entry .values))
+        ∙ second-tells code n (given .tolerance) (given .angles) (given .rounds) (given .entries) (secondLengthsLent given (entry .values))
         ∙ sym (ap (λ (lent : List ℕ). verdictTold (rowsIn lent)) as-lent)
 
     refusal-told : (refusal : Refusal) → told ≡ Refused refusal → verdictTold (judged (sumsRows given entry)) ≡ refusalTold refusal

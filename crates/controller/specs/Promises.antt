@@ -28,17 +28,17 @@ use Rattle.controller.specs.Answer.{answerNumber, lengthsWith}
 abbrev pub answerBy : List Row → ℕ
 answerBy rows = answerNumber (verdictTold (judged rows))
 
--- ---- a look: kind, code, n, and how many angles, fixed angles, log-sines, conditions and log sides
+-- ---- a look: kind, code, n, and how many angles, fixed angles, log-sines, conditions, log sides and rounds
 
 abbrev pub lookHead : Kind → Figure → List ℕ
 lookHead kind f =
     numberOfKind kind ∷ description f .code ∷ description f .n
     ∷ lengthsOf kind f .angles ∷ lengthsOf kind f .fixed ∷ lengthsOf kind f .«log_sines» ∷ conditionCount f
-    ∷ lengthsOf kind f .«log_sides» ∷ []
+    ∷ lengthsOf kind f .«log_sides» ∷ lengthsOf kind f .rounds ∷ []
 
--- 12 if under two bytes, 11, 1, 2: `head` has eight values
+-- 12 if under two bytes, 11, 1, 2: `head` has nine values
 abbrev pub lookRows : (sheet head : List ℕ) → List Row
-lookRows sheet head = headRows sheet ++ (lengthsRow (length head ∷ []) (8 ∷ []) ∷ [])
+lookRows sheet head = headRows sheet ++ (lengthsRow (length head ∷ []) (9 ∷ []) ∷ [])
 
 abbrev pub lookLeft : (sheet head : List ℕ) → List ℕ
 lookLeft sheet head = ofHead (lookOf sheet) head (λ kind f. stored (judged (lookRows sheet head)) (lookHead kind f) head)
@@ -110,7 +110,7 @@ sumsLengths given lent =
 -- the rows of the second pass
 abbrev pub sumsRows : SecondGiven → SumsLent → List Row
 sumsRows given lent =
-    secondPassRows (given .code) (given .n) (given .tolerance) (given .angles) (given .entries) (sumsLengths given lent)
+    secondPassRows (given .code) (given .n) (given .tolerance) (given .angles) (given .rounds) (given .entries) (sumsLengths given lent)
 
 -- W of the pole and, where the figure has it, of the side condition
 abbrev pub sineMisclosuresOf : Figure → SineEntries → List ℤ

@@ -14,8 +14,8 @@ use sheet_rules::Look;
 use sheet_rules::lengths_of;
 use sheet_rules::look_at;
 
-// Kind, code, n, and how many angles, fixed angles, log-sines, conditions and log sides.
-const HEAD_LENGTH: usize = 8;
+// Kind, code, n, and how many angles, fixed angles, log-sines, conditions, log sides and rounds.
+const HEAD_LENGTH: usize = 9;
 
 fn head_of(kind: Kind, figure: Figure) -> [u32; HEAD_LENGTH]
     ensures { λ head. ⌜ head ≡ lookHead kind figure ⌝ }
@@ -33,6 +33,7 @@ fn head_of(kind: Kind, figure: Figure) -> [u32; HEAD_LENGTH]
         lengths.log_sines as u32,
         counts.conditions as u32,
         lengths.log_sides as u32,
+        lengths.rounds as u32,
     ]
 }
 

@@ -53,6 +53,7 @@ pub extern "C" fn bienguloc_read(
     sheet: &[u8],
     head: &mut [u32],
     angles: &mut [u32],
+    rounds: &mut [u8],
     fixed: &mut [u32],
     log_sines: &mut [u32],
     differences: &mut [i32],
@@ -60,17 +61,25 @@ pub extern "C" fn bienguloc_read(
 ) -> u32
     ensures { λ answer. ⌜ ReadPromise (now (sheet .entry))
         (readLent (now (head .entry))
-        (slices (now (angles .entry)) (now (fixed .entry)) (now («log_sines» .entry)) (now (differences .entry))
+        (slices (now (angles .entry)) (now (rounds .entry)) (now (fixed .entry)) (now («log_sines» .entry)) (now (differences .entry))
         (now («log_sides» .entry))))
         answer
         (readLent (now (head .exit))
-        (slices (now (angles .exit)) (now (fixed .exit)) (now («log_sines» .exit)) (now (differences .exit))
+        (slices (now (angles .exit)) (now (rounds .exit)) (now (fixed .exit)) (now («log_sines» .exit)) (now (differences .exit))
         (now («log_sides» .exit)))) ⌝ }
 {
     if head.len() != HEAD_LENGTH {
         return refused(refusal_of_lengths(sheet));
     }
-    match read_sheet(sheet, angles, fixed, log_sines, differences, log_sides) {
+    match read_sheet(
+        sheet,
+        angles,
+        rounds,
+        fixed,
+        log_sines,
+        differences,
+        log_sides,
+    ) {
         Reading::Refused(refusal) => refused(refusal),
         Reading::Read {
             kind,

@@ -13,14 +13,15 @@ pub extern "C" fn bienguloc_closing(
     n: u32,
     limit: u32,
     angles: &[u32],
+    rounds: &[u8],
     fixed: &[u32],
     corrections: &mut [i32],
 ) -> u32
     ensures { λ answer. ⌜ ClosingPassPromise
-        (firstGiven code n limit (now (angles .entry)) (now (fixed .entry)))
+        (firstGiven code n limit (now (angles .entry)) (now (rounds .entry)) (now (fixed .entry)))
         (now (corrections .entry)) answer (now (corrections .exit)) ⌝ }
 {
-    answered(closing_corrections(code, n, limit, angles, fixed, corrections))
+    answered(closing_corrections(code, n, limit, angles, rounds, fixed, corrections))
 }
 
 #[no_mangle]
@@ -29,11 +30,13 @@ pub extern "C" fn bienguloc_check_closing(
     n: u32,
     limit: u32,
     angles: &[u32],
+    rounds: &[u8],
     fixed: &[u32],
     offered: &[i32],
 ) -> u32
     ensures { λ answer. ⌜ answer
-        ≡ answerBy (checkRows (firstGiven code n limit (now (angles .entry)) (now (fixed .entry))) (now (offered .entry))) ⌝ }
+        ≡ answerBy (checkRows (firstGiven code n limit (now (angles .entry)) (now (rounds .entry)) (now (fixed .entry)))
+        (now (offered .entry))) ⌝ }
 {
-    answered(check_closing(code, n, limit, angles, fixed, offered))
+    answered(check_closing(code, n, limit, angles, rounds, fixed, offered))
 }

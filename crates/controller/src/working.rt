@@ -30,31 +30,35 @@ pub extern "C" fn bienguloc_first_pass(
     n: u32,
     limit: u32,
     angles: &[u32],
+    rounds: &[u8],
     fixed: &[u32],
     misclosures: &mut [i32],
     numerators: &mut [i32],
     rounded: &mut [i32],
     corrected: &mut [u32],
+    corrected_rounds: &mut [u8],
     rests: &mut [i32],
 ) -> u32
     ensures { λ answer. ⌜ FirstPassPromise
-        (firstGiven code n limit (now (angles .entry)) (now (fixed .entry)))
+        (firstGiven code n limit (now (angles .entry)) (now (rounds .entry)) (now (fixed .entry)))
         (firstLent (now (misclosures .entry)) (now (numerators .entry)) (now (rounded .entry))
-        (now (corrected .entry)) (now (rests .entry)))
+        (now (corrected .entry)) (now («corrected_rounds» .entry)) (now (rests .entry)))
         answer
         (firstLent (now (misclosures .exit)) (now (numerators .exit)) (now (rounded .exit))
-        (now (corrected .exit)) (now (rests .exit))) ⌝ }
+        (now (corrected .exit)) (now («corrected_rounds» .exit)) (now (rests .exit))) ⌝ }
 {
     answered(first_pass(
         code,
         n,
         limit,
         angles,
+        rounds,
         fixed,
         misclosures,
         numerators,
         rounded,
         corrected,
+        corrected_rounds,
         rests,
     ))
 }
@@ -105,6 +109,7 @@ pub extern "C" fn bienguloc_second_pass(
     n: u32,
     tolerance: u32,
     angles: &[u32],
+    rounds: &[u8],
     log_sines: &[u32],
     differences: &[i32],
     log_sides: &[u32],
@@ -116,18 +121,19 @@ pub extern "C" fn bienguloc_second_pass(
     numerators_low: &mut [u64],
     rounded: &mut [i32],
     adjusted: &mut [u32],
+    adjusted_rounds: &mut [u8],
     rests: &mut [i32],
 ) -> u32
     ensures { λ answer. ⌜ SecondPassPromise
-        (secondGiven code n tolerance (now (angles .entry))
+        (secondGiven code n tolerance (now (angles .entry)) (now (rounds .entry))
         (sineEntries (now («log_sines» .entry)) (now (differences .entry)) (now («log_sides» .entry))))
         (sumsLent (now («sine_misclosures» .entry)) (now (divisor .entry))
         (secondLent (now (reduced .entry)) (now («side_reduced» .entry)) (now («numerators_high» .entry)) (now («numerators_low» .entry))
-        (now (rounded .entry)) (now (adjusted .entry)) (now (rests .entry))))
+        (now (rounded .entry)) (now (adjusted .entry)) (now («adjusted_rounds» .entry)) (now (rests .entry))))
         answer
         (sumsLent (now («sine_misclosures» .exit)) (now (divisor .exit))
         (secondLent (now (reduced .exit)) (now («side_reduced» .exit)) (now («numerators_high» .exit)) (now («numerators_low» .exit))
-        (now (rounded .exit)) (now (adjusted .exit)) (now (rests .exit)))) ⌝ }
+        (now (rounded .exit)) (now (adjusted .exit)) (now («adjusted_rounds» .exit)) (now (rests .exit)))) ⌝ }
 {
     if !have_own_lengths(code, n, sine_misclosures.len(), divisor.len()) {
         return refused(refusal_of_lengths(code, n));
@@ -137,6 +143,7 @@ pub extern "C" fn bienguloc_second_pass(
         n,
         tolerance,
         angles,
+        rounds,
         log_sines,
         differences,
         log_sides,
@@ -146,6 +153,7 @@ pub extern "C" fn bienguloc_second_pass(
         numerators_low,
         rounded,
         adjusted,
+        adjusted_rounds,
         rests,
     ) {
         SecondAnswer::Refused(refusal) => refused(refusal),

@@ -11,6 +11,7 @@ pub extern "C" fn bienguloc_write(
     n: u32,
     limit_or_tolerance: u32,
     angles: &[u32],
+    rounds: &[u8],
     fixed: &[u32],
     log_sines: &[u32],
     differences: &[i32],
@@ -18,8 +19,8 @@ pub extern "C" fn bienguloc_write(
     sheet: &mut [u8],
 ) -> u32
     ensures { λ answer. ⌜ WritePromise kind code n
-        (valuesFrom «limit_or_tolerance» (now (angles .entry)) (now (fixed .entry)) (now («log_sines» .entry)) (now (differences .entry))
-        (now («log_sides» .entry)))
+        (valuesFrom «limit_or_tolerance» (now (angles .entry)) (now (rounds .entry)) (now (fixed .entry))
+        (now («log_sines» .entry)) (now (differences .entry)) (now («log_sides» .entry)))
         (now (sheet .entry)) answer (now (sheet .exit)) ⌝ }
 {
     answered(write_sheet(
@@ -28,6 +29,7 @@ pub extern "C" fn bienguloc_write(
         n,
         limit_or_tolerance,
         angles,
+        rounds,
         fixed,
         log_sines,
         differences,

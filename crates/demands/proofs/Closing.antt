@@ -38,23 +38,23 @@ are-least-squares f w numerators rows =
     }
 
 -- code 2: every list of corrections that cancels the misclosures of a sheet that passes
-pub horizon-closes : (f : Figure) (limit : ℕ) (angles fixed results : List ℕ) (misclosures numerators : ℕ → ℤ) → description f .code ≡ 2
-    → judged (firstRows f limit angles fixed (length angles ∷ length fixed ∷ results)) ≡ Passed
+pub horizon-closes : (f : Figure) (limit : ℕ) (angles rounds fixed results : List ℕ) (misclosures numerators : ℕ → ℤ) → description f .code ≡ 2
+    → judged (firstRows f limit angles rounds fixed (length angles ∷ length rounds ∷ length fixed ∷ results)) ≡ Passed
     → ((j : ℕ) → j < conditionCount f → misclosures j ≡ misclosure f angles fixed j)
     → ((i : ℕ) → i < angleCount f → numerators i ≡ numerator f misclosures i)
     → HorizonCloses f angles misclosures numerators
-horizon-closes f limit angles fixed results w numerators two passed are rows = record {
+horizon-closes f limit angles rounds fixed results w numerators two passed are rows = record {
   exact = closes (denominator f) numerators (are-least-squares f w numerators rows .cancel);
   every = λ q positive x cancel. closes q x cancel;
 }
   where
-    entries : First.Entries f limit angles fixed (length angles ∷ length fixed ∷ results)
-    entries = First.accepted f limit angles fixed _ passed .entries
+    entries : First.Entries f limit angles rounds fixed (length angles ∷ length rounds ∷ length fixed ∷ results)
+    entries = First.accepted f limit angles rounds fixed _ passed .entries
 
     closes : (q : ℕ) (x : ℕ → ℤ) → Cancel f q x w → ClosesHorizon f q angles x
     closes q x cancel =
         Horizon.horizon-closes f (subst T (sym (eq-eqb (description f .code) 2 two)) tt) angles fixed
-        (ap (λ (l : List ℕ). getD l 1 0) (entries .lengths)) (entries .fixed-angles-sum) q x
+        (ap (λ (l : List ℕ). getD l 2 0) (entries .lengths)) (entries .fixed-angles-sum) q x
         (λ j h. cancel j h ∙ ap (λ (z : ℤ). negℤ (pos q) *ℤ z) (are j h))
 
 above-zero : (z : ℤ) → pos 0 ≤ℤ z → 0 < natAbs z → pos 0 <ℤ z

@@ -61,7 +61,7 @@ pub first-pass : FirstPass
 unfolding firstPassVerdict
 first-pass given entry exit answer promise =
     by-the-table verdictTold (firstRowsOf given entry)
-    (first-in-table (given .code) (given .n) (given .limit) (given .angles) (given .fixed) (firstLengthsLent given entry)) answer entry exit
+    (first-in-table (given .code) (given .n) (given .limit) (given .angles) (given .rounds) (given .fixed) (firstLengthsLent given entry)) answer entry exit
     (ap verdictTold (promise .answered))
     (λ refusal failed. promise .leaves ∙ kept-first given entry refusal failed)
 
@@ -69,10 +69,10 @@ pub second-pass : SecondPass
 unfolding secondPassVerdict
 second-pass given entry exit answer promise =
     by-the-table secondTold (secondRowsOf given entry)
-    (second-in-table (given .code) (given .n) (given .tolerance) (given .angles) (given .entries) (secondLengthsLent given entry))
+    (second-in-table (given .code) (given .n) (given .tolerance) (given .angles) (given .rounds) (given .entries) (secondLengthsLent given entry))
     answer entry exit
     (ap secondTold (promise .answered)
-    ∙ second-tells (given .code) (given .n) (given .tolerance) (given .angles) (given .entries) (secondLengthsLent given entry))
+    ∙ second-tells (given .code) (given .n) (given .tolerance) (given .angles) (given .rounds) (given .entries) (secondLengthsLent given entry))
     (λ refusal failed. promise .leaves
     ∙ kept-named (figureOf (given .code) (given .n)) (judged (secondRowsOf given entry)) refusal (λ f. secondValues f given) entry
     (ap verdictTold failed))
@@ -119,7 +119,7 @@ write-C kind code n v entry exit answer promise =
 
 pub first-pass-C : FirstPass-C
 first-pass-C given entry exit answer promise =
-    let known = first-in-table (given .code) (given .n) (given .limit) (given .angles) (given .fixed) (firstLengthsLent given entry) in
+    let known = first-in-table (given .code) (given .n) (given .limit) (given .angles) (given .rounds) (given .fixed) (firstLengthsLent given entry) in
     by-the-table answerTold (firstRowsOf given entry) known answer entry exit
     (answer-tells (firstRowsOf given entry) known (first-within given entry) (promise .answered))
     (λ refusal failed. promise .leaves ∙ kept-first given entry refusal failed)

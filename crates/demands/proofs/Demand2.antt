@@ -61,7 +61,7 @@ own-magnitude (negsuc n) low = absurd (low .le)
 -- ---- the first pass
 
 module _ (f : Figure) (given : FirstGiven) (lent : List ℕ) (named : figureOf (given .code) (given .n) ≡ As f)
-    (passed : judged (firstRows f (given .limit) (given .angles) (given .fixed) lent) ≡ Passed) where
+    (passed : judged (firstRows f (given .limit) (given .angles) (given .rounds) (given .fixed) lent) ≡ Passed) where
   abbrev N : ℕ
   N = angleCount f
 
@@ -77,7 +77,7 @@ module _ (f : Figure) (given : FirstGiven) (lent : List ℕ) (named : figureOf (
   corrected-own : (i : ℕ) → i < N → pos (natAbs (corrected f a x i)) ≡ corrected f a x i
   corrected-own i h =
       own-magnitude (corrected f a x i)
-      (First.accepted f (given .limit) a x lent passed .result-within i h .0)
+      (First.accepted f (given .limit) a (given .rounds) x lent passed .result-within i h .0)
 
   pub first-values-done : FirstDone given (firstValues f given)
   unfolding misclosure firstNumerator firstRounded corrected firstRest
@@ -102,6 +102,7 @@ module _ (f : Figure) (given : FirstGiven) (lent : List ℕ) (named : figureOf (
         ap pos (getD-listed N (λ k. natAbs (corrected f a x k)) i 0 h)
         ∙ corrected-own i h
         ∙ ap (λ (z : ℤ). pos (getD a i 0) +ℤ z) (sym (slice-at N (firstRounded f a x) i h));
+    rounds-unchanged = refl;
     rests = λ j h.
         slice-at M (firstRest f a x) j h
         ∙ ap₂ _+ℤ_ (sym (slice-at M (misclosure f a x) j h))
@@ -117,7 +118,7 @@ pub first-pass : FirstPass
 unfolding firstPassVerdict firstPassRows
 first-pass given entry exit promise =
     let accepted = of-figure (given .code) (given .n)
-    (λ f. firstRows f (given .limit) (given .angles) (given .fixed) (firstLengthsLent given entry)) (sym (promise .answered)) in
+    (λ f. firstRows f (given .limit) (given .angles) (given .rounds) (given .fixed) (firstLengthsLent given entry)) (sym (promise .answered)) in
     let left : exit ≡ firstValues (accepted .figure) given =
     promise .leaves
     ∙ ap₂ (λ (m : Named) (v : Verdict). ofNamed m entry (λ f. stored v (firstValues f given) entry)) (accepted .named)
@@ -128,7 +129,7 @@ first-pass given entry exit promise =
 -- ---- the second pass
 
 module _ (f : Figure) (given : SecondGiven) (lent : List ℕ) (named : figureOf (given .code) (given .n) ≡ As f)
-    (passed : judged (secondRows f (given .tolerance) (given .angles) (given .entries) lent) ≡ Passed) where
+    (passed : judged (secondRows f (given .tolerance) (given .angles) (given .rounds) (given .entries) lent) ≡ Passed) where
   abbrev N₂ : ℕ
   N₂ = angleCount f
 
@@ -141,8 +142,8 @@ module _ (f : Figure) (given : SecondGiven) (lent : List ℕ) (named : figureOf 
   abbrev left : SecondLent
   left = secondValues f given
 
-  ok : Accepted f (given .tolerance) (given .angles) e lent
-  ok = accepted f (given .tolerance) (given .angles) e lent passed
+  ok : Accepted f (given .tolerance) (given .angles) (given .rounds) e lent
+  ok = accepted f (given .tolerance) (given .angles) (given .rounds) e lent passed
 
   one-done : hasSide f ≡ false → OneSine f (sineMisclosure f e) (sideMisclosure f e) (divisor f e) left
   one-done one = record {
@@ -185,6 +186,7 @@ module _ (f : Figure) (given : SecondGiven) (lent : List ℕ) (named : figureOf 
         ap pos (getD-listed N₂ (λ k. natAbs (secondAdjusted f (given .angles) e k)) i 0 h)
         ∙ own-magnitude (secondAdjusted f (given .angles) e i) (ok .result-within i h .0)
         ∙ ap (λ (z : ℤ). pos (getD (given .angles) i 0) +ℤ z) (sym (slice-at N₂ (secondRounded f e) i h));
+    rounds-unchanged = refl;
     rests = λ j h.
         slice-at M₂ (secondRest f e) j h
         ∙ condition-agrees f (secondRounded f e) (vector (left .rounded)) (λ i b. sym (slice-at N₂ (secondRounded f e) i b)) j h;
@@ -247,7 +249,7 @@ second-pass given w sideW high low entry exit promise =
     let is = worked given entry w sideW high low (sym (promise .answered)) in
     let f : Figure = is .figure in
     let rows = one-judged (given .code) (given .n)
-    (λ g. secondRows g (given .tolerance) (given .angles) (given .entries) (secondLengthsLent given entry)) (is .named) in
+    (λ g. secondRows g (given .tolerance) (given .angles) (given .rounds) (given .entries) (secondLengthsLent given entry)) (is .named) in
     let left-is : exit ≡ secondValues f given =
     promise .leaves
     ∙ ap₂ (λ (m : Named) (v : Verdict). ofNamed m entry (λ g. stored v (secondValues g given) entry)) (is .named) (is .passed) in

@@ -55,7 +55,7 @@ unfolding firstPassVerdict
 first-C given entry exit promise =
     let passed : judged (firstRowsOf given entry) ≡ Passed =
     answered-done (firstRowsOf given entry)
-    (first-in-table (given .code) (given .n) (given .limit) (given .angles) (given .fixed) (firstLengthsLent given entry))
+    (first-in-table (given .code) (given .n) (given .limit) (given .angles) (given .rounds) (given .fixed) (firstLengthsLent given entry))
     (first-within given entry) (sym (promise .answered)) in
     record { answered = sym passed; leaves = promise .leaves }
 
@@ -68,9 +68,9 @@ horizon given entry exit promise f named two =
     let done = values.first-pass given entry exit promise in
     let same : done .figure ≡ f = one-figure (done .named) named in
     let rows = one-judged (given .code) (given .n)
-    (λ g. firstRows g (given .limit) (given .angles) (given .fixed) (firstLengthsLent given entry)) (done .named) in
+    (λ g. firstRows g (given .limit) (given .angles) (given .rounds) (given .fixed) (firstLengthsLent given entry)) (done .named) in
     subst (λ (g : Figure). HorizonCloses g (given .angles) (vector (exit .misclosures)) (vector (exit .numerators))) same
-    (horizon-closes (done .figure) (given .limit) (given .angles) (given .fixed) _ _ _ (ap (λ (g : Figure). description g .code) same ∙ two)
+    (horizon-closes (done .figure) (given .limit) (given .angles) (given .rounds) (given .fixed) _ _ _ (ap (λ (g : Figure). description g .code) same ∙ two)
     (sym rows ∙ sym (promise .answered)) (done .misclosures) (done .numerators))
 
 pub horizon-C : Horizon-C
@@ -87,7 +87,7 @@ second-exact given w sideW high low entry exit promise f named =
     let is = values.worked given entry w sideW high low (sym (promise .answered)) in
     let same : is .figure ≡ f = one-figure (is .named) named in
     let rows = one-judged (given .code) (given .n)
-    (λ g. secondRows g (given .tolerance) (given .angles) e (secondLengthsLent given entry)) named in
+    (λ g. secondRows g (given .tolerance) (given .angles) (given .rounds) e (secondLengthsLent given entry)) named in
     let left : exit ≡ secondValues f given =
     promise .leaves ∙ ap₂ (λ (m : Named) (v : Verdict). ofNamed m entry (λ g. stored v (secondValues g given) entry)) named (is .passed) in
     record {
@@ -95,7 +95,7 @@ second-exact given w sideW high low entry exit promise f named =
       w-is = ap (λ (g : Figure). sineMisclosure g e) (sym same) ∙ is .w-is;
       side-w-is = ap (λ (g : Figure). sideMisclosure g e) (sym same) ∙ is .side-w-is;
       divisor-is = ap (λ (g : Figure). divisor g e) (sym same) ∙ is .divisor-is;
-      divisor-some = accepted f (given .tolerance) (given .angles) e (secondLengthsLent given entry) (sym rows ∙ is .passed) .divisor-positive;
+      divisor-some = accepted f (given .tolerance) (given .angles) (given .rounds) e (secondLengthsLent given entry) (sym rows ∙ is .passed) .divisor-positive;
     }
 
 pub second-pass : SecondPass
@@ -118,7 +118,7 @@ second-exact-C given entry exit promise f named =
     let passed : judged (sumsRows given entry) ≡ Passed =
     answered-done (sumsRows given entry) (sums-in-table given entry) (sums-within given entry) (sym (promise .answered)) in
     let rows = one-judged (given .code) (given .n)
-    (λ g. secondRows g (given .tolerance) (given .angles) e (sumsLengths given entry)) named in
+    (λ g. secondRows g (given .tolerance) (given .angles) (given .rounds) e (sumsLengths given entry)) named in
     let left : exit ≡ sumsValues f given =
     promise .leaves ∙ ap₂ (λ (m : Named) (v : Verdict). ofNamed m entry (λ g. stored v (sumsValues g given) entry)) named passed in
     let words : SumsLent → ℤ = λ lent. joined (pos (getD (lent .divisor) 0 0)) (getD (lent .divisor) 1 0) in
@@ -127,7 +127,7 @@ second-exact-C given entry exit promise f named =
       w-is = sym (ap (λ (lent : SumsLent). vector (lent .misclosures) 0) left ∙ misclosure-at f e 0);
       side-w-is = sym (ap (λ (lent : SumsLent). vector (lent .misclosures) 1) left ∙ misclosure-at f e 1);
       divisor-is = sym (ap words left ∙ values.natural-joined (divisor f e) (divisor-natural f e));
-      divisor-some = accepted f (given .tolerance) (given .angles) e (sumsLengths given entry) (sym rows ∙ passed) .divisor-positive;
+      divisor-some = accepted f (given .tolerance) (given .angles) (given .rounds) e (sumsLengths given entry) (sym rows ∙ passed) .divisor-positive;
     }
 
 pub second-pass-C : SecondPass-C
@@ -144,7 +144,7 @@ first-sheet sheet worked is f outcome =
     let outcome-is : workedOf sheet .outcome ≡ First f = sym (ap (λ (s : WorkedSheet). s .outcome) is) ∙ outcome in
     rw is
     (⊎-elim
-    (λ (shown : FirstShown (workedOf sheet)).
+    (λ (shown : FirstShown sheet (workedOf sheet)).
     let same : shown .figure ≡ f = same-first (sym (ap (λ (s : WorkedSheet). s .outcome) (shown .is)) ∙ outcome-is) in
     subst (λ (g : Figure). LeastSquares g (vector (workedOf sheet .misclosures)) (vector (workedOf sheet .numerators))) same
     (subst (λ (s : WorkedSheet). LeastSquares (shown .figure) (vector (s .misclosures)) (vector (s .numerators))) (sym (shown .is))
@@ -167,7 +167,7 @@ second-sheet sheet worked is f w sideW divided outcome =
     let outcome-is : workedOf sheet .outcome ≡ Second f w sideW divided = sym (ap (λ (x : WorkedSheet). x .outcome) is) ∙ outcome in
     rw is
     (⊎-elim
-    (λ (shown : FirstShown (workedOf sheet)).
+    (λ (shown : FirstShown sheet (workedOf sheet)).
     absurd (not-first (sym (ap (λ (x : WorkedSheet). x .outcome) (shown .is)) ∙ outcome-is)))
     (⊎-elim
     (λ (shown : SecondShown sheet (workedOf sheet)). closes shown (sym (ap (λ (x : WorkedSheet). x .outcome) (shown .is)) ∙ outcome-is))
@@ -188,7 +188,7 @@ second-sheet sheet worked is f w sideW divided outcome =
     closes shown told =
         let g = shown .figure in
         let e = shown .entries in
-        let ok = accepted g (shown .tolerance) (shown .angles) e (secondSheetLengths g (shown .angles) e) (shown .passed) in
+        let ok = accepted g (shown .tolerance) (shown .angles) (shown .rounds) e (secondSheetLengths g (shown .angles) (shown .rounds) e) (shown .passed) in
         let same-figure : g ≡ f = cc in
         let w-is : sineMisclosure g e ≡ w = cc in
         let side-w-is : sideMisclosure g e ≡ sideW = cc in

@@ -27,7 +27,7 @@ use Rattle.figures.specs.Numerators.{conditionSum}
 use Rattle.pass_rules.specs.SecondPass.{SineEntries, secondRoundedOf, adjustedOf}
 use Rattle.pass_rules.proofs.FirstAccepted as First
 use Rattle.pass_rules.proofs.SecondAccepted.{Accepted, accepted}
-use Rattle.pass_sheet.specs.Worked.{WorkedSheet, firstSheetLengths, workedOf, secondShown, secondSheetLengths, outcomeTold, sheetRows}
+use Rattle.pass_sheet.specs.Worked.{WorkedSheet, firstSheetLengths, workedOf, secondShown, secondSheetLengths, outcomeTold, sheetRows, roundsHeld}
 use Rattle.pass_sheet.proofs.Refusals.{sheet-rows-known, worked-told}
 use Rattle.pass_sheet.proofs.ShownAs.{FirstShown, SecondShown, RefusedShown, shown-as}
 use Rattle.report.specs.declared.reporting.Reported.the-variants.{Written}
@@ -75,17 +75,19 @@ not-a-figure text k p figure e =
 -- ---- the pages of a sheet
 
 module _ (sheet : List ℕ) where
-  first-printed : (shown : FirstShown (workedOf sheet)) → FirstPage (shown .figure) (reportText sheet)
+  first-printed : (shown : FirstShown sheet (workedOf sheet)) → FirstPage (shown .figure) (roundsHeld sheet) (reportText sheet)
   unfolding textOf
   first-printed shown =
       let f = shown .figure in
       let a = shown .angles in
+      let r = shown .rounds in
       let x = shown .fixed in
-      let ok = First.accepted f (shown .limit) a x (firstSheetLengths f a x) (shown .passed) in
-      subst (λ (s : WorkedSheet). FirstPage f (textOf s)) (sym (shown .is))
-      (first-page f _ _ _ _ _ _ (are-least-squares f _ _ (first-numerators f a x) .cancel) (first-rests f a x)
+      let ok = First.accepted f (shown .limit) a r x (firstSheetLengths f a r x) (shown .passed) in
+      subst (λ (rounds : List ℕ). FirstPage f rounds (reportText sheet)) (sym (shown .rounds-held))
+      (subst (λ (s : WorkedSheet). FirstPage f r (textOf s)) (sym (shown .is))
+      (first-page f _ _ _ _ _ _ _ (are-least-squares f _ _ (first-numerators f a x) .cancel) (first-rests f a x)
       (λ i h. first-results f a x i h (ok .result-within i h .0))
-      (λ two. horizon-closes f (shown .limit) a x _ _ _ two (shown .passed) (first-misclosures f a x) (first-numerators f a x) .exact))
+      (λ two. horizon-closes f (shown .limit) a r x _ _ _ two (shown .passed) (first-misclosures f a x) (first-numerators f a x) .exact)))
 
   module _ (shown : SecondShown sheet (workedOf sheet)) where
     abbrev f : Figure
@@ -94,11 +96,14 @@ module _ (sheet : List ℕ) where
     abbrev a : List ℕ
     a = shown .angles
 
+    abbrev r : List ℕ
+    r = shown .rounds
+
     abbrev e : SineEntries
     e = shown .entries
 
-    ok : Accepted f (shown .tolerance) a e (secondSheetLengths f a e)
-    ok = accepted f (shown .tolerance) a e (secondSheetLengths f a e) (shown .passed)
+    ok : Accepted f (shown .tolerance) a r e (secondSheetLengths f a r e)
+    ok = accepted f (shown .tolerance) a r e (secondSheetLengths f a r e) (shown .passed)
 
     close : (j : ℕ) → j < conditionCount f → conditionSum f (exact f e) j ≡ pos 0
     close = sine-closes f e (exact f e) (second-numerators f e) (ok .divisor-positive) .linear
@@ -106,15 +111,17 @@ module _ (sheet : List ℕ) where
     result : (i : ℕ) → i < angleCount f → naturals a i +ℤ vector (secondRoundedOf f e) i ≡ naturals (adjustedOf f a e) i
     result i h = second-results f e a i h (ok .result-within i h .0)
 
-    page-of : (side : Bool) → hasSide f ≡ side → SinePage side f (textOf (secondShown f a e))
+    page-of : (side : Bool) → hasSide f ≡ side → SinePage side f r (textOf (secondShown f a r e))
     unfolding textOf
     page-of false one =
-        one-page f _ _ _ _ _ _ _ _ _ _ close (second-rests f e) result one (one-squares f e one) (one-numerators f e one)
+        one-page f _ _ _ _ _ _ _ _ _ _ _ close (second-rests f e) result one (one-squares f e one) (one-numerators f e one)
     page-of true both =
-        two-page f _ _ _ _ _ _ _ _ _ _ close (second-rests f e) result both (two-determinant f e both) (two-numerators f e both)
+        two-page f _ _ _ _ _ _ _ _ _ _ _ close (second-rests f e) result both (two-determinant f e both) (two-numerators f e both)
 
-    second-printed : SecondPage f (reportText sheet)
-    second-printed = subst (λ (s : WorkedSheet). SecondPage f (textOf s)) (sym (shown .is)) (page-of (hasSide f) refl)
+    second-printed : SecondPage f (roundsHeld sheet) (reportText sheet)
+    second-printed =
+        subst (λ (rounds : List ℕ). SecondPage f rounds (reportText sheet)) (sym (shown .rounds-held))
+        (subst (λ (s : WorkedSheet). SecondPage f r (textOf s)) (sym (shown .is)) (page-of (hasSide f) refl))
 
   refused-printed : (shown : RefusedShown (workedOf sheet))
       → reportText sheet ≡ refusedLine (numberOf (shown .refusal)) (placeOf (shown .refusal))
@@ -152,7 +159,7 @@ module _ (sheet : List ℕ) where
   printed : Printed sheet (reportText sheet)
   printed =
       ⊎-elim
-      (λ (shown : FirstShown (workedOf sheet)).
+      (λ (shown : FirstShown sheet (workedOf sheet)).
       let page = first-printed shown in
       record {
         page = inl (shown .figure, page);
@@ -161,7 +168,7 @@ module _ (sheet : List ℕ) where
       (⊎-elim
       (λ (shown : SecondShown sheet (workedOf sheet)).
       let page = second-printed shown in
-      let names = names-of (hasSide (shown .figure)) (shown .figure) (reportText sheet) page in
+      let names = names-of (hasSide (shown .figure)) (shown .figure) (roundsHeld sheet) (reportText sheet) page in
       record {
         page = inr (inl (shown .figure, page));
         refused = λ k p some. figure-page k p some (names .word) (outcome-told (shown .is));

@@ -69,7 +69,7 @@ module _ (f : Figure) (given : FirstGiven) (x : ℕ → ℤ) where
 -- what an accepted first pass leaves
 module _ (given : FirstGiven) (lent first : FirstLent) (promise : FirstPromise given lent Passed first) where
   abbrev rowsOf : Figure → List Row
-  rowsOf f = firstRows f (given .limit) (given .angles) (given .fixed) (firstLengthsLent given lent)
+  rowsOf f = firstRows f (given .limit) (given .angles) (given .rounds) (given .fixed) (firstLengthsLent given lent)
 
   accepted : OfFigure (given .code) (given .n) rowsOf
   unfolding firstPassVerdict firstPassRows
@@ -171,7 +171,7 @@ check-is-exact given lent first pass is offered answer e fitting =
 
 pub check-accepts-the-choice : CheckAcceptsTheChoice
 check-accepts-the-choice given entry chosen promise answer e =
-    let ok = of-figure (given .code) (given .n) (λ f. closingRowsFor f (given .limit) (given .angles) (given .fixed) (length entry)) (sym (promise .answered)) in
+    let ok = of-figure (given .code) (given .n) (λ f. closingRowsFor f (given .limit) (given .angles) (given .rounds) (given .fixed) (length entry)) (sym (promise .answered)) in
     e ∙ ap (checkAnswer given) (chosen-is given entry chosen promise (ok .figure) (ok .named))
     ∙ own-choice-passes given entry (ok .figure) (ok .named) (sym (promise .answered))
 
@@ -190,7 +190,7 @@ first-passed : (given : FirstGiven) (lent : FirstLent) → answerBy (firstRowsOf
 unfolding firstPassVerdict
 first-passed given lent e =
     answered-done (firstRowsOf given lent)
-    (first-in-table (given .code) (given .n) (given .limit) (given .angles) (given .fixed) (firstLengthsLent given lent)) (first-within given lent) e
+    (first-in-table (given .code) (given .n) (given .limit) (given .angles) (given .rounds) (given .fixed) (firstLengthsLent given lent)) (first-within given lent) e
 
 closing-passed : (given : FirstGiven) (entry : List ℤ) → answerBy (closingRows given entry) ≡ 0 → closingAnswer given entry ≡ Passed
 closing-passed given entry e = answered-done (closingRows given entry) (closing-in-table given entry) (closing-within given entry) e

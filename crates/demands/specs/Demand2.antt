@@ -1,7 +1,7 @@
 -- Demand 2. "For all eight figures: misclosures, first corrections, rests, reduced coefficients, S, W, second corrections and rounded
 -- angles are exactly those defined in 01 from the published fixed-coefficient method. An accepted packed sheet, read and written again, has
 -- the same bits, and a written sheet reads back as the same values." Document 02, M-100, adds a ninth figure, of which it says: "demand 2's
--- W is both Wa and Wb, its S the determinant".
+-- W is both Wa and Wb, its S the determinant". M-106 adds the rounds of each angle, "unchanged through both passes".
 --
 -- Said of the numbers that stand in the lent slices after a call: each is what document 01, "The two passes", and M-100 make of what was
 -- given and of the numbers in the other slices. Angles and conditions by their index, counted from 0; `vector` reads a slice by the index.
@@ -57,6 +57,8 @@ pub record FirstDone (given : FirstGiven) (lent : FirstLent) : Type 0 where
       → vector (lent .rounded) i ≡ roundedQuotient (vector (lent .numerators) i) (denominator figure)
   -- "The corrected angle is observed plus rounded"
   pub corrected : (i : ℕ) → i < angleCount figure → angleAt (lent .corrected) i ≡ angleAt (given .angles) i +ℤ vector (lent .rounded) i
+  -- M-106: each angle carries the rounds observed, those that were given
+  pub rounds-unchanged : lent .correctedRounds ≡ given .rounds
   -- "The rest of a condition is its misclosure plus the rounded corrections in it"
   pub rests : (j : ℕ) → j < conditionCount figure
       → vector (lent .rests) j ≡ vector (lent .misclosures) j +ℤ conditionSum figure (vector (lent .rounded)) j
@@ -142,6 +144,8 @@ pub record SecondDone (given : SecondGiven) (w sideW divisor : ℤ) (lent : Seco
   pub rounded : (i : ℕ) → i < angleCount figure → vector (lent .rounded) i ≡ roundedQuotient (numeratorsIn lent i) (natAbs divisor)
   -- "adjusted angle is given angle plus rounded"
   pub adjusted : (i : ℕ) → i < angleCount figure → angleAt (lent .adjusted) i ≡ angleAt (given .angles) i +ℤ vector (lent .rounded) i
+  -- M-106: each angle carries the rounds observed, those that were given
+  pub rounds-unchanged : lent .adjustedRounds ≡ given .rounds
   -- "The rest of a condition is the sum of rounded second corrections in it"
   pub rests : (j : ℕ) → j < conditionCount figure → vector (lent .rests) j ≡ conditionSum figure (vector (lent .rounded)) j
   -- and is at most half a tenth for each angle of the condition
@@ -162,7 +166,7 @@ AreBytes sheet = (i : ℕ) → getD sheet i 0 < 256
 -- what is left in the slices of a reader, with L or e, as the values of a sheet
 abbrev pub valuesIn : (limitOrTolerance : ℕ) → Slices → Values
 valuesIn limitOrTolerance lent =
-    valuesFrom limitOrTolerance (lent .angles) (lent .fixed) (lent .logSines) (lent .differences) (lent .logSides)
+    valuesFrom limitOrTolerance (lent .angles) (lent .rounds) (lent .fixed) (lent .logSines) (lent .differences) (lent .logSides)
 
 -- "An accepted packed sheet, read and written again, has the same bits": and the writer accepts it
 abbrev pub ReadThenWritten : Type 0

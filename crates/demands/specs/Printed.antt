@@ -1,10 +1,10 @@
 -- What is printed. The complaint that began this work: a controller printed corrections that did not cancel the misclosures above them.
 -- Here the numbers are read off the lines of the text of any bytes, as a person reads them, and nothing else is known of them.
 --
--- A line's parts are counted from 0: of a first pass, `figure 1 0 denominator 8`; `1 1620004 -12 -2 1620002`; `condition 1 4 0`. Of a second,
--- `figure 1 0 W 100 S 24315176`; `1 1620000 2049 -163920000 -7 1619993`; `condition 1 0`; with two sine conditions, M-100,
--- `figure 2 4 W 5 -3 determinant 7`, and on an angle's line B stands after A. The line of angle i, counted from 0, is line 1 + i, that of
--- condition j follows the angles' lines.
+-- A line's parts are counted from 0: of a first pass, `figure 1 0 denominator 8`; `1 1620004 -12 -2 1620002 1`; `condition 1 4 0`. Of a second,
+-- `figure 1 0 W 100 S 24315176`; `1 1620000 2049 -163920000 -7 1619993 1`; `condition 1 0`; with two sine conditions, M-100,
+-- `figure 2 4 W 5 -3 determinant 7`, and on an angle's line B stands after A. An angle's line ends in its rounds, M-106. The line of angle i,
+-- counted from 0, is line 1 + i, that of condition j follows the angles' lines.
 use Prim.Native.Nat.{ℕ, suc, _+_, _<_}
 use mathlib.Core.Bool.{Bool, true, false}
 use mathlib.Core.List.{List, [], _∷_}
@@ -19,7 +19,7 @@ use Rattle.figures.specs.Figure.{description, denominator, angleCount, conditio
 use Rattle.figures.specs.Numerators.{conditionSum, horizonSum}
 use Rattle.text.specs.Text.{decimal, lines, readNumber, readLines}
 use Rattle.lines.specs.Lines.{figureWord, denominatorWord, wWord, sWord, determinantWord, refusedWord}
-use Rattle.pass_sheet.specs.Worked.{sheetRows}
+use Rattle.pass_sheet.specs.Worked.{sheetRows, roundsHeld}
 use Rattle.report.specs.declared.reporting.Reported.the-variants.{Written}
 use Rattle.report.specs.Report.{ReportedPromise}
 use Rattle.controller.specs.Promises.{TextLent, ReportPromise}
@@ -45,8 +45,8 @@ pub record Names (f : Figure) (text : List ℕ) : Type 0 where
   pub code : numberOn text 0 1 ≡ pos (description f .code)
   pub n : numberOn text 0 2 ≡ pos (description f .n)
 
--- a text of a first pass
-pub record FirstPage (f : Figure) (text : List ℕ) : Type 0 where
+-- a text of a first pass; `rounds` are those that the sheet has
+pub record FirstPage (f : Figure) (rounds : List ℕ) (text : List ℕ) : Type 0 where
   pub names : Names f text
   pub denominator-word : part text 0 3 ≡ denominatorWord
   pub denominator-is : numberOn text 0 4 ≡ pos (denominator f)
@@ -60,10 +60,12 @@ pub record FirstPage (f : Figure) (text : List ℕ) : Type 0 where
   pub rests : (j : ℕ) → j < conditionCount f → ofCondition f text 2 j +ℤ conditionSum f (ofAngle text 3) j ≡ ofCondition f text 3 j
   -- the result is the given angle plus the rounded correction
   pub results : (i : ℕ) → i < angleCount f → ofAngle text 1 i +ℤ ofAngle text 3 i ≡ ofAngle text 4 i
+  -- the line ends in the angle's rounds (M-106)
+  pub rounds-last : (i : ℕ) → i < angleCount f → ofAngle text 5 i ≡ pos (getD rounds i 0)
 
--- a text of a second pass: what every one says, whose numerators stand in a place of the angles' lines, the rounded corrections after them and
--- then the results
-pub record SecondPageFrom (f : Figure) (text : List ℕ) (place : ℕ) : Type 0 where
+-- a text of a second pass: what every one says, whose numerators stand in a place of the angles' lines, the rounded corrections after them, then
+-- the results, and the rounds last
+pub record SecondPageFrom (f : Figure) (rounds : List ℕ) (text : List ℕ) (place : ℕ) : Type 0 where
   pub names : Names f text
   pub w-word : part text 0 3 ≡ wWord
   -- the numerators of each condition sum to 0
@@ -72,10 +74,12 @@ pub record SecondPageFrom (f : Figure) (text : List ℕ) (place : ℕ) : Type 0 
   pub rests : (j : ℕ) → j < conditionCount f → conditionSum f (ofAngle text (1 + place)) j ≡ ofCondition f text 2 j
   -- the result is the given angle plus the rounded correction
   pub results : (i : ℕ) → i < angleCount f → ofAngle text 1 i +ℤ ofAngle text (1 + place) i ≡ ofAngle text (2 + place) i
+  -- the line ends in the angle's rounds (M-106)
+  pub rounds-last : (i : ℕ) → i < angleCount f → ofAngle text (3 + place) i ≡ pos (getD rounds i 0)
 
 -- of a figure with one sine condition
-pub record OneSinePage (f : Figure) (text : List ℕ) : Type 0 where
-  pub page : SecondPageFrom f text 3
+pub record OneSinePage (f : Figure) (rounds : List ℕ) (text : List ℕ) : Type 0 where
+  pub page : SecondPageFrom f rounds text 3
   pub s-word : part text 0 5 ≡ sWord
   -- S is the sum of A², with A as printed
   pub s-is : numberOn text 0 6 ≡ squares (angleCount f) (ofAngle text 2)
@@ -84,8 +88,8 @@ pub record OneSinePage (f : Figure) (text : List ℕ) : Type 0 where
       → ofAngle text 3 i ≡ negℤ (pos 100) *ℤ pos (denominator f) *ℤ ofAngle text 2 i *ℤ numberOn text 0 4
 
 -- of a figure with two: M-100
-pub record TwoSinesPage (f : Figure) (text : List ℕ) : Type 0 where
-  pub page : SecondPageFrom f text 4
+pub record TwoSinesPage (f : Figure) (rounds : List ℕ) (text : List ℕ) : Type 0 where
+  pub page : SecondPageFrom f rounds text 4
   pub determinant-word : part text 0 6 ≡ determinantWord
   -- the determinant is [AA][BB] − [AB]², with A and B as printed
   pub determinant-is : numberOn text 0 7 ≡ determinantOf f (ofAngle text 2) (ofAngle text 3)
@@ -93,12 +97,12 @@ pub record TwoSinesPage (f : Figure) (text : List ℕ) : Type 0 where
   pub numerators : (i : ℕ) → i < angleCount f
       → ofAngle text 4 i ≡ exactOfTwo f (ofAngle text 2) (ofAngle text 3) (numberOn text 0 4) (numberOn text 0 5) i
 
-abbrev pub SinePage : (side : Bool) → Figure → (text : List ℕ) → Type 0
-SinePage false f text = OneSinePage f text
-SinePage true f text = TwoSinesPage f text
+abbrev pub SinePage : (side : Bool) → Figure → (rounds text : List ℕ) → Type 0
+SinePage false f rounds text = OneSinePage f rounds text
+SinePage true f rounds text = TwoSinesPage f rounds text
 
-abbrev pub SecondPage : Figure → (text : List ℕ) → Type 0
-SecondPage f text = SinePage (hasSide f) f text
+abbrev pub SecondPage : Figure → (rounds text : List ℕ) → Type 0
+SecondPage f rounds text = SinePage (hasSide f) f rounds text
 
 -- `refused 6 1`, number and place, alone
 abbrev pub refusedLine : (k p : ℕ) → List ℕ
@@ -106,7 +110,8 @@ refusedLine k p = lines ((refusedWord ∷ decimal (pos k) ∷ decimal (pos p) �
 
 -- the text of a sheet is a page of a first or of a second pass, where no row of its order holds; and else its refusal
 pub record Printed (sheet text : List ℕ) : Type 0 where
-  pub page : ((f : Figure) × FirstPage f text) ⊎ (((f : Figure) × SecondPage f text) ⊎ ((k : ℕ) × (p : ℕ) × (text ≡ refusedLine k p)))
+  pub page : ((f : Figure) × FirstPage f (roundsHeld sheet) text)
+      ⊎ (((f : Figure) × SecondPage f (roundsHeld sheet) text) ⊎ ((k : ℕ) × (p : ℕ) × (text ≡ refusedLine k p)))
   -- turned back with number k at place p if and only if the order of reader and pass says so
   pub refused : (k p : ℕ) → (k ≡ 0 → ⊥) → (text ≡ refusedLine k p) ↔ Answers (sheetRows sheet) k p
 

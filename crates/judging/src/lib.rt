@@ -10,5 +10,6 @@ pub use tests::lengths_verdict;
 pub use tests::limit_or_tolerance_verdict;
 pub use tests::misclosures_verdict;
 pub use tests::results_verdict;
+pub use tests::rounds_verdict;
 pub use tests::sine_entries_verdict;
 pub use tests::squares_verdict;

@@ -40,6 +40,26 @@ pub(crate) fn lowest_outside(values: &[u32], least: u32, most: u32) -> Lowest
     Lowest::Nowhere
 }
 
+fn is_count_outside(value: u8, least: u8, most: u8) -> bool
+    ensures { λ fails. ⌜ fails ≡ asked (outside least most value) ⌝ }
+{
+    value < least || most < value
+}
+
+// The same of counts of one byte.
+pub(crate) fn lowest_count_outside(values: &[u8], least: u8, most: u8) -> Lowest
+    ensures { λ lowest. ⌜ lowest ≡ lowestOutside (now (values .entry)) least most ⌝ }
+{
+    let mut passed = 0;
+    while passed < values.len() {
+        if is_count_outside(values[passed], least, most) {
+            return Lowest::At(passed + 1);
+        }
+        passed += 1;
+    }
+    Lowest::Nowhere
+}
+
 pub(crate) fn lowest_signed_outside(values: &[i32], least: i64, most: i64) -> Lowest
     ensures { λ lowest. ⌜ lowest ≡ lowestSignedOutside (now (values .entry)) least most ⌝ }
 {

@@ -8,13 +8,15 @@ ghost use lib.IntN.{pos};
 ghost use Rattle.refusals.specs.Order.{verdictOf};
 ghost use Rattle.refusals.specs.Questions.{sameNumbers};
 ghost use Rattle.refusals.specs.Table.{lengthsRow, limitOrToleranceRow, anglesRow, fixedRow, misclosuresRow};
-ghost use Rattle.refusals.specs.Table.{resultsRow, sineEntriesRow, sumOfSquaresRow, fixedSum, sumOfAll, fixedSumRow};
+ghost use Rattle.refusals.specs.Table.{resultsRow, sineEntriesRow, sumOfSquaresRow, fixedSum, sumOfAll, fixedSumRow, roundsRow};
 ghost use Rattle.judging.specs.Searches.{resultsOf};
+use crate::search::lowest_count_outside;
 use crate::search::lowest_entry_outside;
 use crate::search::lowest_outside;
 use crate::search::lowest_result_outside;
 use crate::search::lowest_signed_outside;
 use refusals::LEAST_ANGLE;
+use refusals::LEAST_ROUNDS;
 use refusals::Lowest;
 use refusals::MOST_ANGLE;
 use refusals::Refusal;
@@ -160,5 +162,15 @@ pub fn fixed_sum_verdict(fixed: &[u32]) -> Verdict
         Verdict::Passed
     } else {
         Verdict::Failed(Refusal::FixedAnglesDoNotSum)
+    }
+}
+
+// Number 16. An angle has at most `most` rounds: 255, or 1 where a sheet has no place for them.
+pub fn rounds_verdict(rounds: &[u8], most: u8) -> Verdict
+    ensures { λ verdict. ⌜ verdict ≡ verdictOf (roundsRow most (now (rounds .entry))) ⌝ }
+{
+    match lowest_count_outside(rounds, LEAST_ROUNDS, most) {
+        Lowest::Nowhere => Verdict::Passed,
+        Lowest::At(place) => Verdict::Failed(Refusal::RoundsOutOfRange(place)),
     }
 }

@@ -148,6 +148,6 @@ spaced-start p (q ∷ ps) =
 pub answered : {r z : ℤ} → mag r < 2 ^ 63 → r ≡ z → toZ w64 (ofZ w64 r) ≡ z
 answered fits e = toZ-ofZ (record { sfits = fits }) ∙ e
 
-pub five-same : {a b c d e a′ b′ c′ d′ e′ : ℤ} → a ≡ a′ → b ≡ b′ → c ≡ c′ → d ≡ d′ → e ≡ e′
-    → a ∷ b ∷ c ∷ d ∷ e ∷ [] ≡ a′ ∷ b′ ∷ c′ ∷ d′ ∷ e′ ∷ []
-five-same ea eb ec ed ee = cc
+pub six-same : {a b c d e f a′ b′ c′ d′ e′ f′ : ℤ} → a ≡ a′ → b ≡ b′ → c ≡ c′ → d ≡ d′ → e ≡ e′ → f ≡ f′
+    → a ∷ b ∷ c ∷ d ∷ e ∷ f ∷ [] ≡ a′ ∷ b′ ∷ c′ ∷ d′ ∷ e′ ∷ f′ ∷ []
+six-same ea eb ec ed ee ef = cc

@@ -76,12 +76,12 @@ text-length f figure angle condition mostFigure mostAngle mostCondition figure-f
 
 -- ---- Kind 1
 
-module _ (f : Figure) (given numerators rounded results misclosures rests : ℕ → ℤ)
-    (given-fit : Digits 7 (angleCount f) given) (numerators-fit : Digits 10 (angleCount f) numerators) (rounded-fit : Digits 10 (angleCount f) rounded)
+module _ (f : Figure) (given rounds numerators rounded results misclosures rests : ℕ → ℤ)
+    (given-fit : Digits 7 (angleCount f) given) (rounds-fit : Digits 3 (angleCount f) rounds) (numerators-fit : Digits 10 (angleCount f) numerators) (rounded-fit : Digits 10 (angleCount f) rounded)
     (results-fit : Digits 10 (angleCount f) results) (misclosures-fit : Digits 10 (conditionCount f) misclosures) (rests-fit : Digits 10 (conditionCount f) rests) where
-  first-angle-length : (i : ℕ) → i < angleCount f → length (line (firstAngle given numerators rounded results i)) ≤ 48
+  first-angle-length : (i : ℕ) → i < angleCount f → length (line (firstAngle given rounds numerators rounded results i)) ≤ 53
   first-angle-length i h =
-      let all = length-line (decimal (pos (i + 1))) (numbers (given i ∷ numerators i ∷ rounded i ∷ results i ∷ [])) in
+      let all = length-line (decimal (pos (i + 1))) (numbers (given i ∷ numerators i ∷ rounded i ∷ results i ∷ rounds i ∷ [])) in
       omega (
         arith,
         all,
@@ -90,6 +90,7 @@ module _ (f : Figure) (given numerators rounded results misclosures rests : ℕ 
         length-decimal 10 (numerators i) (lit< tt) (numerators-fit i h),
         length-decimal 10 (rounded i) (lit< tt) (rounded-fit i h),
         length-decimal 10 (results i) (lit< tt) (results-fit i h),
+        length-decimal 3 (rounds i) (lit< tt) (rounds-fit i h),
       )
 
   first-condition-length : (j : ℕ) → j < conditionCount f → length (line (firstCondition misclosures rests j)) ≤ 37
@@ -98,10 +99,10 @@ module _ (f : Figure) (given numerators rounded results misclosures rests : ℕ 
       let all = length-line conditionWord (numbers (pos (j + 1) ∷ misclosures j ∷ rests j ∷ [])) in
       omega (arith, all, number-digits j (omega (arith, condition-bound f)), length-decimal 10 (misclosures j) (lit< tt) (misclosures-fit j h), length-decimal 10 (rests j) (lit< tt) (rests-fit j h))
 
-  pub first-length : length (firstText f given numerators rounded results misclosures rests) ≤ longestText
+  pub first-length : length (firstText f given rounds numerators rounded results misclosures rests) ≤ longestText
   unfolding firstText firstLines
   first-length =
-      let all = text-length f (firstFigure f) (firstAngle given numerators rounded results) (firstCondition misclosures rests) 26 48 37 (first-figure-length f) first-angle-length first-condition-length in
+      let all = text-length f (firstFigure f) (firstAngle given rounds numerators rounded results) (firstCondition misclosures rests) 26 53 37 (first-figure-length f) first-angle-length first-condition-length in
       omega (arith, all, angle-bound f, condition-bound f)
 
 -- ---- Kind 2
@@ -131,30 +132,30 @@ module _ (f : Figure) (w sideW divisor : ℤ) (w-short : length (decimal w) ≤ 
       let all = length-line figureWord (named ++ (wWord ∷ decimal w ∷ sWord ∷ decimal divisor ∷ [])) in
       omega (arith, all, code-digits f, n-digits f)
 
-module _ (number given reduced sideReduced numerator rounded result : ℤ)
-    (number-short : length (decimal number) ≤ 2) (given-short : length (decimal given) ≤ 8)
+module _ (number given round reduced sideReduced numerator rounded result : ℤ)
+    (number-short : length (decimal number) ≤ 2) (given-short : length (decimal given) ≤ 8) (round-short : length (decimal round) ≤ 4)
     (reduced-short : length (decimal reduced) ≤ 9) (sideReduced-short : length (decimal sideReduced) ≤ 9)
     (rounded-short : length (decimal rounded) ≤ 9) (result-short : length (decimal result) ≤ 8) where
   angle-by-side : (side : Bool) → length (decimal numerator) ≤ cond side 36 17 + 1
-      → length (line (numbers (number ∷ given ∷ (coefficients side reduced sideReduced ++ (numerator ∷ rounded ∷ result ∷ [])))))
-      ≤ cond side 89 60
+      → length (line (numbers (number ∷ given ∷ (coefficients side reduced sideReduced ++ (numerator ∷ rounded ∷ result ∷ round ∷ [])))))
+      ≤ cond side 94 65
   angle-by-side true h =
-      omega (arith, length-line (decimal number) (numbers (given ∷ reduced ∷ sideReduced ∷ numerator ∷ rounded ∷ result ∷ [])))
+      omega (arith, length-line (decimal number) (numbers (given ∷ reduced ∷ sideReduced ∷ numerator ∷ rounded ∷ result ∷ round ∷ [])))
   angle-by-side false h =
-      omega (arith, length-line (decimal number) (numbers (given ∷ reduced ∷ numerator ∷ rounded ∷ result ∷ [])))
+      omega (arith, length-line (decimal number) (numbers (given ∷ reduced ∷ numerator ∷ rounded ∷ result ∷ round ∷ [])))
 
 -- a figure with a side condition has few angles for its long lines
 angles-few : (f : Figure) → angleCount f ≤ cond (hasSide f) 12 24
 angles-few f = leb→le (angleCount f) (cond (hasSide f) 12 24) (each-figure (λ g. leb (angleCount g) (cond (hasSide g) 12 24)) tt f)
 
 all-by-side : (side : Bool) (angles conditions : ℕ) → angles ≤ cond side 12 24 → conditions ≤ 9
-    → cond side 80 43 + (angles * cond side 89 60 + conditions * 16) ≤ longestText
+    → cond side 80 43 + (angles * cond side 94 65 + conditions * 16) ≤ longestText
 all-by-side true angles conditions few some = omega arith
 all-by-side false angles conditions few some = omega arith
 
-module _ (f : Figure) (w sideW divisor : ℤ) (given reduced sideReduced numerators rounded results rests : ℕ → ℤ)
+module _ (f : Figure) (w sideW divisor : ℤ) (given rounds reduced sideReduced numerators rounded results rests : ℕ → ℤ)
     (w-fits : natAbs w < 10 ^ 6) (sideW-fits : natAbs sideW < 10 ^ 6) (divisor-fits : natAbs divisor < 10 ^ divisorDigits f)
-    (given-fit : Digits 7 (angleCount f) given) (reduced-fit : Digits 8 (angleCount f) reduced)
+    (given-fit : Digits 7 (angleCount f) given) (rounds-fit : Digits 3 (angleCount f) rounds) (reduced-fit : Digits 8 (angleCount f) reduced)
     (sideReduced-fit : Digits 8 (angleCount f) sideReduced) (numerators-fit : Digits (numeratorDigits f) (angleCount f) numerators)
     (rounded-fit : Digits 8 (angleCount f) rounded) (results-fit : Digits 7 (angleCount f) results) (rests-fit : Digits 1 (conditionCount f) rests) where
   second-figure-length : length (line (secondFigure f w sideW divisor)) ≤ cond (hasSide f) 80 43
@@ -163,11 +164,12 @@ module _ (f : Figure) (w sideW divisor : ℤ) (given reduced sideReduced numerat
       (decimal-by-side (hasSide f) 37 18 divisor (lit< tt) (lit< tt) divisor-fits)
 
   second-angle-length : (i : ℕ) → i < angleCount f
-      → length (line (secondAngle f given reduced sideReduced numerators rounded results i)) ≤ cond (hasSide f) 89 60
+      → length (line (secondAngle f given rounds reduced sideReduced numerators rounded results i)) ≤ cond (hasSide f) 94 65
   second-angle-length i h =
-      angle-by-side (pos (i + 1)) (given i) (reduced i) (sideReduced i) (numerators i) (rounded i) (results i)
+      angle-by-side (pos (i + 1)) (given i) (rounds i) (reduced i) (sideReduced i) (numerators i) (rounded i) (results i)
       (number-digits i (lt-of-lt-of-le h (angle-bound f)))
       (length-decimal 7 (given i) (lit< tt) (given-fit i h))
+      (length-decimal 3 (rounds i) (lit< tt) (rounds-fit i h))
       (length-decimal 8 (reduced i) (lit< tt) (reduced-fit i h))
       (length-decimal 8 (sideReduced i) (lit< tt) (sideReduced-fit i h))
       (length-decimal 8 (rounded i) (lit< tt) (rounded-fit i h))
@@ -180,12 +182,12 @@ module _ (f : Figure) (w sideW divisor : ℤ) (given reduced sideReduced numerat
       let all = length-line conditionWord (numbers (pos (j + 1) ∷ rests j ∷ [])) in
       omega (arith, all, number-digits j (omega (arith, condition-bound f)), length-decimal 1 (rests j) (lit< tt) (rests-fit j h))
 
-  pub second-length : length (secondText f w sideW divisor given reduced sideReduced numerators rounded results rests) ≤ longestText
+  pub second-length : length (secondText f w sideW divisor given rounds reduced sideReduced numerators rounded results rests) ≤ longestText
   unfolding secondText secondLines
   second-length =
       le-trans
-      (text-length f (secondFigure f w sideW divisor) (secondAngle f given reduced sideReduced numerators rounded results)
-      (secondCondition rests) (cond (hasSide f) 80 43) (cond (hasSide f) 89 60) 16
+      (text-length f (secondFigure f w sideW divisor) (secondAngle f given rounds reduced sideReduced numerators rounded results)
+      (secondCondition rests) (cond (hasSide f) 80 43) (cond (hasSide f) 94 65) 16
       second-figure-length second-angle-length second-condition-length)
       (all-by-side (hasSide f) (angleCount f) (conditionCount f) (angles-few f) (condition-bound f))
 
@@ -207,6 +209,7 @@ numberOf-digits Refusal.WrongSheetLength = lit< tt
 numberOf-digits Refusal.FillingBitSet = lit< tt
 numberOf-digits Refusal.FixedAnglesDoNotSum = lit< tt
 numberOf-digits Refusal.ChoiceDoesNotClose = lit< tt
+numberOf-digits (Refusal.RoundsOutOfRange angle) = lit< tt
 
 pub refused-length : (refusal : Refusal) → placeOf refusal < 100 → length (refusedText refusal) ≤ longestText
 unfolding refusedText refusedLines refusedWord lines

@@ -71,38 +71,53 @@ lineAt text k = getD (readLines text) k []
 abbrev pub numbersFrom : ℕ → List (List ℕ) → List ℤ
 numbersFrom k parts = map readNumber (drop k parts)
 
+-- the last part of a line
+abbrev pub lastPart : List (List ℕ) → List ℕ
+lastPart [] = []
+lastPart (p ∷ []) = p
+lastPart (p ∷ q ∷ ps) = lastPart (q ∷ ps)
+
 -- ---- Kind 1
 
-module _ (f : Figure) (given numerators rounded results misclosures rests : ℕ → ℤ) where
-  first-words : T (every (every isWord) (firstLines f given numerators rounded results misclosures rests))
+module _ (f : Figure) (given rounds numerators rounded results misclosures rests : ℕ → ℤ) where
+  first-words : T (every (every isWord) (firstLines f given rounds numerators rounded results misclosures rests))
   unfolding firstLines denominatorWord
   first-words =
-      all-words (angleCount f) (conditionCount f) (firstFigure f) (firstAngle given numerators rounded results) (firstCondition misclosures rests)
+      all-words (angleCount f) (conditionCount f) (firstFigure f) (firstAngle given rounds numerators rounded results) (firstCondition misclosures rests)
       (figure-words f (denominatorWord ∷ decimal (pos (denominator f)) ∷ []) (word-then denominatorWord (decimal (pos (denominator f)) ∷ []) tt (number-then (pos (denominator f)) [] tt)))
-      (λ i. decimal-words (pos (i + 1) ∷ given i ∷ numerators i ∷ rounded i ∷ results i ∷ []))
+      (λ i. decimal-words (pos (i + 1) ∷ given i ∷ numerators i ∷ rounded i ∷ results i ∷ rounds i ∷ []))
       (λ j. condition-words (pos (j + 1) ∷ misclosures j ∷ rests j ∷ []))
 
-  pub first-read : readLines (firstText f given numerators rounded results misclosures rests) ≡ firstLines f given numerators rounded results misclosures rests
+  pub first-read : readLines (firstText f given rounds numerators rounded results misclosures rests) ≡ firstLines f given rounds numerators rounded results misclosures rests
   unfolding firstText
-  first-read = read-lines (firstLines f given numerators rounded results misclosures rests) first-words
+  first-read = read-lines (firstLines f given rounds numerators rounded results misclosures rests) first-words
 
   pub first-angle-read : (i : ℕ) → i < angleCount f
-      → numbersFrom 0 (lineAt (firstText f given numerators rounded results misclosures rests) (suc i)) ≡ pos (i + 1) ∷ given i ∷ numerators i ∷ rounded i ∷ results i ∷ []
+      → numbersFrom 0 (lineAt (firstText f given rounds numerators rounded results misclosures rests) (suc i)) ≡ pos (i + 1) ∷ given i ∷ numerators i ∷ rounded i ∷ results i ∷ rounds i ∷ []
   unfolding firstLines
   first-angle-read i h =
       ap (λ (l : List (List (List ℕ))). numbersFrom 0 (getD l (suc i) [])) first-read
-      ∙ ap (numbersFrom 0) (angle-line (angleCount f) (conditionCount f) (firstFigure f) (firstAngle given numerators rounded results) (firstCondition misclosures rests) i h)
-      ∙ read-decimals (pos (i + 1) ∷ given i ∷ numerators i ∷ rounded i ∷ results i ∷ [])
+      ∙ ap (numbersFrom 0) (angle-line (angleCount f) (conditionCount f) (firstFigure f) (firstAngle given rounds numerators rounded results) (firstCondition misclosures rests) i h)
+      ∙ read-decimals (pos (i + 1) ∷ given i ∷ numerators i ∷ rounded i ∷ results i ∷ rounds i ∷ [])
+
+  -- it ends in the rounds (M-106)
+  pub first-rounds-read : (i : ℕ) → i < angleCount f
+      → readNumber (lastPart (lineAt (firstText f given rounds numerators rounded results misclosures rests) (suc i))) ≡ rounds i
+  unfolding firstLines
+  first-rounds-read i h =
+      ap (λ (l : List (List (List ℕ))). readNumber (lastPart (getD l (suc i) []))) first-read
+      ∙ ap (λ (l : List (List ℕ)). readNumber (lastPart l)) (angle-line (angleCount f) (conditionCount f) (firstFigure f) (firstAngle given rounds numerators rounded results) (firstCondition misclosures rests) i h)
+      ∙ read-decimal (rounds i)
 
   pub first-condition-read : (j : ℕ) → j < conditionCount f
-      → numbersFrom 1 (lineAt (firstText f given numerators rounded results misclosures rests) (suc (angleCount f + j))) ≡ pos (j + 1) ∷ misclosures j ∷ rests j ∷ []
+      → numbersFrom 1 (lineAt (firstText f given rounds numerators rounded results misclosures rests) (suc (angleCount f + j))) ≡ pos (j + 1) ∷ misclosures j ∷ rests j ∷ []
   unfolding firstLines
   first-condition-read j h =
       ap (λ (l : List (List (List ℕ))). numbersFrom 1 (getD l (suc (angleCount f + j)) [])) first-read
-      ∙ ap (numbersFrom 1) (condition-line (angleCount f) (conditionCount f) (firstFigure f) (firstAngle given numerators rounded results) (firstCondition misclosures rests) j h)
+      ∙ ap (numbersFrom 1) (condition-line (angleCount f) (conditionCount f) (firstFigure f) (firstAngle given rounds numerators rounded results) (firstCondition misclosures rests) j h)
       ∙ read-decimals (pos (j + 1) ∷ misclosures j ∷ rests j ∷ [])
 
-  pub first-denominator-read : numbersFrom 4 (lineAt (firstText f given numerators rounded results misclosures rests) 0) ≡ pos (denominator f) ∷ []
+  pub first-denominator-read : numbersFrom 4 (lineAt (firstText f given rounds numerators rounded results misclosures rests) 0) ≡ pos (denominator f) ∷ []
   unfolding firstLines
   first-denominator-read = ap (λ (l : List (List (List ℕ))). numbersFrom 4 (getD l 0 [])) first-read ∙ read-decimals (pos (denominator f) ∷ [])
 
@@ -121,19 +136,25 @@ divisor-part : (side : Bool) (f : Figure) (w sideW divisor : ℤ)
 divisor-part false f w sideW divisor = refl
 divisor-part true f w sideW divisor = refl
 
-module _ (f : Figure) (w sideW divisor : ℤ) (given reduced sideReduced numerators rounded results rests : ℕ → ℤ) where
+-- the last part of an angle's line, with B or without
+rounds-part : (side : Bool) (number given a b numerator rounded result round : ℤ)
+    → lastPart (numbers (number ∷ given ∷ (coefficients side a b ++ (numerator ∷ rounded ∷ result ∷ round ∷ [])))) ≡ decimal round
+rounds-part false number given a b numerator rounded result round = refl
+rounds-part true number given a b numerator rounded result round = refl
+
+module _ (f : Figure) (w sideW divisor : ℤ) (given rounds reduced sideReduced numerators rounded results rests : ℕ → ℤ) where
   -- the text, and the numbers of an angle's line
   abbrev text : List ℕ
-  text = secondText f w sideW divisor given reduced sideReduced numerators rounded results rests
+  text = secondText f w sideW divisor given rounds reduced sideReduced numerators rounded results rests
 
   abbrev angleNumbers : ℕ → List ℤ
   angleNumbers i =
-      pos (i + 1) ∷ given i ∷ (coefficients (hasSide f) (reduced i) (sideReduced i) ++ (numerators i ∷ rounded i ∷ results i ∷ []))
+      pos (i + 1) ∷ given i ∷ (coefficients (hasSide f) (reduced i) (sideReduced i) ++ (numerators i ∷ rounded i ∷ results i ∷ rounds i ∷ []))
 
   abbrev angleParts : ℕ → List (List ℕ)
-  angleParts = secondAngle f given reduced sideReduced numerators rounded results
+  angleParts = secondAngle f given rounds reduced sideReduced numerators rounded results
 
-  second-words : T (every (every isWord) (secondLines f w sideW divisor given reduced sideReduced numerators rounded results rests))
+  second-words : T (every (every isWord) (secondLines f w sideW divisor given rounds reduced sideReduced numerators rounded results rests))
   unfolding secondLines wWord
   second-words =
       let divided = divisorWords (hasSide f) sideW ++ (decimal divisor ∷ []) in
@@ -143,9 +164,9 @@ module _ (f : Figure) (w sideW divisor : ℤ) (given reduced sideReduced numerat
       (λ i. decimal-words (angleNumbers i))
       (λ j. condition-words (pos (j + 1) ∷ rests j ∷ []))
 
-  pub second-read : readLines text ≡ secondLines f w sideW divisor given reduced sideReduced numerators rounded results rests
+  pub second-read : readLines text ≡ secondLines f w sideW divisor given rounds reduced sideReduced numerators rounded results rests
   unfolding secondText
-  second-read = read-lines (secondLines f w sideW divisor given reduced sideReduced numerators rounded results rests) second-words
+  second-read = read-lines (secondLines f w sideW divisor given rounds reduced sideReduced numerators rounded results rests) second-words
 
   pub second-figure-read : lineAt text 0 ≡ secondFigure f w sideW divisor
   unfolding secondLines
@@ -153,13 +174,23 @@ module _ (f : Figure) (w sideW divisor : ℤ) (given reduced sideReduced numerat
 
   pub second-angle-read : (i : ℕ) → i < angleCount f
       → numbersFrom 0 (lineAt text (suc i))
-      ≡ pos (i + 1) ∷ given i ∷ (coefficients (hasSide f) (reduced i) (sideReduced i) ++ (numerators i ∷ rounded i ∷ results i ∷ []))
+      ≡ pos (i + 1) ∷ given i ∷ (coefficients (hasSide f) (reduced i) (sideReduced i) ++ (numerators i ∷ rounded i ∷ results i ∷ rounds i ∷ []))
   unfolding secondLines
   second-angle-read i h =
       ap (λ (l : List (List (List ℕ))). numbersFrom 0 (getD l (suc i) [])) second-read
       ∙ ap (numbersFrom 0)
       (angle-line (angleCount f) (conditionCount f) (secondFigure f w sideW divisor) angleParts (secondCondition rests) i h)
       ∙ read-decimals (angleNumbers i)
+
+  -- it ends in the rounds (M-106)
+  pub second-rounds-read : (i : ℕ) → i < angleCount f → readNumber (lastPart (lineAt text (suc i))) ≡ rounds i
+  unfolding secondLines
+  second-rounds-read i h =
+      ap (λ (l : List (List (List ℕ))). readNumber (lastPart (getD l (suc i) []))) second-read
+      ∙ ap (λ (l : List (List ℕ)). readNumber (lastPart l))
+      (angle-line (angleCount f) (conditionCount f) (secondFigure f w sideW divisor) angleParts (secondCondition rests) i h)
+      ∙ ap readNumber (rounds-part (hasSide f) (pos (i + 1)) (given i) (reduced i) (sideReduced i) (numerators i) (rounded i) (results i) (rounds i))
+      ∙ read-decimal (rounds i)
 
   pub second-condition-read : (j : ℕ) → j < conditionCount f
       → numbersFrom 1 (lineAt text (suc (angleCount f + j))) ≡ pos (j + 1) ∷ rests j ∷ []
@@ -186,9 +217,9 @@ module _ (f : Figure) (w sideW divisor : ℤ) (given reduced sideReduced numerat
 
   angle-read-as : (side : Bool) → hasSide f ≡ side → (i : ℕ) → i < angleCount f
       → numbersFrom 0 (lineAt text (suc i))
-      ≡ pos (i + 1) ∷ given i ∷ (coefficients side (reduced i) (sideReduced i) ++ (numerators i ∷ rounded i ∷ results i ∷ []))
+      ≡ pos (i + 1) ∷ given i ∷ (coefficients side (reduced i) (sideReduced i) ++ (numerators i ∷ rounded i ∷ results i ∷ rounds i ∷ []))
   angle-read-as side e i h =
-      let last = numerators i ∷ rounded i ∷ results i ∷ [] in
+      let last = numerators i ∷ rounded i ∷ results i ∷ rounds i ∷ [] in
       second-angle-read i h ∙ ap (λ (b : Bool). pos (i + 1) ∷ given i ∷ (coefficients b (reduced i) (sideReduced i) ++ last)) e
 
   -- the lines of document 01
@@ -197,7 +228,7 @@ module _ (f : Figure) (w sideW divisor : ℤ) (given reduced sideReduced numerat
     one-figure-read = read-as false one
 
     pub one-angle-read : (i : ℕ) → i < angleCount f
-        → numbersFrom 0 (lineAt text (suc i)) ≡ pos (i + 1) ∷ given i ∷ reduced i ∷ numerators i ∷ rounded i ∷ results i ∷ []
+        → numbersFrom 0 (lineAt text (suc i)) ≡ pos (i + 1) ∷ given i ∷ reduced i ∷ numerators i ∷ rounded i ∷ results i ∷ rounds i ∷ []
     one-angle-read = angle-read-as false one
 
   -- the lines of M-100
@@ -207,7 +238,7 @@ module _ (f : Figure) (w sideW divisor : ℤ) (given reduced sideReduced numerat
 
     pub two-angle-read : (i : ℕ) → i < angleCount f
         → numbersFrom 0 (lineAt text (suc i))
-        ≡ pos (i + 1) ∷ given i ∷ reduced i ∷ sideReduced i ∷ numerators i ∷ rounded i ∷ results i ∷ []
+        ≡ pos (i + 1) ∷ given i ∷ reduced i ∷ sideReduced i ∷ numerators i ∷ rounded i ∷ results i ∷ rounds i ∷ []
     two-angle-read = angle-read-as true two
 
 -- ---- Turned back

@@ -24,7 +24,7 @@ use Rattle.lines.proofs.Laid.{lays-then, lays-as, lays-start, part-line
 
 -- what fills the row of a line that has one number
 abbrev pub zeros : List ℤ
-zeros = pos 0 ∷ pos 0 ∷ pos 0 ∷ pos 0 ∷ []
+zeros = pos 0 ∷ pos 0 ∷ pos 0 ∷ pos 0 ∷ pos 0 ∷ []
 
 -- ---- A side condition
 

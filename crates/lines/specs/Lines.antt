@@ -1,6 +1,6 @@
--- The lines that the program prints: document 01, "Sheets worked through", and M-100 for a figure with a side condition. A line is given
--- by its parts, words and numbers; `lines` puts one space between the parts and one line feed after each line. What an angle or a condition
--- has is used by its index, counted from 0; its number is one more.
+-- The lines that the program prints: document 01, "Sheets worked through", M-100 for a figure with a side condition, and M-106 for the
+-- rounds, which end the line of each angle. A line is given by its parts, words and numbers; `lines` puts one space between the parts and one
+-- line feed after each line. What an angle or a condition has is used by its index, counted from 0; its number is one more.
 use mathlib.Core.Bool.{Bool, true, false}
 use mathlib.Core.List.{List, [], _∷_, _++_, map}
 use Prim.Native.Nat.{ℕ, _+_}
@@ -59,22 +59,24 @@ figureNamed f rest = figureWord ∷ decimal (pos (description f .code)) ∷ deci
 abbrev pub firstFigure : Figure → List (List ℕ)
 firstFigure f = figureNamed f (denominatorWord ∷ decimal (pos (denominator f)) ∷ [])
 
--- an angle's line holds its number, the given angle, the numerator of the exact correction, the rounded correction and the result
-abbrev pub firstAngle : (given numerators rounded results : ℕ → ℤ) → ℕ → List (List ℕ)
-firstAngle given numerators rounded results i = numbers (pos (i + 1) ∷ given i ∷ numerators i ∷ rounded i ∷ results i ∷ [])
+-- an angle's line holds its number, the given angle, the numerator of the exact correction, the rounded correction, the result and the
+-- rounds
+abbrev pub firstAngle : (given rounds numerators rounded results : ℕ → ℤ) → ℕ → List (List ℕ)
+firstAngle given rounds numerators rounded results i =
+    numbers (pos (i + 1) ∷ given i ∷ numerators i ∷ rounded i ∷ results i ∷ rounds i ∷ [])
 
 -- a condition's line holds its number, the misclosure, and the rest
 abbrev pub firstCondition : (misclosures rests : ℕ → ℤ) → ℕ → List (List ℕ)
 firstCondition misclosures rests j = conditionWord ∷ numbers (pos (j + 1) ∷ misclosures j ∷ rests j ∷ [])
 
-unfoldable pub firstLines : Figure → (given numerators rounded results misclosures rests : ℕ → ℤ) → List (List (List ℕ))
-firstLines f given numerators rounded results misclosures rests =
+unfoldable pub firstLines : Figure → (given rounds numerators rounded results misclosures rests : ℕ → ℤ) → List (List (List ℕ))
+firstLines f given rounds numerators rounded results misclosures rests =
     firstFigure f
-    ∷ listed (angleCount f) (firstAngle given numerators rounded results)
+    ∷ listed (angleCount f) (firstAngle given rounds numerators rounded results)
     ++ listed (conditionCount f) (firstCondition misclosures rests)
 
-unfoldable pub firstText : Figure → (given numerators rounded results misclosures rests : ℕ → ℤ) → List ℕ
-firstText f given numerators rounded results misclosures rests = lines (firstLines f given numerators rounded results misclosures rests)
+unfoldable pub firstText : Figure → (given rounds numerators rounded results misclosures rests : ℕ → ℤ) → List ℕ
+firstText f given rounds numerators rounded results misclosures rests = lines (firstLines f given rounds numerators rounded results misclosures rests)
 
 -- ---- Kind 2
 
@@ -92,26 +94,27 @@ abbrev pub coefficients : (side : Bool) → (a b : ℤ) → List ℤ
 coefficients false a b = a ∷ []
 coefficients true a b = a ∷ b ∷ []
 
--- an angle's line holds its number, the given angle, A or A and B, the numerator of the exact correction, the rounded correction and the
--- result
-abbrev pub secondAngle : Figure → (given reduced sideReduced numerators rounded results : ℕ → ℤ) → ℕ → List (List ℕ)
-secondAngle f given reduced sideReduced numerators rounded results i =
-    numbers (pos (i + 1) ∷ given i ∷ (coefficients (hasSide f) (reduced i) (sideReduced i) ++ (numerators i ∷ rounded i ∷ results i ∷ [])))
+-- an angle's line holds its number, the given angle, A or A and B, the numerator of the exact correction, the rounded correction, the
+-- result and the rounds
+abbrev pub secondAngle : Figure → (given rounds reduced sideReduced numerators rounded results : ℕ → ℤ) → ℕ → List (List ℕ)
+secondAngle f given rounds reduced sideReduced numerators rounded results i =
+    numbers (pos (i + 1) ∷ given i
+    ∷ (coefficients (hasSide f) (reduced i) (sideReduced i) ++ (numerators i ∷ rounded i ∷ results i ∷ rounds i ∷ [])))
 
 -- a condition's line holds its number and the rest
 abbrev pub secondCondition : (rests : ℕ → ℤ) → ℕ → List (List ℕ)
 secondCondition rests j = conditionWord ∷ numbers (pos (j + 1) ∷ rests j ∷ [])
 
-unfoldable pub secondLines : Figure → (w sideW divisor : ℤ) → (given reduced sideReduced numerators rounded results rests : ℕ → ℤ)
+unfoldable pub secondLines : Figure → (w sideW divisor : ℤ) → (given rounds reduced sideReduced numerators rounded results rests : ℕ → ℤ)
     → List (List (List ℕ))
-secondLines f w sideW divisor given reduced sideReduced numerators rounded results rests =
+secondLines f w sideW divisor given rounds reduced sideReduced numerators rounded results rests =
     secondFigure f w sideW divisor
-    ∷ listed (angleCount f) (secondAngle f given reduced sideReduced numerators rounded results)
+    ∷ listed (angleCount f) (secondAngle f given rounds reduced sideReduced numerators rounded results)
     ++ listed (conditionCount f) (secondCondition rests)
 
-unfoldable pub secondText : Figure → (w sideW divisor : ℤ) → (given reduced sideReduced numerators rounded results rests : ℕ → ℤ) → List ℕ
-secondText f w sideW divisor given reduced sideReduced numerators rounded results rests =
-    lines (secondLines f w sideW divisor given reduced sideReduced numerators rounded results rests)
+unfoldable pub secondText : Figure → (w sideW divisor : ℤ) → (given rounds reduced sideReduced numerators rounded results rests : ℕ → ℤ) → List ℕ
+secondText f w sideW divisor given rounds reduced sideReduced numerators rounded results rests =
+    lines (secondLines f w sideW divisor given rounds reduced sideReduced numerators rounded results rests)
 
 -- ---- Turned back: number and place, alone
 

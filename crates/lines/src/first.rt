@@ -1,4 +1,4 @@
-// The lines of a sheet worked by the first pass: document 01, "Sheets worked through".
+// The lines of a sheet worked by the first pass: document 01, "Sheets worked through", and M-106 for the rounds.
 ghost use Prim.Native.Nat.{_≤_, _<_};
 ghost use Rattle.whole.specs.Lists.{listed};
 ghost use Rattle.whole.specs.Sums.{naturals, vector};
@@ -9,6 +9,7 @@ ghost use Rattle.lines.specs.Lines.{firstFigure, firstAngle, firstCondit
 use crate::put::put_figure_start;
 use crate::put::put_line;
 use crate::put::put_numbers;
+use crate::values::count_at;
 use crate::values::natural_at;
 use crate::values::signed_at;
 use figures::Figure;
@@ -17,6 +18,7 @@ pub fn first_lines(
     buffer: &mut [u8],
     figure: Figure,
     given: &[u32],
+    rounds: &[u8],
     numerators: &[i32],
     rounded: &[i32],
     results: &[u32],
@@ -24,8 +26,8 @@ pub fn first_lines(
     rests: &[i32],
 ) -> usize
     ensures { λ next. ⌜ Holds (now (buffer .entry))
-        (firstText figure (naturals (now (given .entry))) (vector (now (numerators .entry))) (vector (now (rounded .entry)))
-        (naturals (now (results .entry))) (vector (now (misclosures .entry))) (vector (now (rests .entry))))
+        (firstText figure (naturals (now (given .entry))) (naturals (now (rounds .entry))) (vector (now (numerators .entry)))
+        (vector (now (rounded .entry))) (naturals (now (results .entry))) (vector (now (misclosures .entry))) (vector (now (rests .entry))))
         (now (buffer .exit)) next ⌝ }
 {
     let counts = figure_tables::counts_of(figure);
@@ -35,6 +37,7 @@ pub fn first_lines(
         after_figure,
         counts.angles,
         given,
+        rounds,
         numerators,
         rounded,
         results,
@@ -52,7 +55,7 @@ fn put_figure_line(buffer: &mut [u8], figure: Figure) -> usize
         buffer,
         after_start,
         b"denominator ",
-        [denominator, 0, 0, 0, 0],
+        [denominator, 0, 0, 0, 0, 0],
         1,
     )
 }
@@ -62,18 +65,29 @@ fn put_angles(
     at: usize,
     count: usize,
     given: &[u32],
+    rounds: &[u8],
     numerators: &[i32],
     rounded: &[i32],
     results: &[u32],
 ) -> usize
     requires { ⌜ count ≤ 24 ⌝ }
-    ensures { λ next. ⌜ Lays (lines (listed count (firstAngle (naturals (now (given .entry))) (vector (now (numerators .entry)))
-        (vector (now (rounded .entry))) (naturals (now (results .entry)))))) (now (buffer .entry)) at (now (buffer .exit)) next ⌝ }
+    ensures { λ next. ⌜ Lays (lines (listed count (firstAngle (naturals (now (given .entry))) (naturals (now (rounds .entry)))
+        (vector (now (numerators .entry))) (vector (now (rounded .entry))) (naturals (now (results .entry))))))
+        (now (buffer .entry)) at (now (buffer .exit)) next ⌝ }
 {
     let mut position = at;
     let mut i = 0;
     while i < count {
-        position = put_angle(buffer, position, i, given, numerators, rounded, results);
+        position = put_angle(
+            buffer,
+            position,
+            i,
+            given,
+            rounds,
+            numerators,
+            rounded,
+            results,
+        );
         i += 1;
     }
     position
@@ -84,13 +98,15 @@ fn put_angle(
     at: usize,
     i: usize,
     given: &[u32],
+    rounds: &[u8],
     numerators: &[i32],
     rounded: &[i32],
     results: &[u32],
 ) -> usize
     requires { ⌜ i < 24 ⌝ }
-    ensures { λ next. ⌜ Lays (line (firstAngle (naturals (now (given .entry))) (vector (now (numerators .entry)))
-        (vector (now (rounded .entry))) (naturals (now (results .entry))) i)) (now (buffer .entry)) at (now (buffer .exit)) next ⌝ }
+    ensures { λ next. ⌜ Lays (line (firstAngle (naturals (now (given .entry))) (naturals (now (rounds .entry)))
+        (vector (now (numerators .entry))) (vector (now (rounded .entry))) (naturals (now (results .entry))) i))
+        (now (buffer .entry)) at (now (buffer .exit)) next ⌝ }
 {
     let number = (i + 1) as i64;
     let numbers = [
@@ -99,8 +115,9 @@ fn put_angle(
         signed_at(numerators, i),
         signed_at(rounded, i),
         natural_at(results, i),
+        count_at(rounds, i),
     ];
-    put_numbers(buffer, at, numbers, 5, b'\n')
+    put_numbers(buffer, at, numbers, 6, b'\n')
 }
 
 fn put_conditions(
@@ -135,6 +152,13 @@ fn put_condition(
         (now (buffer .entry)) at (now (buffer .exit)) next ⌝ }
 {
     let number = (j + 1) as i64;
-    let numbers = [number, signed_at(misclosures, j), signed_at(rests, j), 0, 0];
+    let numbers = [
+        number,
+        signed_at(misclosures, j),
+        signed_at(rests, j),
+        0,
+        0,
+        0,
+    ];
     put_line(buffer, at, b"condition ", numbers, 3)
 }

@@ -11,7 +11,7 @@ use figures::Figure;
 use wide::Wide;
 
 // The most numbers that are laid at once: an angle's of the first pass.
-const MOST_NUMBERS: usize = 5;
+const MOST_NUMBERS: usize = 6;
 
 const SPACE: u8 = b' ';
 
@@ -57,7 +57,7 @@ pub(crate) fn put_numbers(
     count: usize,
     end: u8,
 ) -> usize
-    requires { ⌜ (0 < count) × (count ≤ 5) ⌝ }
+    requires { ⌜ (0 < count) × (count ≤ 6) ⌝ }
     ensures { λ next. ⌜ Lays (numbersEnded count values end) (now (buffer .entry)) at (now (buffer .exit)) next ⌝ }
 {
     let mut position = at;
@@ -77,7 +77,7 @@ pub(crate) fn put_line(
     values: Numbers,
     count: usize,
 ) -> usize
-    requires { ⌜ (0 < count) × (count ≤ 5) ⌝ }
+    requires { ⌜ (0 < count) × (count ≤ 6) ⌝ }
     ensures { λ next. ⌜ Lays (now (word .entry) ++ numbersEnded count values lineFeed)
         (now (buffer .entry)) at (now (buffer .exit)) next ⌝ }
 {

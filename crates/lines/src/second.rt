@@ -1,4 +1,5 @@
-// The lines of a sheet worked by the second pass: document 01, "Sheets worked through", and M-100 for a figure with a side condition.
+// The lines of a sheet worked by the second pass: document 01, "Sheets worked through", M-100 for a figure with a side condition,
+// and M-106 for the rounds.
 ghost use mathlib.Core.Path.{_≡_};
 ghost use mathlib.Core.List.{_∷_};
 ghost use Prim.Native.Nat.{_+_, _≤_, _<_};
@@ -18,6 +19,7 @@ use crate::put::put_numbers;
 use crate::put::put_part;
 use crate::put::put_wide;
 use crate::put::put_word;
+use crate::values::count_at;
 use crate::values::natural_at;
 use crate::values::signed_at;
 use crate::values::signed_word_at;
@@ -35,6 +37,7 @@ pub fn second_lines(
     divisor_high: u64,
     divisor_low: u64,
     given: &[u32],
+    rounds: &[u8],
     reduced: &[i64],
     side_reduced: &[i64],
     numerators_high: &[i64],
@@ -45,7 +48,7 @@ pub fn second_lines(
 ) -> usize
     ensures { λ next. ⌜ Holds (now (buffer .entry))
         (secondText figure w «side_w» (joined (pos «divisor_high») «divisor_low») (naturals (now (given .entry)))
-        (vector (now (reduced .entry))) (vector (now («side_reduced» .entry)))
+        (naturals (now (rounds .entry))) (vector (now (reduced .entry))) (vector (now («side_reduced» .entry)))
         (wideNumbers (now («numerators_high» .entry)) (now («numerators_low» .entry)))
         (vector (now (rounded .entry))) (naturals (now (results .entry))) (vector (now (rests .entry))))
         (now (buffer .exit)) next ⌝ }
@@ -58,6 +61,7 @@ pub fn second_lines(
         figure,
         counts.angles,
         given,
+        rounds,
         reduced,
         side_reduced,
         numerators_high,
@@ -120,6 +124,7 @@ fn put_angles(
     figure: Figure,
     count: usize,
     given: &[u32],
+    rounds: &[u8],
     reduced: &[i64],
     side_reduced: &[i64],
     numerators_high: &[i64],
@@ -128,8 +133,9 @@ fn put_angles(
     results: &[u32],
 ) -> usize
     requires { ⌜ count ≤ 24 ⌝ }
-    ensures { λ next. ⌜ Lays (lines (listed count (secondAngle figure (naturals (now (given .entry))) (vector (now (reduced .entry)))
-        (vector (now («side_reduced» .entry))) (wideNumbers (now («numerators_high» .entry)) (now («numerators_low» .entry)))
+    ensures { λ next. ⌜ Lays (lines (listed count (secondAngle figure (naturals (now (given .entry))) (naturals (now (rounds .entry)))
+        (vector (now (reduced .entry))) (vector (now («side_reduced» .entry)))
+        (wideNumbers (now («numerators_high» .entry)) (now («numerators_low» .entry)))
         (vector (now (rounded .entry))) (naturals (now (results .entry)))))) (now (buffer .entry)) at (now (buffer .exit)) next ⌝ }
 {
     let mut position = at;
@@ -141,6 +147,7 @@ fn put_angles(
             figure,
             i,
             given,
+            rounds,
             reduced,
             side_reduced,
             numerators_high,
@@ -159,6 +166,7 @@ fn put_angle(
     figure: Figure,
     i: usize,
     given: &[u32],
+    rounds: &[u8],
     reduced: &[i64],
     side_reduced: &[i64],
     numerators_high: &[i64],
@@ -167,15 +175,23 @@ fn put_angle(
     results: &[u32],
 ) -> usize
     requires { ⌜ i < 24 ⌝ }
-    ensures { λ next. ⌜ Lays (line (secondAngle figure (naturals (now (given .entry))) (vector (now (reduced .entry)))
-        (vector (now («side_reduced» .entry))) (wideNumbers (now («numerators_high» .entry)) (now («numerators_low» .entry)))
+    ensures { λ next. ⌜ Lays (line (secondAngle figure (naturals (now (given .entry))) (naturals (now (rounds .entry)))
+        (vector (now (reduced .entry))) (vector (now («side_reduced» .entry)))
+        (wideNumbers (now («numerators_high» .entry)) (now («numerators_low» .entry)))
         (vector (now (rounded .entry))) (naturals (now (results .entry))) i)) (now (buffer .entry)) at (now (buffer .exit)) next ⌝ }
 {
     let after_reduced = put_reduced(buffer, at, figure, i, given, reduced, side_reduced);
     let numerator = wide_at(numerators_high, numerators_low, i);
     let after_numerator = put_wide(buffer, after_reduced, numerator, b' ');
-    let numbers = [signed_at(rounded, i), natural_at(results, i), 0, 0, 0];
-    put_numbers(buffer, after_numerator, numbers, 2, b'\n')
+    let numbers = [
+        signed_at(rounded, i),
+        natural_at(results, i),
+        count_at(rounds, i),
+        0,
+        0,
+        0,
+    ];
+    put_numbers(buffer, after_numerator, numbers, 3, b'\n')
 }
 
 // An angle's line up to A, and to B of a side condition.
@@ -199,6 +215,7 @@ fn put_reduced(
         natural_at(given, i),
         signed_word_at(reduced, i),
         signed_word_at(side_reduced, i),
+        0,
         0,
     ];
     if has_side(figure) {
@@ -227,6 +244,6 @@ fn put_condition(buffer: &mut [u8], at: usize, j: usize, rests: &[i32]) -> usize
     ensures { λ next. ⌜ Lays (line (secondCondition (vector (now (rests .entry))) j)) (now (buffer .entry)) at (now (buffer .exit)) next ⌝ }
 {
     let number = (j + 1) as i64;
-    let numbers = [number, signed_at(rests, j), 0, 0, 0];
+    let numbers = [number, signed_at(rests, j), 0, 0, 0, 0];
     put_line(buffer, at, b"condition ", numbers, 2)
 }

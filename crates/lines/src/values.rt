@@ -16,6 +16,17 @@ pub(crate) fn natural_at(values: &[u32], i: usize) -> i64
     }
 }
 
+// The same of counts of one byte.
+pub(crate) fn count_at(values: &[u8], i: usize) -> i64
+    ensures { λ value. ⌜ value ≡ naturals (now (values .entry)) i ⌝ }
+{
+    if i < values.len() {
+        values[i] as i64
+    } else {
+        0
+    }
+}
+
 pub(crate) fn signed_at(values: &[i32], i: usize) -> i64
     ensures { λ value. ⌜ value ≡ vector (now (values .entry)) i ⌝ }
 {

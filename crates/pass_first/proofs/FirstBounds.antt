@@ -20,7 +20,7 @@ use Rattle.pass_first.proofs.FirstPromised.{numerator-is, tenths-is}
 use Rattle.pass_first.proofs.FirstSteps.{numerator-small, tenths-small}
 use Rattle.pass_steps.proofs.StepLaws.{listed-within}
 
-module _ (f : Figure) (limit : ℕ) (angles fixed lent : List ℕ) (ok : Accepted f limit angles fixed lent) where
+module _ (f : Figure) (limit : ℕ) (angles rounds fixed lent : List ℕ) (ok : Accepted f limit angles rounds fixed lent) where
   pub misclosure-small : (j : ℕ) → j < conditionCount f → natAbs (misclosure f angles fixed j) ≤ mostLimit
   misclosure-small j h = le-trans (ok .misclosure-within j h) (in-force-within 90 mostLimit limit (lit≤ tt) (ok .entries .limit-range))
 

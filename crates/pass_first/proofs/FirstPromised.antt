@@ -33,8 +33,9 @@ use Rattle.pass_rules.proofs.PassRows.{none-judged, one-judged}
 use Rattle.pass_rules.proofs.WithinRange as range
 use Rattle.pass_steps.specs.Premises.{Angles, Within}
 use Rattle.pass_rules.specs.Promises.{FirstGiven, FirstLent, firstLent, firstSlices, firstLengthsLent, firstAnswer, firstValuesOf, firstValues, FirstPromise, firstVerdictOf, FirstPromiseOf}
-use Rattle.pass_steps.specs.Steps.{StoredIf, numeratorsFrom, resultsFrom}
-use Rattle.pass_first.specs.Steps.{tenthsFrom, tenthsOf, restsFrom, firstFrom}
+use Rattle.pass_steps.specs.Steps.{StoredIf, sameLength, numeratorsFrom, resultsFrom}
+use Rattle.pass_first.specs.Steps.{tenthsFrom, tenthsOf, restsFrom, FirstWork, firstWork, withRounds, firstFrom}
+use Rattle.pass_steps.proofs.Fitting.{beside}
 use Rattle.pass_steps.proofs.Judged.{kept}
 use Rattle.pass_steps.proofs.StepLaws.{listed-at, listed-within, listed-after, condition-ext, numerator-ext}
 
@@ -68,20 +69,24 @@ module _ (f : Figure) (angles fixed : List ℕ) where
         listed-after (angleCount f) (tenthsFrom f misclosures) tenths (λ i z. given angles i +ℤ z) refl as-many
         ∙ listed-ext (angleCount f) _ _ (λ i h. ap (λ (z : ℤ). given angles i +ℤ z) (tenths-is i))
 
-    values-are : firstFrom f angles misclosures ≡ firstValuesOf f angles fixed
-    values-are =
+    values-are : (rounds : List ℕ) → withRounds (firstFrom f angles misclosures) rounds ≡ firstValuesOf f angles rounds fixed
+    values-are rounds =
         let exact : numeratorsFrom f misclosures ≡ numeratorsOf f angles fixed = listed-ext (angleCount f) _ _ (λ i h. numerator-is i) in
         let rounded : tenths ≡ roundedOf f angles fixed = listed-ext (angleCount f) _ _ (λ i h. tenths-is i) in
         let rests : restsFrom f misclosures tenths ≡ restsOf f angles fixed = listed-ext (conditionCount f) _ _ rest-is in
         λ i. firstLent misclosures (exact i) (rounded i)
         (listed-after (angleCount f) (corrected f angles fixed) (resultsOf angles tenths) (λ k z. natAbs z) results-are as-many i)
-        (rests i)
+        rounds (rests i)
+
+-- what is lent for the work
+abbrev pub workOf : FirstLent → FirstWork
+workOf lent = firstWork (lent .misclosures) (lent .numerators) (lent .rounded) (lent .corrected) (lent .rests)
 
 -- ---- the rows, step by step
 
-module _ (f : Figure) (limit : ℕ) (angles fixed : List ℕ) (entry : FirstLent) where
+module _ (f : Figure) (limit : ℕ) (angles rounds fixed : List ℕ) (entry : FirstLent) where
   abbrev before : List Row
-  before = givenRows f limit angles fixed (firstSlices angles fixed entry)
+  before = givenRows f limit angles rounds fixed (firstSlices angles rounds fixed entry)
 
   abbrev limitRow : Row
   limitRow = misclosuresRow (limitOf limit) (misclosuresOf f angles fixed)
@@ -90,19 +95,19 @@ module _ (f : Figure) (limit : ℕ) (angles fixed : List ℕ) (entry : FirstLent
   resultRow = resultsRow (listed (angleCount f) (corrected f angles fixed))
 
   -- a row before the work holds
-  pub refused-before : (v : Verdict) (r : Refusal) → v ≡ judged before → v ≡ Failed r → FirstPromiseOf f limit angles fixed entry v entry
+  pub refused-before : (v : Verdict) (r : Refusal) → v ≡ judged before → v ≡ Failed r → FirstPromiseOf f limit angles rounds fixed entry v entry
   unfolding firstRows
   refused-before v r e refused =
-      let answered : v ≡ firstVerdictOf f limit angles fixed entry =
+      let answered : v ≡ firstVerdictOf f limit angles rounds fixed entry =
       refused ∙ sym (judged-after-failure before (limitRow ∷ resultRow ∷ []) r (sym e ∙ refused)) in
       record { answered = answered; leaves = kept _ _ _ r (sym answered ∙ refused) }
 
   module _ (passed : judged before ≡ Passed) where
-    entries : Entries f limit angles fixed (firstSlices angles fixed entry)
-    entries = entries-passed f limit angles fixed (firstSlices angles fixed entry) passed
+    entries : Entries f limit angles rounds fixed (firstSlices angles rounds fixed entry)
+    entries = entries-passed f limit angles rounds fixed (firstSlices angles rounds fixed entry) passed
 
     -- the length of a slice, by its place in the list
-    pub length-at : (k : ℕ) → getD (firstSlices angles fixed entry) k 0 ≡ getD (firstLengths f) k 0
+    pub length-at : (k : ℕ) → getD (firstSlices angles rounds fixed entry) k 0 ≡ getD (firstLengths f) k 0
     length-at k = ap (λ (l : List ℕ). getD l k 0) (entries .lengths)
 
     pub small-angles : Angles angles
@@ -111,14 +116,14 @@ module _ (f : Figure) (limit : ℕ) (angles fixed : List ℕ) (entry : FirstLent
     pub small-fixed : Angles fixed
     small-fixed i = lt-of-le-of-lt (entries .fixed-angle-most i) (lit< tt)
 
-    after : firstVerdictOf f limit angles fixed entry ≡ judged (limitRow ∷ resultRow ∷ [])
+    after : firstVerdictOf f limit angles rounds fixed entry ≡ judged (limitRow ∷ resultRow ∷ [])
     unfolding firstRows
     after = judged-after-pass before (limitRow ∷ resultRow ∷ []) passed
 
     -- number 6 holds
-    pub refused-misclosure : (v : Verdict) (r : Refusal) → v ≡ verdictOf limitRow → v ≡ Failed r → FirstPromiseOf f limit angles fixed entry v entry
+    pub refused-misclosure : (v : Verdict) (r : Refusal) → v ≡ verdictOf limitRow → v ≡ Failed r → FirstPromiseOf f limit angles rounds fixed entry v entry
     refused-misclosure v r e refused =
-        let answered : v ≡ firstVerdictOf f limit angles fixed entry =
+        let answered : v ≡ firstVerdictOf f limit angles rounds fixed entry =
         refused ∙ sym (after ∙ judged-after-failure (limitRow ∷ []) (resultRow ∷ []) r (answer-of-one (verdictOf limitRow) ∙ sym e ∙ refused)) in
         record { answered = answered; leaves = kept _ _ _ r (sym answered ∙ refused) }
 
@@ -132,28 +137,35 @@ module _ (f : Figure) (limit : ℕ) (angles fixed : List ℕ) (entry : FirstLent
           (range.misclosure-within (conditionCount f) (misclosure f angles fixed) j h (limitOf limit) (none-holds (limitRow ∷ []) one-passed .0))
           (range.in-force-within 90 mostLimit limit (lit≤ tt) (entries .limit-range)))
 
-      verdict-is : verdictOf (resultsRow (resultsOf angles (tenthsOf f (misclosuresOf f angles fixed)))) ≡ firstVerdictOf f limit angles fixed entry
+      verdict-is : verdictOf (resultsRow (resultsOf angles (tenthsOf f (misclosuresOf f angles fixed)))) ≡ firstVerdictOf f limit angles rounds fixed entry
       verdict-is =
           ap (λ (l : List ℤ). verdictOf (resultsRow l)) (results-are f angles fixed (length-at 0))
           ∙ sym (after ∙ judged-after-pass (limitRow ∷ []) (resultRow ∷ []) one-passed ∙ answer-of-one (verdictOf resultRow))
 
-      -- number 7 decides
-      pub by-results : (w : List ℤ) → w ≡ misclosuresOf f angles fixed → {answer : Verdict} {exit : FirstLent}
-          → StoredIf (verdictOf (resultsRow (resultsOf angles (tenthsOf f w)))) (firstFrom f angles w) entry answer exit
-          → FirstPromiseOf f limit angles fixed entry answer exit
-      by-results w are promise =
+      -- number 7 decides; the rounds are stored where it passes
+      pub by-results : (w : List ℤ) → w ≡ misclosuresOf f angles fixed → {answer : Verdict} {exit : FirstWork} {left : List ℕ}
+          → StoredIf (verdictOf (resultsRow (resultsOf angles (tenthsOf f w)))) (firstFrom f angles w) (workOf entry) answer exit
+          → left ≡ stored answer (sameLength rounds (entry .correctedRounds)) (entry .correctedRounds)
+          → FirstPromiseOf f limit angles rounds fixed entry answer (withRounds exit left)
+      by-results w are {answer} {exit} {left} promise beside-them =
           let verdict = ap (λ (x : List ℤ). verdictOf (resultsRow (resultsOf angles (tenthsOf f x)))) are ∙ verdict-is in
-          let values = ap (firstFrom f angles) are ∙ values-are f angles fixed (length-at 0) in
+          let answered : answer ≡ firstVerdictOf f limit angles rounds fixed entry = promise .answered ∙ verdict in
+          let worked : exit ≡ stored answer (firstFrom f angles w) (workOf entry) =
+          promise .leaves ∙ ap (λ (v : Verdict). stored v (firstFrom f angles w) (workOf entry)) (sym (promise .answered)) in
+          let values = ap (λ (x : List ℤ). withRounds (firstFrom f angles x) rounds) are ∙ values-are f angles fixed (length-at 0) rounds in
           record {
-            answered = promise .answered ∙ verdict;
-            leaves = promise .leaves ∙ ap₂ (λ (v : Verdict) (new : FirstLent). stored v new entry) verdict values;
+            answered = answered;
+            leaves =
+                beside withRounds (firstFrom f angles w) (workOf entry) rounds (entry .correctedRounds) answer
+                (length-at 1 ∙ sym (length-at 7)) worked beside-them
+                ∙ ap₂ (λ (v : Verdict) (new : FirstLent). stored v new entry) answered values;
           }
 
 -- ---- and of code and n
 
 module _ (given : FirstGiven) (entry : FirstLent) where
   abbrev rows : Figure → List Row
-  rows f = firstRows f (given .limit) (given .angles) (given .fixed) (firstLengthsLent given entry)
+  rows f = firstRows f (given .limit) (given .angles) (given .rounds) (given .fixed) (firstLengthsLent given entry)
 
   pub none-named : figureOf (given .code) (given .n) ≡ Nothing → FirstPromise given entry (Failed Refusal.NoSuchFigure) entry
   unfolding firstPassVerdict firstPassRows
@@ -163,7 +175,7 @@ module _ (given : FirstGiven) (entry : FirstLent) where
   }
 
   pub of-figure : (f : Figure) → figureOf (given .code) (given .n) ≡ As f → {answer : Verdict} {exit : FirstLent}
-      → FirstPromiseOf f (given .limit) (given .angles) (given .fixed) entry answer exit → FirstPromise given entry answer exit
+      → FirstPromiseOf f (given .limit) (given .angles) (given .rounds) (given .fixed) entry answer exit → FirstPromise given entry answer exit
   unfolding firstPassVerdict firstPassRows
   of-figure f named promise =
       let verdict = sym (one-judged (given .code) (given .n) rows named) in

@@ -9,11 +9,9 @@ ghost use Rattle.refusals.specs.Ranges.{mostLimit};
 ghost use Rattle.refusals.specs.Table.{resultsRow};
 ghost use Rattle.judging.specs.Searches.{resultsOf};
 ghost use Rattle.figures.specs.Figure.{angleCount, conditionCount};
-ghost use Rattle.pass_rules.specs.FirstPass.{firstResultLengths};
-ghost use Rattle.pass_rules.specs.Promises.{firstLent, firstResultsLent};
 ghost use Rattle.pass_steps.specs.Premises.{Within, Angles, mostSummed, mostTotal};
 ghost use Rattle.pass_steps.specs.Steps.{StoredIf, numeratorsFrom};
-ghost use Rattle.pass_first.specs.Steps.{tenthsOf, restsFrom, firstFrom, Stored};
+ghost use Rattle.pass_first.specs.Steps.{tenthsOf, restsFrom, firstWork, workLent, workLengths, firstFrom, Stored};
 use crate::quotients::rounded_into;
 use figures::Figure;
 use figures::MOST_ANGLES;
@@ -36,15 +34,15 @@ pub(crate) fn first_corrected(
 ) -> Verdict
     requires { ⌜ length (now angles) ≡ angleCount figure ⌝ }
     requires { ⌜ length (now w) ≡ conditionCount figure ⌝ }
-    requires { ⌜ firstResultsLent (firstLent (now misclosures) (now numerators) (now rounded) (now corrected) (now rests))
-        ≡ firstResultLengths figure ⌝ }
+    requires { ⌜ workLent (firstWork (now misclosures) (now numerators) (now rounded) (now corrected) (now rests))
+        ≡ workLengths figure ⌝ }
     requires { ⌜ Within mostLimit (now w) ⌝ }
     ensures { λ answer.
         ⌜ StoredIf (verdictOf (resultsRow (resultsOf (now (angles .entry)) (tenthsOf figure (now (w .entry))))))
         (firstFrom figure (now (angles .entry)) (now (w .entry)))
-        (firstLent (now (misclosures .entry)) (now (numerators .entry)) (now (rounded .entry))
+        (firstWork (now (misclosures .entry)) (now (numerators .entry)) (now (rounded .entry))
         (now (corrected .entry)) (now (rests .entry))) answer
-        (firstLent (now (misclosures .exit)) (now (numerators .exit)) (now (rounded .exit)) (now (corrected .exit)) (now (rests .exit))) ⌝ }
+        (firstWork (now (misclosures .exit)) (now (numerators .exit)) (now (rounded .exit)) (now (corrected .exit)) (now (rests .exit))) ⌝ }
 {
     let n = angles.len();
     let mut exact = [0i32; MOST_ANGLES];

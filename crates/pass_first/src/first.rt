@@ -1,4 +1,4 @@
-// The first pass over lent slices: document 01, "The two passes".
+// The first pass over lent slices: document 01, "The two passes", and document 02, M-106, for the rounds of each angle.
 ghost use Rattle.pass_rules.specs.Promises.{firstGiven, firstLent, FirstPromise, FirstPromiseOf};
 use crate::corrections::first_corrected;
 use crate::misclosures::misclosures_into;
@@ -6,6 +6,7 @@ use figures::Figure;
 use figures::MOST_CONDITIONS;
 use figures::Named;
 use judging::misclosures_verdict;
+use pass_steps::store_rounds;
 use refusals::Refusal;
 use refusals::Verdict;
 
@@ -15,17 +16,20 @@ pub fn first_pass(
     n: u32,
     limit: u32,
     angles: &[u32],
+    rounds: &[u8],
     fixed: &[u32],
     misclosures: &mut [i32],
     numerators: &mut [i32],
     rounded: &mut [i32],
     corrected: &mut [u32],
+    corrected_rounds: &mut [u8],
     rests: &mut [i32],
 ) -> Verdict
-    ensures { λ answer. ⌜ FirstPromise (firstGiven code n limit (now (angles .entry)) (now (fixed .entry)))
+    ensures { λ answer. ⌜ FirstPromise (firstGiven code n limit (now (angles .entry)) (now (rounds .entry)) (now (fixed .entry)))
         (firstLent (now (misclosures .entry)) (now (numerators .entry)) (now (rounded .entry))
-        (now (corrected .entry)) (now (rests .entry))) answer
-        (firstLent (now (misclosures .exit)) (now (numerators .exit)) (now (rounded .exit)) (now (corrected .exit)) (now (rests .exit))) ⌝ }
+        (now (corrected .entry)) (now («corrected_rounds» .entry)) (now (rests .entry))) answer
+        (firstLent (now (misclosures .exit)) (now (numerators .exit)) (now (rounded .exit))
+        (now (corrected .exit)) (now («corrected_rounds» .exit)) (now (rests .exit))) ⌝ }
 {
     let Named::As(figure) = figures::figure_of(code, n) else {
         return Verdict::Failed(Refusal::NoSuchFigure);
@@ -34,11 +38,13 @@ pub fn first_pass(
         figure,
         limit,
         angles,
+        rounds,
         fixed,
         misclosures,
         numerators,
         rounded,
         corrected,
+        corrected_rounds,
         rests,
     )
 }
@@ -48,26 +54,30 @@ pub fn first_pass_of(
     figure: Figure,
     limit: u32,
     angles: &[u32],
+    rounds: &[u8],
     fixed: &[u32],
     misclosures: &mut [i32],
     numerators: &mut [i32],
     rounded: &mut [i32],
     corrected: &mut [u32],
+    corrected_rounds: &mut [u8],
     rests: &mut [i32],
 ) -> Verdict
-    ensures { λ answer. ⌜ FirstPromiseOf figure limit (now (angles .entry)) (now (fixed .entry))
+    ensures { λ answer. ⌜ FirstPromiseOf figure limit (now (angles .entry)) (now (rounds .entry)) (now (fixed .entry))
         (firstLent (now (misclosures .entry)) (now (numerators .entry)) (now (rounded .entry))
-        (now (corrected .entry)) (now (rests .entry))) answer
-        (firstLent (now (misclosures .exit)) (now (numerators .exit)) (now (rounded .exit)) (now (corrected .exit)) (now (rests .exit))) ⌝ }
+        (now (corrected .entry)) (now («corrected_rounds» .entry)) (now (rests .entry))) answer
+        (firstLent (now (misclosures .exit)) (now (numerators .exit)) (now (rounded .exit))
+        (now (corrected .exit)) (now («corrected_rounds» .exit)) (now (rests .exit))) ⌝ }
 {
     let results = [
         misclosures.len(),
         numerators.len(),
         rounded.len(),
         corrected.len(),
+        corrected_rounds.len(),
         rests.len(),
     ];
-    let before = pass_rules::first_given_verdict(figure, limit, angles, fixed, results);
+    let before = pass_rules::first_given_verdict(figure, limit, angles, rounds, fixed, results);
     if let Verdict::Failed(_) = before {
         return before;
     }
@@ -78,7 +88,7 @@ pub fn first_pass_of(
     if let Verdict::Failed(_) = beyond {
         return beyond;
     }
-    first_corrected(
+    let outside = first_corrected(
         figure,
         angles,
         &w[..m],
@@ -87,5 +97,7 @@ pub fn first_pass_of(
         rounded,
         corrected,
         rests,
-    )
+    );
+    store_rounds(outside, rounds, corrected_rounds);
+    outside
 }

@@ -1,8 +1,8 @@
 -- Sheets of the first pass as the definitions answer them: document 01, "Sheets worked through", case 8, and the edges of its ranges; what its first
--- printed sheet gives; and accepted sheets of codes 2 and 3, whose values were worked out apart from the definitions (tests/independent.py). Assumes
--- nothing.
+-- printed sheet gives; those of document 02, M-101, M-102 and M-106; and accepted sheets of codes 2 and 3, whose values were worked out apart from the
+-- definitions (tests/independent.py). Assumes nothing.
 use mathlib.Core.Path.{_≡_, refl}
-use mathlib.Core.List.{List, [], _∷_, map}
+use mathlib.Core.List.{List, [], _∷_, _++_, map}
 use Prim.Native.Nat.{ℕ}
 use lib.IntN.{ℤ, pos, negℤ}
 use lib.ListN.{replicate}
@@ -27,28 +27,38 @@ record Sheet : Type 0 where
   n : ℕ
   limit : ℕ
   angles : List ℕ
+  rounds : List ℕ
   fixed : List ℕ
   lent : List ℕ
   answer : Told
 
-abbrev sheet : (code n limit : ℕ) → (angles fixed lent : List ℕ) → Told → Sheet
-sheet code n limit angles fixed lent answer = record {
+abbrev sheet : (code n limit : ℕ) → (angles rounds fixed lent : List ℕ) → Told → Sheet
+sheet code n limit angles rounds fixed lent answer = record {
   code = code;
   n = n;
   limit = limit;
   angles = angles;
+  rounds = rounds;
   fixed = fixed;
   lent = lent;
   answer = answer;
 }
 
+-- the lengths of a figure with so many angles, fixed angles and conditions
+abbrev lengthsOf : (angles fixed conditions : ℕ) → List ℕ
+lengthsOf a x c = a ∷ a ∷ x ∷ c ∷ a ∷ a ∷ a ∷ a ∷ c ∷ []
+
 -- a sheet of code 1 with its first angle given, the others 45°
 abbrev opened : (limit first : ℕ) → Told → Sheet
-opened limit first = sheet 1 0 limit (first ∷ replicate 7 1620000) [] (8 ∷ 0 ∷ 3 ∷ 8 ∷ 8 ∷ 8 ∷ 3 ∷ [])
+opened limit first = sheet 1 0 limit (first ∷ replicate 7 1620000) (replicate 8 1) [] (lengthsOf 8 0 3)
+
+-- and one that closes, with its rounds given
+abbrev observed : (rounds : List ℕ) → Told → Sheet
+observed rounds = sheet 1 0 0 (replicate 8 1620000) rounds [] (lengthsOf 8 0 3)
 
 -- a sheet of code 1 that closes, with the lengths lent
 abbrev lengths-off : List ℕ → Sheet
-lengths-off lent = sheet 1 0 0 (replicate 8 1620000) [] lent (told 2 0)
+lengths-off lent = sheet 1 0 0 (replicate 8 1620000) (replicate 8 1) [] lent (told 2 0)
 
 abbrev in-triangle : List ℕ
 in-triangle = 4320021 ∷ 1080000 ∷ 1079990 ∷ 4320000 ∷ 1080007 ∷ 1080013 ∷ 4319980 ∷ 1080000 ∷ 1080004 ∷ []
@@ -58,14 +68,14 @@ corners = 2160001 ∷ 2160000 ∷ 2159999 ∷ []
 
 -- a sheet of code 2 with its fixed angles given
 abbrev in-three : (fixed : List ℕ) → Told → Sheet
-in-three fixed = sheet 2 3 0 in-triangle fixed (9 ∷ 3 ∷ 6 ∷ 9 ∷ 9 ∷ 9 ∷ 6 ∷ [])
+in-three fixed = sheet 2 3 0 in-triangle (replicate 9 1) fixed (lengthsOf 9 3 6)
 
 abbrev round-point : List ℕ
 round-point =
     3240010 ∷ 1620000 ∷ 1619995 ∷ 3240000 ∷ 1620012 ∷ 1620003 ∷ 3239985 ∷ 1620000 ∷ 1620000 ∷ 3240008 ∷ 1619990 ∷ 1620001 ∷ []
 
 abbrev in-four : (fixed : List ℕ) → Told → Sheet
-in-four fixed = sheet 2 4 0 round-point fixed (12 ∷ 4 ∷ 8 ∷ 12 ∷ 12 ∷ 12 ∷ 8 ∷ [])
+in-four fixed = sheet 2 4 0 round-point (replicate 12 1) fixed (lengthsOf 12 4 8)
 
 abbrev sheets : List Sheet
 sheets =
@@ -82,14 +92,26 @@ sheets =
     ∷ opened 0 0 (told 4 1)
     ∷ opened 0 6480000 (told 4 1)
     -- a correction of −2 to an angle of 1
-    ∷ sheet 1 0 0 (1 ∷ 3240003 ∷ replicate 6 1620000) [] (8 ∷ 0 ∷ 3 ∷ 8 ∷ 8 ∷ 8 ∷ 3 ∷ []) (told 7 1)
-    ∷ lengths-off (7 ∷ 0 ∷ 3 ∷ 8 ∷ 8 ∷ 8 ∷ 3 ∷ [])
-    ∷ lengths-off (8 ∷ 1 ∷ 3 ∷ 8 ∷ 8 ∷ 8 ∷ 3 ∷ [])
-    ∷ lengths-off (8 ∷ 0 ∷ 4 ∷ 8 ∷ 8 ∷ 8 ∷ 3 ∷ [])
-    ∷ lengths-off (8 ∷ 0 ∷ 3 ∷ 9 ∷ 8 ∷ 8 ∷ 3 ∷ [])
-    ∷ lengths-off (8 ∷ 0 ∷ 3 ∷ 8 ∷ 7 ∷ 8 ∷ 3 ∷ [])
-    ∷ lengths-off (8 ∷ 0 ∷ 3 ∷ 8 ∷ 8 ∷ 9 ∷ 3 ∷ [])
-    ∷ lengths-off (8 ∷ 0 ∷ 3 ∷ 8 ∷ 8 ∷ 8 ∷ 2 ∷ [])
+    ∷ sheet 1 0 0 (1 ∷ 3240003 ∷ replicate 6 1620000) (replicate 8 1) [] (lengthsOf 8 0 3) (told 7 1)
+    ∷ lengths-off (7 ∷ 8 ∷ 0 ∷ 3 ∷ 8 ∷ 8 ∷ 8 ∷ 8 ∷ 3 ∷ [])
+    ∷ lengths-off (8 ∷ 7 ∷ 0 ∷ 3 ∷ 8 ∷ 8 ∷ 8 ∷ 8 ∷ 3 ∷ [])
+    ∷ lengths-off (8 ∷ 8 ∷ 1 ∷ 3 ∷ 8 ∷ 8 ∷ 8 ∷ 8 ∷ 3 ∷ [])
+    ∷ lengths-off (8 ∷ 8 ∷ 0 ∷ 4 ∷ 8 ∷ 8 ∷ 8 ∷ 8 ∷ 3 ∷ [])
+    ∷ lengths-off (8 ∷ 8 ∷ 0 ∷ 3 ∷ 9 ∷ 8 ∷ 8 ∷ 8 ∷ 3 ∷ [])
+    ∷ lengths-off (8 ∷ 8 ∷ 0 ∷ 3 ∷ 8 ∷ 7 ∷ 8 ∷ 8 ∷ 3 ∷ [])
+    ∷ lengths-off (8 ∷ 8 ∷ 0 ∷ 3 ∷ 8 ∷ 8 ∷ 9 ∷ 8 ∷ 3 ∷ [])
+    ∷ lengths-off (8 ∷ 8 ∷ 0 ∷ 3 ∷ 8 ∷ 8 ∷ 8 ∷ 9 ∷ 3 ∷ [])
+    ∷ lengths-off (8 ∷ 8 ∷ 0 ∷ 3 ∷ 8 ∷ 8 ∷ 8 ∷ 8 ∷ 2 ∷ [])
+    -- rounds of 0 (M-106): at the first angle, at the last, at both; and from the least to the most
+    ∷ observed (0 ∷ replicate 7 1) (told 16 1)
+    ∷ observed (1 ∷ 1 ∷ 1 ∷ 1 ∷ 1 ∷ 1 ∷ 1 ∷ 0 ∷ []) (told 16 8)
+    ∷ observed (0 ∷ 1 ∷ 1 ∷ 1 ∷ 1 ∷ 1 ∷ 1 ∷ 0 ∷ []) (told 16 1)
+    ∷ observed (1 ∷ 255 ∷ 2 ∷ 3 ∷ 4 ∷ 5 ∷ 6 ∷ 255 ∷ []) (told 0 0)
+    -- 4 comes before 16, 16 before 5, 14 and 6
+    ∷ sheet 1 0 0 (replicate 7 1620000 ++ (6480000 ∷ [])) (0 ∷ replicate 7 1) [] (lengthsOf 8 0 3) (told 4 8)
+    ∷ sheet 2 3 0 in-triangle (replicate 8 1 ++ (0 ∷ [])) (0 ∷ 2160000 ∷ 2159999 ∷ []) (lengthsOf 9 3 6) (told 16 9)
+    ∷ sheet 2 3 0 in-triangle (replicate 8 1 ++ (0 ∷ [])) (2160002 ∷ 2160000 ∷ 2159999 ∷ []) (lengthsOf 9 3 6) (told 16 9)
+    ∷ sheet 1 0 0 (1620091 ∷ replicate 7 1620000) (0 ∷ replicate 7 1) [] (lengthsOf 8 0 3) (told 16 1)
     ∷ in-three corners (told 0 0)
     ∷ in-four (3240002 ∷ 3239998 ∷ 3240000 ∷ 3240000 ∷ []) (told 0 0)
     -- a tenth over, and a tenth under
@@ -101,12 +123,12 @@ sheets =
     ∷ in-three (2160003 ∷ 0 ∷ 2159999 ∷ []) (told 5 2)
     ∷ in-three (2160001 ∷ 2160200 ∷ 2159999 ∷ []) (told 14 0)
     ∷ in-three (2160001 ∷ 2160200 ∷ 2159799 ∷ []) (told 6 5)
-    ∷ sheet 3 4 0 round-point [] (12 ∷ 0 ∷ 5 ∷ 12 ∷ 12 ∷ 12 ∷ 5 ∷ []) (told 0 0)
-    ∷ sheet 3 9 0 round-point [] (12 ∷ 0 ∷ 5 ∷ 12 ∷ 12 ∷ 12 ∷ 5 ∷ []) (told 1 0)
+    ∷ sheet 3 4 0 round-point (replicate 12 1) [] (lengthsOf 12 0 5) (told 0 0)
+    ∷ sheet 3 9 0 round-point (replicate 12 1) [] (lengthsOf 12 0 5) (told 1 0)
     ∷ []
 
 abbrev answerTo : Sheet → Told
-answerTo s = verdictTold (firstPassVerdict (s .code) (s .n) (s .limit) (s .angles) (s .fixed) (s .lent))
+answerTo s = verdictTold (firstPassVerdict (s .code) (s .n) (s .limit) (s .angles) (s .rounds) (s .fixed) (s .lent))
 
 answered : map answerTo sheets ≡ map (λ (s : Sheet). s .answer) sheets
 unfolding firstPassVerdict firstPassRows firstRows answerOf lowestPlace figureOf listed misclosure firstNumerator firstRounded corrected conditionSum sumOver numerator applied dot sum roundedQuotient nearest

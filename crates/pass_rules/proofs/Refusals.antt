@@ -17,28 +17,28 @@ use Rattle.pass_rules.specs.FirstPass.{firstRows, firstPassRows}
 use Rattle.pass_rules.specs.SecondPass.{SineEntries, secondRows, secondPassRows, secondPassVerdict, secondAnswerFor, secondPassAnswer, secondTold}
 use Rattle.pass_rules.proofs.PassRows.{rows-in-table, none-judged}
 
-module _ (code n limit : ℕ) (angles fixed lent : List ℕ) where
-  pub first-in-table : T (allInTable (firstPassRows code n limit angles fixed lent))
+module _ (code n limit : ℕ) (angles rounds fixed lent : List ℕ) where
+  pub first-in-table : T (allInTable (firstPassRows code n limit angles rounds fixed lent))
   unfolding firstPassRows firstRows
-  first-in-table = rows-in-table code n (λ f. firstRows f limit angles fixed lent) (λ f. tt)
+  first-in-table = rows-in-table code n (λ f. firstRows f limit angles rounds fixed lent) (λ f. tt)
 
-module _ (code n tolerance : ℕ) (angles : List ℕ) (e : SineEntries) (lent : List ℕ) where
-  pub second-in-table : T (allInTable (secondPassRows code n tolerance angles e lent))
+module _ (code n tolerance : ℕ) (angles rounds : List ℕ) (e : SineEntries) (lent : List ℕ) where
+  pub second-in-table : T (allInTable (secondPassRows code n tolerance angles rounds e lent))
   unfolding secondPassRows secondRows
-  second-in-table = rows-in-table code n (λ f. secondRows f tolerance angles e lent) (λ f. tt)
+  second-in-table = rows-in-table code n (λ f. secondRows f tolerance angles rounds e lent) (λ f. tt)
 
   -- the answer tells what the verdict does
-  pub second-tells : secondTold (secondPassAnswer code n tolerance angles e lent)
-      ≡ verdictTold (secondPassVerdict code n tolerance angles e lent)
+  pub second-tells : secondTold (secondPassAnswer code n tolerance angles rounds e lent)
+      ≡ verdictTold (secondPassVerdict code n tolerance angles rounds e lent)
   unfolding secondPassAnswer secondPassVerdict secondPassRows
   second-tells = go (figureOf code n) refl
     where
       go : (m : Named) → figureOf code n ≡ m
           → secondTold (ofNamed m (Refused Refusal.NoSuchFigure)
-          (λ f. secondAnswerFor f e (secondPassVerdict code n tolerance angles e lent)))
-          ≡ verdictTold (secondPassVerdict code n tolerance angles e lent)
-      go Nothing none = sym (ap verdictTold (none-judged code n (λ f. secondRows f tolerance angles e lent) none))
-      go (As f) one = by-verdict (secondPassVerdict code n tolerance angles e lent)
+          (λ f. secondAnswerFor f e (secondPassVerdict code n tolerance angles rounds e lent)))
+          ≡ verdictTold (secondPassVerdict code n tolerance angles rounds e lent)
+      go Nothing none = sym (ap verdictTold (none-judged code n (λ f. secondRows f tolerance angles rounds e lent) none))
+      go (As f) one = by-verdict (secondPassVerdict code n tolerance angles rounds e lent)
         where
           by-verdict : (v : Verdict) → secondTold (secondAnswerFor f e v) ≡ verdictTold v
           by-verdict Passed = refl

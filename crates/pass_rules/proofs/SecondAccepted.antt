@@ -14,10 +14,10 @@ use Rattle.whole.proofs.Magnitudes.{natAbs-sub}
 use Rattle.whole.proofs.Ring.{ring, _≐_, _⊕_, _⊖_}
 use Rattle.refusals.specs.declared.Verdict.the-variants.{Passed}
 use Rattle.refusals.specs.Order.{Row, judged}
-use Rattle.refusals.specs.Ranges.{leastAngle, mostAngle, mostLogSine, mostDifference, mostTolerance}
+use Rattle.refusals.specs.Ranges.{leastAngle, mostAngle, leastRounds, mostRounds, mostLogSine, mostDifference, mostTolerance}
 use Rattle.refusals.specs.Table.{resultsRow}
 use Rattle.refusals.proofs.InSteps.{both-parts}
-use Rattle.refusals.proofs.Nowhere.{same-lengths, limit-within, tolerance-kept, squares-not-zero, angles-most, log-sines-most, differences-within, between}
+use Rattle.refusals.proofs.Nowhere.{same-lengths, limit-within, tolerance-kept, squares-not-zero, angles-most, rounds-within, log-sines-most, differences-within, between}
 use Rattle.refusals.proofs.Rows.{none-holds}
 use Rattle.figures.specs.declared.Figure.{Figure}
 use Rattle.figures.specs.Figure.{SineCondition, angleCount, conditionCount, pole, side}
@@ -55,29 +55,31 @@ abbrev pub Kept : Figure → (tolerance : ℕ) → SineCondition → SineEntries
 Kept f tolerance c e =
     (pos 100 *ℤ (misclosureIn f c e *ℤ misclosureIn f c e)) ≤ℤ (pos (toleranceOf tolerance * toleranceOf tolerance) *ℤ differenceSquaresIn f c e)
 
-module _ (f : Figure) (tolerance : ℕ) (angles : List ℕ) (e : SineEntries) (lent : List ℕ) where
+module _ (f : Figure) (tolerance : ℕ) (angles rounds : List ℕ) (e : SineEntries) (lent : List ℕ) where
   -- what the rows say that ask for no work
   pub record Entries : Type 0 where
     pub lengths : lent ≡ secondLengths f
     pub tolerance-range : tolerance ≤ mostTolerance
     pub angle-most : (i : ℕ) → getD angles i 0 ≤ mostAngle
+    pub rounds-range : (i : ℕ) → i < length rounds → (leastRounds ≤ getD rounds i 0) × (getD rounds i 0 ≤ mostRounds)
     pub log-sine-most : (i : ℕ) → getD (e .logSines) i 0 ≤ mostLogSine
     pub log-side-most : (i : ℕ) → getD (e .logSides) i 0 ≤ mostLogSine
     pub difference-most : length (e .differences) ≡ length (e .logSines) → (i : ℕ) → natAbs (vector (e .differences) i) ≤ mostDifference
 
-  pub entries-passed : judged (entryRows f tolerance angles e lent) ≡ Passed → Entries
+  pub entries-passed : judged (entryRows f tolerance angles rounds e lent) ≡ Passed → Entries
   entries-passed passed =
-      let none = none-holds (entryRows f tolerance angles e lent) passed in
-      let most = log-sines-most (e .logSines ++ e .logSides) (e .differences) (none .1 .1 .1 .0) in
+      let none = none-holds (entryRows f tolerance angles rounds e lent) passed in
+      let most = log-sines-most (e .logSines ++ e .logSides) (e .differences) (none .1 .1 .1 .1 .0) in
       record {
         lengths = same-lengths lent (secondLengths f) (none .0);
         tolerance-range = limit-within mostTolerance tolerance (none .1 .0);
         angle-most = angles-most angles (none .1 .1 .0);
+        rounds-range = rounds-within mostRounds rounds (none .1 .1 .1 .0);
         log-sine-most = first-most (e .logSines) (e .logSides) mostLogSine most;
         log-side-most = λ i. subst (λ (n : ℕ). n ≤ mostLogSine) (getD-append-add (e .logSines) (e .logSides) i 0) (most (length (e .logSines) + i));
         difference-most = λ same. small-first (e .differences) (length (e .logSines ++ e .logSides)) mostDifference
             (omega (arith, same, length-append (e .logSines) (e .logSides)))
-            (differences-within (e .logSines ++ e .logSides) (e .differences) (none .1 .1 .1 .0));
+            (differences-within (e .logSines ++ e .logSides) (e .differences) (none .1 .1 .1 .1 .0));
       }
 
   -- and the others
@@ -91,10 +93,10 @@ module _ (f : Figure) (tolerance : ℕ) (angles : List ℕ) (e : SineEntries) (l
   abbrev workRows : List Row
   workRows = sineRowsOf f tolerance e ++ (resultsRow (listed (angleCount f) (secondAdjusted f angles e)) ∷ [])
 
-  pub accepted : judged (secondRows f tolerance angles e lent) ≡ Passed → Accepted
+  pub accepted : judged (secondRows f tolerance angles rounds e lent) ≡ Passed → Accepted
   unfolding secondRows
   accepted passed =
-      let parts = both-parts (entryRows f tolerance angles e lent) workRows passed in
+      let parts = both-parts (entryRows f tolerance angles rounds e lent) workRows passed in
       let none = none-holds workRows (parts .1) in
       record {
         entries = entries-passed (parts .0);

@@ -1,7 +1,7 @@
 -- Sheets of the second pass as the definitions answer them: document 01, "Sheets worked through", case 9 and its printed sheet of kind 2, and the edges of
 -- the ranges; halves; and accepted sheets of codes 2 and 3, whose values were worked out apart from the definitions (tests/independent.py). Assumes nothing.
 use mathlib.Core.Path.{_≡_, refl}
-use mathlib.Core.List.{List, [], _∷_, map}
+use mathlib.Core.List.{List, [], _∷_, _++_, map}
 use Prim.Native.Nat.{ℕ, zero, suc, _+_}
 use lib.ListN.{replicate}
 use lib.IntN.{ℤ, pos, negℤ}
@@ -31,23 +31,25 @@ record Sheet : Type 0 where
   counts : List ℕ
   tolerance : ℕ
   angles : List ℕ
+  rounds : List ℕ
   entries : SineEntries
 
-abbrev sheet : (code n : ℕ) → (counts : List ℕ) → (tolerance : ℕ) → (angles logSines : List ℕ) → (differences : List ℤ) → Sheet
-sheet code n counts tolerance angles logSines differences = record {
+abbrev sheet : (code n : ℕ) → (counts : List ℕ) → (tolerance : ℕ) → (angles rounds logSines : List ℕ) → (differences : List ℤ) → Sheet
+sheet code n counts tolerance angles rounds logSines differences = record {
   code = code;
   n = n;
   counts = counts;
   tolerance = tolerance;
   angles = angles;
+  rounds = rounds;
   entries = sineEntries logSines differences [];
 }
 
 abbrev lengthsOf : (angles conditions : ℕ) → List ℕ
-lengthsOf a c = a ∷ a ∷ a ∷ 0 ∷ a ∷ 0 ∷ a ∷ a ∷ a ∷ a ∷ c ∷ []
+lengthsOf a c = a ∷ a ∷ a ∷ a ∷ 0 ∷ a ∷ 0 ∷ a ∷ a ∷ a ∷ a ∷ a ∷ c ∷ []
 
 abbrev quadrilateral : (tolerance first : ℕ) → (differences : List ℤ) → Sheet
-quadrilateral tolerance first = sheet 1 0 (lengthsOf 8 3) tolerance (first ∷ replicate 7 1620000) (98494950 ∷ replicate 7 98494850)
+quadrilateral tolerance first = sheet 1 0 (lengthsOf 8 3) tolerance (first ∷ replicate 7 1620000) (replicate 8 1) (98494950 ∷ replicate 7 98494850)
 
 -- code 3, n = 8, the most angles, with the same c, l and r in each triangle
 abbrev triangles : {A : Type 0} → ℕ → A → A → A → List A
@@ -55,20 +57,25 @@ triangles zero c l r = []
 triangles (suc k) c l r = c ∷ l ∷ r ∷ triangles k c l r
 
 abbrev octagon : (logSines : List ℕ) → (differences : List ℤ) → Sheet
-octagon = sheet 3 8 (lengthsOf 24 9) 50 (replicate 24 2160000)
+octagon = sheet 3 8 (lengthsOf 24 9) 50 (replicate 24 2160000) (replicate 24 1)
+
+-- the printed sheet with its last angle, its rounds and its first log-sine given
+abbrev observed : (last : ℕ) → (rounds : List ℕ) → (logSine : ℕ) → Sheet
+observed last rounds logSine =
+    sheet 1 0 (lengthsOf 8 3) 0 (replicate 7 1620000 ++ (last ∷ [])) rounds (logSine ∷ replicate 7 98494850) differences-6
 
 abbrev printed : Sheet
 printed = quadrilateral 0 1620000 differences-6
 
 abbrev in-triangle : Sheet
 in-triangle =
-    sheet 2 3 (lengthsOf 9 6) 0 (triangles 3 4320000 1080000 1080000)
+    sheet 2 3 (lengthsOf 9 6) 0 (triangles 3 4320000 1080000 1080000) (replicate 9 1)
     (99375306 ∷ 96989700 ∷ 96990000 ∷ 99375306 ∷ 96989700 ∷ 96989650 ∷ 99375306 ∷ 96989800 ∷ 96989700 ∷ [])
     (minus 122 ∷ pos 365 ∷ pos 410 ∷ minus 121 ∷ pos 240 ∷ pos 365 ∷ minus 120 ∷ pos 367 ∷ pos 505 ∷ [])
 
 abbrev round-point : Sheet
 round-point =
-    sheet 3 4 (lengthsOf 12 5) 0 (triangles 4 3240000 1620000 1620000)
+    sheet 3 4 (lengthsOf 12 5) 0 (triangles 4 3240000 1620000 1620000) (replicate 12 1)
     (100000000 ∷ 98494850 ∷ 98494900 ∷ 99999999 ∷ 98494850 ∷ 98494800 ∷ 100000000 ∷ 98494950 ∷ 98494850 ∷ 100000000 ∷ 98494850 ∷ 98494870 ∷ [])
     (pos 0 ∷ pos 211 ∷ pos 160 ∷ pos 1 ∷ pos 312 ∷ pos 209 ∷ pos 0 ∷ pos 210 ∷ pos 85 ∷ minus 1 ∷ pos 208 ∷ pos 413 ∷ [])
 
@@ -84,8 +91,14 @@ sheets =
     gives printed (Done (pos 100) (pos 0) 0 24315176)
     -- case 9: all differences 0, with W 100 and with W 0
     ∷ gives (quadrilateral 10 1620000 (replicate 8 (pos 0))) (Refused Refusal.SumOfSquaresIsZero)
-    ∷ gives (sheet 1 0 (lengthsOf 8 3) 10 (replicate 8 1620000) (replicate 8 98494850) (replicate 8 (pos 0))) (Refused Refusal.SumOfSquaresIsZero)
+    ∷ gives (sheet 1 0 (lengthsOf 8 3) 10 (replicate 8 1620000) (replicate 8 1) (replicate 8 98494850) (replicate 8 (pos 0))) (Refused Refusal.SumOfSquaresIsZero)
     ∷ gives (quadrilateral 51 1620000 differences-6) (Refused Refusal.LimitOrToleranceOutOfRange)
+    -- rounds of 0 (M-106): at the first angle, and at the last; 4 comes before 16, and 16 before 8; and from the least to the most
+    ∷ gives (observed 1620000 (0 ∷ replicate 7 1) 98494950) (Refused (Refusal.RoundsOutOfRange 1))
+    ∷ gives (observed 1620000 (replicate 7 1 ++ (0 ∷ [])) 98494950) (Refused (Refusal.RoundsOutOfRange 8))
+    ∷ gives (observed 0 (0 ∷ replicate 7 1) 98494950) (Refused (Refusal.AngleOutOfRange 8))
+    ∷ gives (observed 1620000 (replicate 7 1 ++ (0 ∷ [])) 0) (Refused (Refusal.RoundsOutOfRange 8))
+    ∷ gives (observed 1620000 (1 ∷ 255 ∷ 2 ∷ 3 ∷ 4 ∷ 5 ∷ 6 ∷ 255 ∷ []) 98494950) (Done (pos 100) (pos 0) 0 24315176)
     -- a correction of −7 to an angle of 8, and of 7
     ∷ gives (quadrilateral 0 8 differences-6) (Done (pos 100) (pos 0) 0 24315176)
     ∷ gives (quadrilateral 0 7 differences-6) (Refused (Refusal.ResultOutOfRange 1))
@@ -101,7 +114,7 @@ sheets =
     ∷ []
 
 abbrev answerTo : Sheet → SecondAnswer
-answerTo s = secondPassAnswer (s .code) (s .n) (s .tolerance) (s .angles) (s .entries) (s .counts)
+answerTo s = secondPassAnswer (s .code) (s .n) (s .tolerance) (s .angles) (s .rounds) (s .entries) (s .counts)
 
 answered : map (λ (a : Answered). answerTo (a .given)) sheets ≡ map (λ (a : Answered). a .answer) sheets
 unfolding secondPassAnswer secondPassVerdict secondPassRows figureOf secondRows answerOf lowestPlace listed misclosureIn sumOfSquares sideSquares sharedProducts divisor differenceSquaresIn signedIn reducedIn secondNumerator secondRounded secondAdjusted reducedCoefficient numerator conditionSum sumOver applied dot sum roundedQuotient nearest

@@ -1,4 +1,5 @@
--- The first pass: document 01, "The two passes", and document 02, M-101 for number 14 and M-102 for the default limit. Angles and conditions are used by their indices, counted from 0.
+-- The first pass: document 01, "The two passes", and document 02, M-101 for number 14, M-102 for the default limit and M-106 for the rounds of
+-- each angle. Angles and conditions are used by their indices, counted from 0.
 use Prim.Native.Nat.{ℕ, suc}
 use mathlib.Core.List.{List, [], _∷_, _++_}
 use lib.IntN.{ℤ, pos, natAbs, _+ℤ_, _-ℤ_}
@@ -7,8 +8,8 @@ use Rattle.whole.specs.Quotient.{roundedQuotient}
 use Rattle.refusals.specs.declared.Verdict.{Verdict}
 use Rattle.refusals.specs.Numbers.{numbered}
 use Rattle.refusals.specs.Order.{Row, judged}
-use Rattle.refusals.specs.Ranges.{mostLimit}
-use Rattle.refusals.specs.Table.{figureRow, lengthsRow, limitOrToleranceRow, anglesRow, fixedRow, fixedSumRow, misclosuresRow, resultsRow}
+use Rattle.refusals.specs.Ranges.{mostLimit, mostRounds}
+use Rattle.refusals.specs.Table.{figureRow, lengthsRow, limitOrToleranceRow, anglesRow, roundsRow, fixedRow, fixedSumRow, misclosuresRow, resultsRow}
 use Rattle.figures.specs.declared.Figure.{Figure}
 use Rattle.figures.specs.declared.Target.{Target}
 use Rattle.figures.specs.declared.Target.the-variants.{HalfTurn, FullTurn, FixedAngle, NoCondition}
@@ -65,22 +66,23 @@ correctedOf f angles fixed = listed (angleCount f) (λ i. natAbs (corrected f an
 abbrev pub restsOf : Figure → (angles fixed : List ℕ) → List ℤ
 restsOf f angles fixed = listed (conditionCount f) (firstRest f angles fixed)
 
--- ---- the order: 1, 2, 3, 4, 5, 14, 6, 7
+-- ---- the order: 1, 2, 3, 4, 16, 5, 14, 6, 7
 
--- number 2: the lengths of misclosures, numerators, rounded corrections, corrected angles and rests
+-- number 2: the lengths of misclosures, numerators, rounded corrections, corrected angles, their rounds, and rests
 abbrev pub firstResultLengths : Figure → List ℕ
-firstResultLengths f = conditionCount f ∷ angleCount f ∷ angleCount f ∷ angleCount f ∷ conditionCount f ∷ []
+firstResultLengths f = conditionCount f ∷ angleCount f ∷ angleCount f ∷ angleCount f ∷ angleCount f ∷ conditionCount f ∷ []
 
--- and before them those of angles and fixed angles
+-- and before them those of angles, their rounds, and fixed angles
 abbrev pub firstLengths : Figure → List ℕ
-firstLengths f = angleCount f ∷ fixedCount f ∷ firstResultLengths f
+firstLengths f = angleCount f ∷ angleCount f ∷ fixedCount f ∷ firstResultLengths f
 
--- 2 to 5, and 14: what can be said before any work
-abbrev pub givenRows : Figure → (limit : ℕ) → (angles fixed lent : List ℕ) → List Row
-givenRows f limit angles fixed lent =
+-- 2, 3, 4, 16, 5, 14: what can be said before any work
+abbrev pub givenRows : Figure → (limit : ℕ) → (angles rounds fixed lent : List ℕ) → List Row
+givenRows f limit angles rounds fixed lent =
     lengthsRow lent (firstLengths f)
     ∷ limitOrToleranceRow mostLimit limit
     ∷ anglesRow angles
+    ∷ roundsRow mostRounds rounds
     ∷ fixedRow fixed
     ∷ fixedSumRow fixed
     ∷ []
@@ -89,16 +91,16 @@ givenRows f limit angles fixed lent =
 abbrev pub workRows : (limit : ℕ) → (misclosures corrected : List ℤ) → List Row
 workRows limit misclosures corrected = misclosuresRow (limitOf limit) misclosures ∷ resultsRow corrected ∷ []
 
--- of a figure: 2, 3, 4, 5, 14, 6, 7
-unfoldable pub firstRows : Figure → (limit : ℕ) → (angles fixed lent : List ℕ) → List Row
-firstRows f limit angles fixed lent =
-    givenRows f limit angles fixed lent
+-- of a figure: 2, 3, 4, 16, 5, 14, 6, 7
+unfoldable pub firstRows : Figure → (limit : ℕ) → (angles rounds fixed lent : List ℕ) → List Row
+firstRows f limit angles rounds fixed lent =
+    givenRows f limit angles rounds fixed lent
     ++ workRows limit (misclosuresOf f angles fixed) (listed (angleCount f) (corrected f angles fixed))
 
 -- 1, and then those of the figure that code and n name
-unfoldable pub firstPassRows : (code n limit : ℕ) → (angles fixed lent : List ℕ) → List Row
-firstPassRows code n limit angles fixed lent =
-    figureRow code n figureNames ∷ ofNamed (figureOf code n) [] (λ f. firstRows f limit angles fixed lent)
+unfoldable pub firstPassRows : (code n limit : ℕ) → (angles rounds fixed lent : List ℕ) → List Row
+firstPassRows code n limit angles rounds fixed lent =
+    figureRow code n figureNames ∷ ofNamed (figureOf code n) [] (λ f. firstRows f limit angles rounds fixed lent)
 
-unfoldable pub firstPassVerdict : (code n limit : ℕ) → (angles fixed lent : List ℕ) → Verdict
-firstPassVerdict code n limit angles fixed lent = judged (firstPassRows code n limit angles fixed lent)
+unfoldable pub firstPassVerdict : (code n limit : ℕ) → (angles rounds fixed lent : List ℕ) → Verdict
+firstPassVerdict code n limit angles rounds fixed lent = judged (firstPassRows code n limit angles rounds fixed lent)

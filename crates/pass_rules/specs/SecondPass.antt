@@ -1,5 +1,5 @@
--- The second pass: document 01, "The two passes", and document 02, M-100, for the figure that has two sine conditions. Angles and conditions are used by
--- their indices, counted from 0.
+-- The second pass: document 01, "The two passes", and document 02, M-100 for the figure that has two sine conditions and M-106 for the rounds
+-- of each angle. Angles and conditions are used by their indices, counted from 0.
 use Prim.Native.Nat.{ℕ, _/_, _%_, _^_}
 use mathlib.Core.Bool.{cond}
 use mathlib.Core.List.{List, [], _∷_, _++_}
@@ -15,8 +15,8 @@ use Rattle.refusals.specs.declared.Verdict.the-variants.{Passed, Failed}
 use Rattle.refusals.specs.declared.Refusal.{Refusal}
 use Rattle.refusals.specs.Numbers.{Told, told, refusalTold}
 use Rattle.refusals.specs.Order.{Row, judged}
-use Rattle.refusals.specs.Ranges.{mostTolerance}
-use Rattle.refusals.specs.Table.{figureRow, lengthsRow, limitOrToleranceRow, anglesRow, resultsRow, sineEntriesRow, sineMisclosureRow, sumOfSquaresRow}
+use Rattle.refusals.specs.Ranges.{mostTolerance, mostRounds}
+use Rattle.refusals.specs.Table.{figureRow, lengthsRow, limitOrToleranceRow, anglesRow, roundsRow, resultsRow, sineEntriesRow, sineMisclosureRow, sumOfSquaresRow}
 use Rattle.figures.specs.declared.Figure.{Figure}
 use Rattle.figures.specs.Figure.{SineCondition, denominator, angleCount, conditionCount, sideCount, pole, side, hasSide, figureOf, figureNames, ofNamed}
 use Rattle.figures.specs.Numerators.{conditionSum, reducedCoefficient}
@@ -144,23 +144,25 @@ adjustedOf f angles e = listed (angleCount f) (λ i. natAbs (secondAdjusted f an
 abbrev pub secondRestsOf : Figure → SineEntries → List ℤ
 secondRestsOf f e = listed (conditionCount f) (secondRest f e)
 
--- ---- the order: 1, 2, 3, 4, 8, 10, 9, 7
+-- ---- the order: 1, 2, 3, 4, 16, 8, 10, 9, 7
 
--- number 2: the lengths of reduced coefficients A and B, high and low words of numerators, rounded corrections, adjusted angles and rests
+-- number 2: the lengths of reduced coefficients A and B, high and low words of numerators, rounded corrections, adjusted angles, their
+-- rounds, and rests
 abbrev pub secondResultLengths : Figure → List ℕ
 secondResultLengths f =
-    angleCount f ∷ sideReducedCount f ∷ angleCount f ∷ angleCount f ∷ angleCount f ∷ angleCount f ∷ conditionCount f ∷ []
+    angleCount f ∷ sideReducedCount f ∷ angleCount f ∷ angleCount f ∷ angleCount f ∷ angleCount f ∷ angleCount f ∷ conditionCount f ∷ []
 
--- and before them those of angles, log-sines, differences and log sides
+-- and before them those of angles, their rounds, log-sines, differences and log sides
 abbrev pub secondLengths : Figure → List ℕ
-secondLengths f = angleCount f ∷ angleCount f ∷ angleCount f ∷ sideCount f ∷ secondResultLengths f
+secondLengths f = angleCount f ∷ angleCount f ∷ angleCount f ∷ angleCount f ∷ sideCount f ∷ secondResultLengths f
 
--- 2, 3, 4, 8: what can be said before any work; a known side has its place after the angles
-abbrev pub entryRows : Figure → (tolerance : ℕ) → (angles : List ℕ) → SineEntries → (lent : List ℕ) → List Row
-entryRows f tolerance angles e lent =
+-- 2, 3, 4, 16, 8: what can be said before any work; a known side has its place after the angles
+abbrev pub entryRows : Figure → (tolerance : ℕ) → (angles rounds : List ℕ) → SineEntries → (lent : List ℕ) → List Row
+entryRows f tolerance angles rounds e lent =
     lengthsRow lent (secondLengths f)
     ∷ limitOrToleranceRow mostTolerance tolerance
     ∷ anglesRow angles
+    ∷ roundsRow mostRounds rounds
     ∷ sineEntriesRow (e .logSines ++ e .logSides) (e .differences)
     ∷ []
 
@@ -176,20 +178,20 @@ abbrev pub sineRowsOf : Figure → (tolerance : ℕ) → SineEntries → List Ro
 sineRowsOf f tolerance e =
     sineRows tolerance (divisor f e) (sineMisclosure f e) (differenceSquaresIn f (pole f) e) (sideMisclosure f e) (differenceSquaresIn f (side f) e)
 
--- of a figure: 2, 3, 4, 8, 10, 9, 7
-unfoldable pub secondRows : Figure → (tolerance : ℕ) → (angles : List ℕ) → SineEntries → (lent : List ℕ) → List Row
-secondRows f tolerance angles e lent =
-    entryRows f tolerance angles e lent
+-- of a figure: 2, 3, 4, 16, 8, 10, 9, 7
+unfoldable pub secondRows : Figure → (tolerance : ℕ) → (angles rounds : List ℕ) → SineEntries → (lent : List ℕ) → List Row
+secondRows f tolerance angles rounds e lent =
+    entryRows f tolerance angles rounds e lent
     ++ sineRowsOf f tolerance e
     ++ (resultsRow (listed (angleCount f) (secondAdjusted f angles e)) ∷ [])
 
 -- 1, and then those of the figure that code and n name
-unfoldable pub secondPassRows : (code n tolerance : ℕ) → (angles : List ℕ) → SineEntries → (lent : List ℕ) → List Row
-secondPassRows code n tolerance angles e lent =
-    figureRow code n figureNames ∷ ofNamed (figureOf code n) [] (λ f. secondRows f tolerance angles e lent)
+unfoldable pub secondPassRows : (code n tolerance : ℕ) → (angles rounds : List ℕ) → SineEntries → (lent : List ℕ) → List Row
+secondPassRows code n tolerance angles rounds e lent =
+    figureRow code n figureNames ∷ ofNamed (figureOf code n) [] (λ f. secondRows f tolerance angles rounds e lent)
 
-unfoldable pub secondPassVerdict : (code n tolerance : ℕ) → (angles : List ℕ) → SineEntries → (lent : List ℕ) → Verdict
-secondPassVerdict code n tolerance angles e lent = judged (secondPassRows code n tolerance angles e lent)
+unfoldable pub secondPassVerdict : (code n tolerance : ℕ) → (angles rounds : List ℕ) → SineEntries → (lent : List ℕ) → Verdict
+secondPassVerdict code n tolerance angles rounds e lent = judged (secondPassRows code n tolerance angles rounds e lent)
 
 -- ---- what is answered: both misclosures, 0 for a condition that the figure has not, and S or the determinant as two words; or the refusal
 
@@ -200,9 +202,9 @@ secondAnswerOf (Failed refusal) w sideW divisor = Refused refusal
 abbrev pub secondAnswerFor : Figure → SineEntries → Verdict → SecondAnswer
 secondAnswerFor f e verdict = secondAnswerOf verdict (sineMisclosure f e) (sideMisclosure f e) (divisor f e)
 
-unfoldable pub secondPassAnswer : (code n tolerance : ℕ) → (angles : List ℕ) → SineEntries → (lent : List ℕ) → SecondAnswer
-secondPassAnswer code n tolerance angles e lent =
-    ofNamed (figureOf code n) (Refused Refusal.NoSuchFigure) (λ f. secondAnswerFor f e (secondPassVerdict code n tolerance angles e lent))
+unfoldable pub secondPassAnswer : (code n tolerance : ℕ) → (angles rounds : List ℕ) → SineEntries → (lent : List ℕ) → SecondAnswer
+secondPassAnswer code n tolerance angles rounds e lent =
+    ofNamed (figureOf code n) (Refused Refusal.NoSuchFigure) (λ f. secondAnswerFor f e (secondPassVerdict code n tolerance angles rounds e lent))
 
 -- its number and place
 abbrev pub secondTold : SecondAnswer → Told

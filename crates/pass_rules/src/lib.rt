@@ -15,8 +15,8 @@ pub use second::second_given_verdict;
 pub use second::second_result_lengths;
 pub use second::tolerance_in_force;
 
-// The lengths of the five slices that a first pass is lent for its results.
-pub type ResultLengths = [usize; 5];
+// The lengths of the six slices that a first pass is lent for its results.
+pub type ResultLengths = [usize; 6];
 
 // L or e in force: 0 stands for the default.
 pub fn in_force(value: u32, default: u32) -> u32

@@ -28,7 +28,7 @@ determinant-digits : (aa ab bb : ℤ) → natAbs aa ≤ 2 ^ 60 → natAbs ab ≤
 determinant-digits aa ab bb h k l =
     lt-of-le-of-lt (magnitude-reaches 3 (λ aa ab bb. aa ⊗ bb ⊖ ab ⊗ ab) aa (2 ^ 60) h ab (2 ^ 60) k bb (2 ^ 60) l) (lit< tt)
 
-module _ (f : Figure) (tolerance : ℕ) (angles : List ℕ) (e : SineEntries) (lent : List ℕ) (ok : Accepted f tolerance angles e lent)
+module _ (f : Figure) (tolerance : ℕ) (angles rounds : List ℕ) (e : SineEntries) (lent : List ℕ) (ok : Accepted f tolerance angles rounds e lent)
     (differences-few : Within mostDifference (e .differences)) where
   -- ---- W of a sine condition, where number 9 passes
 

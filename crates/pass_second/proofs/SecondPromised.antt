@@ -41,11 +41,12 @@ use Rattle.pass_rules.proofs.PassRows.{one-judged}
 use Rattle.pass_rules.proofs.SecondAccepted.{Entries, entries-passed, Kept}
 use Rattle.pass_rules.proofs.SineSums.{pole-misclosure, no-misclosure}
 use Rattle.pass_steps.specs.Premises.{Angles, LogSines, Within, mostMisclosure, mostReduced}
-use Rattle.pass_steps.specs.Steps.{StoredIf}
+use Rattle.pass_steps.specs.Steps.{StoredIf, sameLength}
+use Rattle.pass_steps.proofs.Fitting.{beside}
 use Rattle.pass_steps.proofs.StepLaws.{listed-within}
 use Rattle.pass_second.specs.declared.sums.Sums.{Sums}
 use Rattle.pass_second.specs.Sines.{pairOf, sumsOf}
-use Rattle.pass_second.specs.Steps.{SmallPair, divisorFrom, tenthsFrom, secondFrom, answerBy}
+use Rattle.pass_second.specs.Steps.{SmallPair, divisorFrom, tenthsFrom, SecondWork, secondWork, withRounds, secondFrom, answerBy}
 use Rattle.pass_second.proofs.SecondSteps.{divisor-is, results-same, values-same}
 use Rattle.pass_second.proofs.SineBounds.{angles-magnitude, squares-natural, squares-magnitude, reduced-magnitude, products-magnitude}
 use Rattle.pass_second.proofs.SumSteps.{both-misclosure, sides-magnitude}
@@ -69,11 +70,16 @@ sum-small : (t : Bool) (z : ℤ) (most : ℕ) → natAbs z ≤ most → natAbs (
 sum-small true z most small = small
 sum-small false z most small = zero-le
 
+-- what is lent for the work
+abbrev pub workOf : SecondLent → SecondWork
+workOf lent =
+    secondWork (lent .reduced) (lent .sideReduced) (lent .highNumerators) (lent .lowNumerators) (lent .rounded) (lent .adjusted) (lent .rests)
+
 -- ---- the rows, step by step
 
-module _ (f : Figure) (tolerance : ℕ) (angles : List ℕ) (e : SineEntries) (entry : SecondLent) where
+module _ (f : Figure) (tolerance : ℕ) (angles rounds : List ℕ) (e : SineEntries) (entry : SecondLent) where
   abbrev before : List Row
-  before = entryRows f tolerance angles e (secondSlices angles e entry)
+  before = entryRows f tolerance angles rounds e (secondSlices angles rounds e entry)
 
   abbrev sines : List Row
   sines = sineRowsOf f tolerance e
@@ -92,25 +98,25 @@ module _ (f : Figure) (tolerance : ℕ) (angles : List ℕ) (e : SineEntries) (e
       (sums-are i .«side_difference_squares»))
 
   -- what follows once the verdict is known
-  by-verdict : (v : Verdict) {exit : SecondLent} → secondVerdictOf f tolerance angles e entry ≡ v
-      → exit ≡ stored v (secondValuesOf f angles e) entry
-      → SecondPromiseOf f tolerance angles e entry (secondAnswerFor f e v) exit
+  by-verdict : (v : Verdict) {exit : SecondLent} → secondVerdictOf f tolerance angles rounds e entry ≡ v
+      → exit ≡ stored v (secondValuesOf f angles rounds e) entry
+      → SecondPromiseOf f tolerance angles rounds e entry (secondAnswerFor f e v) exit
   by-verdict v is left = record {
     answered = ap (secondAnswerFor f e) (sym is);
-    leaves = left ∙ ap (λ (u : Verdict). stored u (secondValuesOf f angles e) entry) (sym is);
+    leaves = left ∙ ap (λ (u : Verdict). stored u (secondValuesOf f angles rounds e) entry) (sym is);
   }
 
   -- a row before the work holds
-  pub refused-before : (r : Refusal) → judged before ≡ Failed r → SecondPromiseOf f tolerance angles e entry (Refused r) entry
+  pub refused-before : (r : Refusal) → judged before ≡ Failed r → SecondPromiseOf f tolerance angles rounds e entry (Refused r) entry
   unfolding secondRows
   refused-before r refused = by-verdict (Failed r) (judged-after-failure before (sines ++ (resultRow ∷ [])) r refused) refl
 
   module _ (passed : judged before ≡ Passed) where
-    entries : Entries f tolerance angles e (secondSlices angles e entry)
-    entries = entries-passed f tolerance angles e (secondSlices angles e entry) passed
+    entries : Entries f tolerance angles rounds e (secondSlices angles rounds e entry)
+    entries = entries-passed f tolerance angles rounds e (secondSlices angles rounds e entry) passed
 
     -- the length of a slice, by its place in the list
-    pub length-at : (k : ℕ) → getD (secondSlices angles e entry) k 0 ≡ getD (secondLengths f) k 0
+    pub length-at : (k : ℕ) → getD (secondSlices angles rounds e entry) k 0 ≡ getD (secondLengths f) k 0
     length-at k = ap (λ (l : List ℕ). getD l k 0) (entries .lengths)
 
     pub small-angles : Angles angles
@@ -123,7 +129,7 @@ module _ (f : Figure) (tolerance : ℕ) (angles : List ℕ) (e : SineEntries) (e
     small-log-sides = entries .log-side-most
 
     pub small-differences : Within mostDifference (e .differences)
-    small-differences = entries .difference-most (length-at 2 ∙ sym (length-at 1))
+    small-differences = entries .difference-most (length-at 3 ∙ sym (length-at 2))
 
     pub small-tolerance : tolerance ≤ mostTolerance
     small-tolerance = entries .tolerance-range
@@ -166,12 +172,12 @@ module _ (f : Figure) (tolerance : ℕ) (angles : List ℕ) (e : SineEntries) (e
         listed-within (sideReducedCount f) (sideReduced f e) mostReduced
         (λ i h. reduced-magnitude f (side f) (side-signed f) e small-differences i)
 
-    after : secondVerdictOf f tolerance angles e entry ≡ judged (sines ++ (resultRow ∷ []))
+    after : secondVerdictOf f tolerance angles rounds e entry ≡ judged (sines ++ (resultRow ∷ []))
     unfolding secondRows
     after = judged-after-pass before (sines ++ (resultRow ∷ [])) passed
 
     -- number 10 or number 9 holds
-    pub refused-sines : (r : Refusal) → judged sines ≡ Failed r → SecondPromiseOf f tolerance angles e entry (Refused r) entry
+    pub refused-sines : (r : Refusal) → judged sines ≡ Failed r → SecondPromiseOf f tolerance angles rounds e entry (Refused r) entry
     refused-sines r refused = by-verdict (Failed r) (after ∙ judged-after-failure sines (resultRow ∷ []) r refused) refl
 
     module _ (within : judged sines ≡ Passed) where
@@ -207,40 +213,48 @@ module _ (f : Figure) (tolerance : ℕ) (angles : List ℕ) (e : SineEntries) (e
       module _ (sides : ℕ) (p : Pair) (a b : List ℤ) (sides-are : sides ≡ sideCount f) (p-is : p ≡ pairOf f e) (a-is : a ≡ reducedOf f e)
           (b-is : b ≡ sideReducedOf f e) where
         verdict-is : verdictOf (resultsRow (resultsOf angles (tenthsFrom (denominator f) sides p a b)))
-            ≡ secondVerdictOf f tolerance angles e entry
+            ≡ secondVerdictOf f tolerance angles rounds e entry
         verdict-is =
             (λ i. verdictOf (resultsRow (resultsOf angles (tenthsFrom (denominator f) (sides-are i) (p-is i) (a-is i) (b-is i)))))
             ∙ results-same f e angles (length-at 0) small-angles
             ∙ sym (after ∙ judged-after-pass sines (resultRow ∷ []) within ∙ answer-of-one (verdictOf resultRow))
 
-        values-are : secondVerdictOf f tolerance angles e entry ≡ Passed → secondFrom f angles sides p a b ≡ secondValuesOf f angles e
+        values-are : secondVerdictOf f tolerance angles rounds e entry ≡ Passed
+            → withRounds (secondFrom f angles sides p a b) rounds ≡ secondValuesOf f angles rounds e
         values-are done =
             let ready =
             sym (λ i. verdictOf (resultsRow (resultsOf angles (tenthsFrom (denominator f) (sides-are i) (p-is i) (a-is i) (b-is i)))))
             ∙ verdict-is ∙ done in
-            (λ i. secondFrom f angles (sides-are i) (p-is i) (a-is i) (b-is i)) ∙ values-same f e angles (length-at 0) small-angles ready
+            (λ i. withRounds (secondFrom f angles (sides-are i) (p-is i) (a-is i) (b-is i)) rounds)
+            ∙ values-same f e angles (length-at 0) small-angles ready rounds
 
-        pub by-results : (d : Size) → d .low < 2 ^ 64 → pos (sizeOf d) ≡ divisorFrom sides p → {answer : Verdict} {exit : SecondLent}
+        pub by-results : (d : Size) → d .low < 2 ^ 64 → pos (sizeOf d) ≡ divisorFrom sides p
+            → {answer : Verdict} {exit : SecondWork} {left : List ℕ}
             → StoredIf (verdictOf (resultsRow (resultsOf angles (tenthsFrom (denominator f) sides p a b))))
-            (secondFrom f angles sides p a b) entry answer exit
-            → (v : Verdict) → answer ≡ v → SecondPromiseOf f tolerance angles e entry (answerBy v (p .wa) (p .wb) (d .high) (d .low)) exit
-        by-results d word d-is promise v told =
-            let is : v ≡ secondVerdictOf f tolerance angles e entry = sym told ∙ promise .answered ∙ verdict-is in
+            (secondFrom f angles sides p a b) (workOf entry) answer exit
+            → left ≡ stored answer (sameLength rounds (entry .adjustedRounds)) (entry .adjustedRounds)
+            → (v : Verdict) → answer ≡ v
+            → SecondPromiseOf f tolerance angles rounds e entry (answerBy v (p .wa) (p .wb) (d .high) (d .low)) (withRounds exit left)
+        by-results d word d-is {answer} {exit} promise beside-them v told =
+            let new = secondFrom f angles sides p a b in
+            let worked : exit ≡ stored answer new (workOf entry) =
+            promise .leaves ∙ ap (λ (u : Verdict). stored u new (workOf entry)) (sym (promise .answered)) in
+            let is : v ≡ secondVerdictOf f tolerance angles rounds e entry = sym told ∙ promise .answered ∙ verdict-is in
             let over : pos (sizeOf d) ≡ divisor f e = d-is ∙ (λ i. divisorFrom (sides-are i) (p-is i)) ∙ divisor-is f e in
             record {
               answered = answer-is v (p .wa) (p .wb) d word ∙ λ i. secondAnswerOf (is i) (p-is i .wa) (p-is i .wb) (over i);
               leaves =
-                  promise .leaves
-                  ∙ ap (λ (u : Verdict). stored u (secondFrom f angles sides p a b) entry) verdict-is
-                  ∙ stored-same (secondVerdictOf f tolerance angles e entry) (secondFrom f angles sides p a b)
-                  (secondValuesOf f angles e) entry values-are;
+                  beside withRounds new (workOf entry) rounds (entry .adjustedRounds) answer (length-at 1 ∙ sym (length-at 11)) worked beside-them
+                  ∙ ap (λ (u : Verdict). stored u (withRounds new rounds) entry) (promise .answered ∙ verdict-is)
+                  ∙ stored-same (secondVerdictOf f tolerance angles rounds e entry) (withRounds new rounds)
+                  (secondValuesOf f angles rounds e) entry values-are;
             }
 
 -- ---- and of code and n
 
 module _ (sheet : SecondGiven) (entry : SecondLent) where
   abbrev rows : Figure → List Row
-  rows f = secondRows f (sheet .tolerance) (sheet .angles) (sheet .entries) (secondLengthsLent sheet entry)
+  rows f = secondRows f (sheet .tolerance) (sheet .angles) (sheet .rounds) (sheet .entries) (secondLengthsLent sheet entry)
 
   abbrev answerFor : Verdict → Figure → SecondAnswer
   answerFor v f = secondAnswerFor f (sheet .entries) v
@@ -254,7 +268,7 @@ module _ (sheet : SecondGiven) (entry : SecondLent) where
   }
 
   pub of-figure : (f : Figure) → figureOf (sheet .code) (sheet .n) ≡ As f → {answer : SecondAnswer} {exit : SecondLent}
-      → SecondPromiseOf f (sheet .tolerance) (sheet .angles) (sheet .entries) entry answer exit → SecondPromise sheet entry answer exit
+      → SecondPromiseOf f (sheet .tolerance) (sheet .angles) (sheet .rounds) (sheet .entries) entry answer exit → SecondPromise sheet entry answer exit
   unfolding secondPassAnswer secondPassVerdict secondPassRows
   of-figure f named promise =
       let verdict = sym (one-judged (sheet .code) (sheet .n) rows named) in

@@ -41,7 +41,7 @@ use Rattle.pass_steps.specs.Premises.{Within, Angles, mostSummed}
 use Rattle.pass_steps.specs.Steps.{resultsFrom}
 use Rattle.pass_steps.proofs.StepLaws.{listed-at, listed-within, listed-after, condition-ext}
 use Rattle.pass_second.specs.Sines.{pairOf}
-use Rattle.pass_second.specs.Steps.{exactFrom, divisorFrom, highsFrom, lowsFrom, tenthsFrom, secondFrom}
+use Rattle.pass_second.specs.Steps.{exactFrom, divisorFrom, highsFrom, lowsFrom, tenthsFrom, withRounds, secondFrom}
 use Rattle.pass_second.proofs.SumSteps.{both-reduced}
 
 -- ---- number 7 asks of each result only whether it is outside
@@ -223,5 +223,5 @@ module _ (f : Figure) (e : SineEntries) where
           ap (λ (l : List ℤ). listed (conditionCount f) (conditionSum f (vector l))) tenths-same
           ∙ listed-ext (conditionCount f) _ _ (condition-ext f _ (secondRounded f e) (listed-at (angleCount f) (secondRounded f e)))
 
-      pub values-same : secondFrom f angles sides p a b ≡ secondValuesOf f angles e
-      values-same = λ k. secondLent a b (highs-same k) (lows-same k) (tenths-same k) (adjusted-same k) (rests-same k)
+      pub values-same : (rounds : List ℕ) → withRounds (secondFrom f angles sides p a b) rounds ≡ secondValuesOf f angles rounds e
+      values-same rounds = λ k. secondLent a b (highs-same k) (lows-same k) (tenths-same k) (adjusted-same k) rounds (rests-same k)

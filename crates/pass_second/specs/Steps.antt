@@ -1,7 +1,7 @@
 -- What the steps of the second pass give, from the sums of both sine conditions and the reduced coefficients a and b.
 use Prim.Native.Nat.{ℕ, _^_, _≤_}
 use mathlib.Core.Bool.{cond}
-use mathlib.Core.List.{List}
+use mathlib.Core.List.{List, [], _∷_}
 use mathlib.Core.Path.{_≡_}
 use lib.Dec.{eqb}
 use lib.IntN.{ℤ, pos, negℤ, natAbs, _*ℤ_}
@@ -18,11 +18,12 @@ use Rattle.pass_pair.specs.Pair.{determinant, pairNumerator, heldNumerator, cor
 use Rattle.refusals.specs.declared.Verdict.{Verdict}
 use Rattle.refusals.specs.declared.Verdict.the-variants.{Passed, Failed}
 use Rattle.figures.specs.declared.Figure.{Figure}
-use Rattle.figures.specs.Figure.{denominator, conditionCount}
+use Rattle.figures.specs.Figure.{denominator, angleCount, conditionCount}
 use Rattle.figures.specs.Numerators.{conditionSum}
 use Rattle.pass_rules.specs.declared.second.SecondAnswer.{SecondAnswer}
 use Rattle.pass_rules.specs.declared.second.SecondAnswer.the-variants.{Done, Refused}
 use Rattle.pass_rules.specs.Promises.{SecondLent, secondLent}
+use Rattle.pass_rules.specs.SecondPass.{sideReducedCount}
 use Rattle.pass_steps.specs.Premises.{mostMisclosure}
 use Rattle.pass_steps.specs.Steps.{resultsFrom}
 
@@ -67,10 +68,46 @@ abbrev pub tenthsFrom : (denominator sides : ℕ) → Pair → (a b : List ℤ) 
 tenthsFrom denominator sides p a b =
     listed (length a) (λ i. clamped (roundedQuotient (exactFrom denominator sides p a b i) (natAbs (divisorFrom sides p))))
 
--- all that is stored
-abbrev pub secondFrom : Figure → (angles : List ℕ) → (sides : ℕ) → Pair → (a b : List ℤ) → SecondLent
+-- what the work stores: everything that is lent but the rounds, which no correction touches
+pub record SecondWork : Type 0 where
+  pub reduced : List ℤ
+  pub sideReduced : List ℤ
+  pub highNumerators : List ℤ
+  pub lowNumerators : List ℕ
+  pub rounded : List ℤ
+  pub adjusted : List ℕ
+  pub rests : List ℤ
+
+abbrev pub secondWork : (reduced sideReduced highNumerators : List ℤ) → (lowNumerators : List ℕ) → (rounded : List ℤ) → (adjusted : List ℕ)
+    → (rests : List ℤ) → SecondWork
+secondWork reduced sideReduced highNumerators lowNumerators rounded adjusted rests = record {
+  reduced = reduced;
+  sideReduced = sideReduced;
+  highNumerators = highNumerators;
+  lowNumerators = lowNumerators;
+  rounded = rounded;
+  adjusted = adjusted;
+  rests = rests;
+}
+
+abbrev pub workLent : SecondWork → List ℕ
+workLent work =
+    length (work .reduced) ∷ length (work .sideReduced) ∷ length (work .highNumerators) ∷ length (work .lowNumerators)
+    ∷ length (work .rounded) ∷ length (work .adjusted) ∷ length (work .rests) ∷ []
+
+abbrev pub workLengths : Figure → List ℕ
+workLengths f =
+    angleCount f ∷ sideReducedCount f ∷ angleCount f ∷ angleCount f ∷ angleCount f ∷ angleCount f ∷ conditionCount f ∷ []
+
+-- with the rounds beside the adjusted angles
+abbrev pub withRounds : SecondWork → (rounds : List ℕ) → SecondLent
+withRounds work rounds =
+    secondLent (work .reduced) (work .sideReduced) (work .highNumerators) (work .lowNumerators) (work .rounded) (work .adjusted) rounds
+    (work .rests)
+
+abbrev pub secondFrom : Figure → (angles : List ℕ) → (sides : ℕ) → Pair → (a b : List ℤ) → SecondWork
 secondFrom f angles sides p a b =
-    secondLent a b (highsFrom (denominator f) sides p a b) (lowsFrom (denominator f) sides p a b) (tenthsFrom (denominator f) sides p a b)
+    secondWork a b (highsFrom (denominator f) sides p a b) (lowsFrom (denominator f) sides p a b) (tenthsFrom (denominator f) sides p a b)
     (resultsFrom angles (tenthsFrom (denominator f) sides p a b))
     (listed (conditionCount f) (conditionSum f (vector (tenthsFrom (denominator f) sides p a b))))
 

@@ -10,11 +10,10 @@ ghost use Rattle.refusals.specs.Table.{resultsRow};
 ghost use Rattle.judging.specs.Searches.{resultsOf};
 ghost use Rattle.figures.specs.Figure.{denominator, angleCount, conditionCount, sideCount};
 ghost use Rattle.figures.specs.Numerators.{conditionSum};
-ghost use Rattle.pass_rules.specs.Promises.{secondLent, secondResultsLent};
-ghost use Rattle.pass_rules.specs.SecondPass.{sideReducedCount, secondResultLengths};
+ghost use Rattle.pass_rules.specs.SecondPass.{sideReducedCount};
 ghost use Rattle.pass_steps.specs.Premises.{Within, Angles, mostSummed, mostReduced};
 ghost use Rattle.pass_steps.specs.Steps.{StoredIf};
-ghost use Rattle.pass_second.specs.Steps.{SmallPair, divisorFrom, tenthsFrom, secondFrom, Stored};
+ghost use Rattle.pass_second.specs.Steps.{SmallPair, divisorFrom, tenthsFrom, secondWork, workLent, workLengths, secondFrom, Stored};
 use crate::numerators::corrections_into;
 use figures::Figure;
 use figures::MOST_ANGLES;
@@ -46,8 +45,8 @@ pub(crate) fn second_corrected(
     requires { ⌜ length (now angles) ≡ angleCount figure ⌝ }
     requires { ⌜ length (now a) ≡ angleCount figure ⌝ }
     requires { ⌜ length (now b) ≡ sideReducedCount figure ⌝ }
-    requires { ⌜ secondResultsLent (secondLent (now reduced) (now «side_reduced») (now «numerators_high») (now «numerators_low»)
-        (now rounded) (now adjusted) (now rests)) ≡ secondResultLengths figure ⌝ }
+    requires { ⌜ workLent (secondWork (now reduced) (now «side_reduced») (now «numerators_high») (now «numerators_low»)
+        (now rounded) (now adjusted) (now rests)) ≡ workLengths figure ⌝ }
     requires { ⌜ Angles (now angles) ⌝ }
     requires { ⌜ SmallPair pair ⌝ }
     requires { ⌜ pos (sizeOf divisor) ≡ divisorFrom sides pair ⌝ }
@@ -56,9 +55,9 @@ pub(crate) fn second_corrected(
     ensures { λ answer. ⌜ StoredIf
         (verdictOf (resultsRow (resultsOf (now (angles .entry)) (tenthsFrom (denominator figure) sides pair (now (a .entry)) (now (b .entry))))))
         (secondFrom figure (now (angles .entry)) sides pair (now (a .entry)) (now (b .entry)))
-        (secondLent (now (reduced .entry)) (now («side_reduced» .entry)) (now («numerators_high» .entry)) (now («numerators_low» .entry))
+        (secondWork (now (reduced .entry)) (now («side_reduced» .entry)) (now («numerators_high» .entry)) (now («numerators_low» .entry))
         (now (rounded .entry)) (now (adjusted .entry)) (now (rests .entry))) answer
-        (secondLent (now (reduced .exit)) (now («side_reduced» .exit)) (now («numerators_high» .exit)) (now («numerators_low» .exit))
+        (secondWork (now (reduced .exit)) (now («side_reduced» .exit)) (now («numerators_high» .exit)) (now («numerators_low» .exit))
         (now (rounded .exit)) (now (adjusted .exit)) (now (rests .exit))) ⌝ }
 {
     let n = angles.len();

@@ -1,4 +1,4 @@
-// The second pass over lent slices: document 01, "The two passes", and document 02, M-100.
+// The second pass over lent slices: document 01, "The two passes", and document 02, M-100, and M-106 for the rounds of each angle.
 ghost use mathlib.Core.Path.{_≡_};
 ghost use Rattle.wide.specs.Wide.{sizeOf};
 ghost use Rattle.pass_rules.specs.Promises.{secondGiven, secondLent, SecondPromise, SecondPromiseOf};
@@ -12,6 +12,7 @@ use figures::Figure;
 use figures::MOST_ANGLES;
 use figures::Named;
 use pass_rules::SecondAnswer;
+use pass_steps::store_rounds;
 use refusals::Refusal;
 use refusals::Verdict;
 use wide::Size;
@@ -22,6 +23,7 @@ pub fn second_pass(
     n: u32,
     tolerance: u32,
     angles: &[u32],
+    rounds: &[u8],
     log_sines: &[u32],
     differences: &[i32],
     log_sides: &[u32],
@@ -31,15 +33,16 @@ pub fn second_pass(
     numerators_low: &mut [u64],
     rounded: &mut [i32],
     adjusted: &mut [u32],
+    adjusted_rounds: &mut [u8],
     rests: &mut [i32],
 ) -> SecondAnswer
     ensures { λ answer. ⌜ SecondPromise
-        (secondGiven code n tolerance (now (angles .entry))
+        (secondGiven code n tolerance (now (angles .entry)) (now (rounds .entry))
         (sineEntries (now («log_sines» .entry)) (now (differences .entry)) (now («log_sides» .entry))))
         (secondLent (now (reduced .entry)) (now («side_reduced» .entry)) (now («numerators_high» .entry)) (now («numerators_low» .entry))
-        (now (rounded .entry)) (now (adjusted .entry)) (now (rests .entry))) answer
+        (now (rounded .entry)) (now (adjusted .entry)) (now («adjusted_rounds» .entry)) (now (rests .entry))) answer
         (secondLent (now (reduced .exit)) (now («side_reduced» .exit)) (now («numerators_high» .exit)) (now («numerators_low» .exit))
-        (now (rounded .exit)) (now (adjusted .exit)) (now (rests .exit))) ⌝ }
+        (now (rounded .exit)) (now (adjusted .exit)) (now («adjusted_rounds» .exit)) (now (rests .exit))) ⌝ }
 {
     let Named::As(figure) = figures::figure_of(code, n) else {
         return SecondAnswer::Refused(Refusal::NoSuchFigure);
@@ -48,6 +51,7 @@ pub fn second_pass(
         figure,
         tolerance,
         angles,
+        rounds,
         log_sines,
         differences,
         log_sides,
@@ -57,6 +61,7 @@ pub fn second_pass(
         numerators_low,
         rounded,
         adjusted,
+        adjusted_rounds,
         rests,
     )
 }
@@ -66,6 +71,7 @@ pub fn second_pass_of(
     figure: Figure,
     tolerance: u32,
     angles: &[u32],
+    rounds: &[u8],
     log_sines: &[u32],
     differences: &[i32],
     log_sides: &[u32],
@@ -75,14 +81,15 @@ pub fn second_pass_of(
     numerators_low: &mut [u64],
     rounded: &mut [i32],
     adjusted: &mut [u32],
+    adjusted_rounds: &mut [u8],
     rests: &mut [i32],
 ) -> SecondAnswer
-    ensures { λ answer. ⌜ SecondPromiseOf figure tolerance (now (angles .entry))
+    ensures { λ answer. ⌜ SecondPromiseOf figure tolerance (now (angles .entry)) (now (rounds .entry))
         (sineEntries (now («log_sines» .entry)) (now (differences .entry)) (now («log_sides» .entry)))
         (secondLent (now (reduced .entry)) (now («side_reduced» .entry)) (now («numerators_high» .entry)) (now («numerators_low» .entry))
-        (now (rounded .entry)) (now (adjusted .entry)) (now (rests .entry))) answer
+        (now (rounded .entry)) (now (adjusted .entry)) (now («adjusted_rounds» .entry)) (now (rests .entry))) answer
         (secondLent (now (reduced .exit)) (now («side_reduced» .exit)) (now («numerators_high» .exit)) (now («numerators_low» .exit))
-        (now (rounded .exit)) (now (adjusted .exit)) (now (rests .exit))) ⌝ }
+        (now (rounded .exit)) (now (adjusted .exit)) (now («adjusted_rounds» .exit)) (now (rests .exit))) ⌝ }
 {
     let results = [
         reduced.len(),
@@ -91,12 +98,14 @@ pub fn second_pass_of(
         numerators_low.len(),
         rounded.len(),
         adjusted.len(),
+        adjusted_rounds.len(),
         rests.len(),
     ];
     let before = pass_rules::second_given_verdict(
         figure,
         tolerance,
         angles,
+        rounds,
         log_sines,
         differences,
         log_sides,
@@ -139,6 +148,7 @@ pub fn second_pass_of(
         adjusted,
         rests,
     );
+    store_rounds(outside, rounds, adjusted_rounds);
     answer_of(outside, pair.wa, pair.wb, divisor)
 }
 

@@ -53,7 +53,7 @@ if-told Passed shown done = done
 if-told (Failed refusal) shown done = refl
 
 shown-told : (pass : Pass) (f : Figure) (limitOrTolerance : ℕ) (v : Values)
-    → outcomeTold (workedPass pass f limitOrTolerance (v .angles) (v .fixed) (entriesOf v) .outcome)
+    → outcomeTold (workedPass pass f limitOrTolerance (v .angles) (v .rounds) (v .fixed) (entriesOf v) .outcome)
     ≡ verdictTold (judged (rowsOfPass pass f limitOrTolerance v))
 unfolding firstSheet secondSheet
 shown-told Pass.First f limit v = if-told (judged (rowsOfPass Pass.First f limit v)) _ refl

@@ -29,23 +29,23 @@ use Rattle.pass_rules.specs.Promises.{FirstLent, firstResultsLent, firstValuesO
 use Rattle.pass_sheet.specs.Texts.{textOf}
 use Rattle.pass_sheet.specs.Worked.{shownIf, firstShown, firstSheetLengths, firstSheet, secondShown, secondSheetLengths, secondSheet}
 
-module _ (f : Figure) (limit : ℕ) (angles fixed : List ℕ) (entry exit : FirstLent) (answer : Verdict)
-    (promise : FirstPromiseOf f limit angles fixed entry answer exit) (lengths : firstResultsLent entry ≡ firstResultLengths f) where
-  verdict-is : answer ≡ judged (firstRows f limit angles fixed (firstSheetLengths f angles fixed))
-  verdict-is = promise .answered ∙ ap (λ (l : List ℕ). judged (firstRows f limit angles fixed (length angles ∷ length fixed ∷ l))) lengths
+module _ (f : Figure) (limit : ℕ) (angles rounds fixed : List ℕ) (entry exit : FirstLent) (answer : Verdict)
+    (promise : FirstPromiseOf f limit angles rounds fixed entry answer exit) (lengths : firstResultsLent entry ≡ firstResultLengths f) where
+  verdict-is : answer ≡ judged (firstRows f limit angles rounds fixed (firstSheetLengths f angles rounds fixed))
+  verdict-is = promise .answered ∙ ap (λ (l : List ℕ). judged (firstRows f limit angles rounds fixed (length angles ∷ length rounds ∷ length fixed ∷ l))) lengths
 
-  pub first-refused : (r : Refusal) → answer ≡ Failed r → refusedText r ≡ textOf (firstSheet f limit angles fixed)
+  pub first-refused : (r : Refusal) → answer ≡ Failed r → refusedText r ≡ textOf (firstSheet f limit angles rounds fixed)
   unfolding textOf firstSheet
-  first-refused r e = ap (λ (v : Verdict). textOf (shownIf v (firstShown f angles fixed))) (sym e ∙ verdict-is)
+  first-refused r e = ap (λ (v : Verdict). textOf (shownIf v (firstShown f angles rounds fixed))) (sym e ∙ verdict-is)
 
   pub first-worked : answer ≡ Passed
-      → firstText f (naturals angles) (vector (exit .numerators)) (vector (exit .rounded)) (naturals (exit .corrected)) (vector (exit .misclosures)) (vector (exit .rests))
-      ≡ textOf (firstSheet f limit angles fixed)
+      → firstText f (naturals angles) (naturals (exit .correctedRounds)) (vector (exit .numerators)) (vector (exit .rounded)) (naturals (exit .corrected)) (vector (exit .misclosures)) (vector (exit .rests))
+      ≡ textOf (firstSheet f limit angles rounds fixed)
   unfolding textOf firstSheet
   first-worked e =
-      ap (λ (x : FirstLent). firstText f (naturals angles) (vector (x .numerators)) (vector (x .rounded)) (naturals (x .corrected)) (vector (x .misclosures)) (vector (x .rests)))
-      (promise .leaves ∙ ap (λ (v : Verdict). stored v (firstValuesOf f angles fixed) entry) (sym (promise .answered) ∙ e))
-      ∙ ap (λ (v : Verdict). textOf (shownIf v (firstShown f angles fixed))) (sym e ∙ verdict-is)
+      ap (λ (x : FirstLent). firstText f (naturals angles) (naturals (x .correctedRounds)) (vector (x .numerators)) (vector (x .rounded)) (naturals (x .corrected)) (vector (x .misclosures)) (vector (x .rests)))
+      (promise .leaves ∙ ap (λ (v : Verdict). stored v (firstValuesOf f angles rounds fixed) entry) (sym (promise .answered) ∙ e))
+      ∙ ap (λ (v : Verdict). textOf (shownIf v (firstShown f angles rounds fixed))) (sym e ∙ verdict-is)
 
 same-refusal : {q r : Refusal} → Refused q ≡ Refused r → q ≡ r
 same-refusal e = cc
@@ -76,40 +76,40 @@ divisor-joined : (f : Figure) (e : SineEntries) → joined (pos (natAbs (divisor
 unfolding highWord lowWord radix
 divisor-joined f e = joined-words (pos (natAbs (divisor f e))) ∙ sym (natural (divisor f e) (divisor-natural f e))
 
-module _ (f : Figure) (tolerance : ℕ) (angles : List ℕ) (e : SineEntries) (entry exit : SecondLent) (answer : SecondAnswer)
-    (promise : SecondPromiseOf f tolerance angles e entry answer exit) (lengths : secondResultsLent entry ≡ secondResultLengths f) where
+module _ (f : Figure) (tolerance : ℕ) (angles rounds : List ℕ) (e : SineEntries) (entry exit : SecondLent) (answer : SecondAnswer)
+    (promise : SecondPromiseOf f tolerance angles rounds e entry answer exit) (lengths : secondResultsLent entry ≡ secondResultLengths f) where
   abbrev verdict : Verdict
-  verdict = secondVerdictOf f tolerance angles e entry
+  verdict = secondVerdictOf f tolerance angles rounds e entry
 
-  own-verdict : verdict ≡ judged (secondRows f tolerance angles e (secondSheetLengths f angles e))
+  own-verdict : verdict ≡ judged (secondRows f tolerance angles rounds e (secondSheetLengths f angles rounds e))
   own-verdict =
-      ap (λ (l : List ℕ). judged (secondRows f tolerance angles e (length angles ∷ length (e .logSines) ∷ length (e .differences) ∷ length (e .logSides) ∷ l)))
+      ap (λ (l : List ℕ). judged (secondRows f tolerance angles rounds e (length angles ∷ length rounds ∷ length (e .logSines) ∷ length (e .differences) ∷ length (e .logSides) ∷ l)))
       lengths
 
-  pub second-refused : (r : Refusal) → answer ≡ Refused r → refusedText r ≡ textOf (secondSheet f tolerance angles e)
+  pub second-refused : (r : Refusal) → answer ≡ Refused r → refusedText r ≡ textOf (secondSheet f tolerance angles rounds e)
   unfolding textOf secondSheet
-  second-refused r is = go verdict (sym (promise .answered) ∙ is) ∙ ap (λ (v : Verdict). textOf (shownIf v (secondShown f angles e))) own-verdict
+  second-refused r is = go verdict (sym (promise .answered) ∙ is) ∙ ap (λ (v : Verdict). textOf (shownIf v (secondShown f angles rounds e))) own-verdict
     where
-      go : (v : Verdict) → secondAnswerFor f e v ≡ Refused r → refusedText r ≡ textOf (shownIf v (secondShown f angles e))
+      go : (v : Verdict) → secondAnswerFor f e v ≡ Refused r → refusedText r ≡ textOf (shownIf v (secondShown f angles rounds e))
       go Passed told = absurd (not-both told)
       go (Failed q) told = ap refusedText (sym (same-refusal told))
 
   abbrev textWith : (w sideW over : ℤ) → SecondLent → List ℕ
   textWith w sideW over x =
-      secondText f w sideW over (naturals angles) (vector (x .reduced)) (vector (x .sideReduced)) (wideNumbers (x .highNumerators) (x .lowNumerators))
+      secondText f w sideW over (naturals angles) (naturals (x .adjustedRounds)) (vector (x .reduced)) (vector (x .sideReduced)) (wideNumbers (x .highNumerators) (x .lowNumerators))
       (vector (x .rounded)) (naturals (x .adjusted)) (vector (x .rests))
 
-  pub second-worked : {w sideW : ℤ} {high low : ℕ} → answer ≡ Done w sideW high low → textWith w sideW (joined (pos high) low) exit ≡ textOf (secondSheet f tolerance angles e)
+  pub second-worked : {w sideW : ℤ} {high low : ℕ} → answer ≡ Done w sideW high low → textWith w sideW (joined (pos high) low) exit ≡ textOf (secondSheet f tolerance angles rounds e)
   unfolding textOf secondSheet told-w told-side told-divisor
   second-worked {w} {sideW} {high} {low} is =
       ap (textWith w sideW (joined (pos high) low)) (promise .leaves) ∙ go verdict (sym (promise .answered) ∙ is)
-      ∙ ap (λ (v : Verdict). textOf (shownIf v (secondShown f angles e))) own-verdict
+      ∙ ap (λ (v : Verdict). textOf (shownIf v (secondShown f angles rounds e))) own-verdict
     where
       go : (v : Verdict) → secondAnswerFor f e v ≡ Done w sideW high low
-          → textWith w sideW (joined (pos high) low) (stored v (secondValuesOf f angles e) entry) ≡ textOf (shownIf v (secondShown f angles e))
+          → textWith w sideW (joined (pos high) low) (stored v (secondValuesOf f angles rounds e) entry) ≡ textOf (shownIf v (secondShown f angles rounds e))
       go Passed told =
-          (λ i. textWith (sym (ap told-w told) i) (sym (ap told-side told) i) ((sym (ap told-divisor told) ∙ divisor-joined f e) i) (secondValuesOf f angles e))
-          ∙ ap (λ (numerators : ℕ → ℤ). secondText f (sineMisclosure f e) (sideMisclosure f e) (divisor f e) (naturals angles) (vector (reducedOf f e))
+          (λ i. textWith (sym (ap told-w told) i) (sym (ap told-side told) i) ((sym (ap told-divisor told) ∙ divisor-joined f e) i) (secondValuesOf f angles rounds e))
+          ∙ ap (λ (numerators : ℕ → ℤ). secondText f (sineMisclosure f e) (sideMisclosure f e) (divisor f e) (naturals angles) (naturals rounds) (vector (reducedOf f e))
           (vector (sideReducedOf f e)) numerators (vector (secondRoundedOf f e)) (naturals (adjustedOf f angles e)) (vector (secondRestsOf f e)))
           (wide-listed (angleCount f) (secondNumerator f e))
       go (Failed q) told = absurd (not-both (sym told))

@@ -7,9 +7,9 @@ use Rattle.pass_sheet.specs.Worked.{Outcome, First, Second, WorkedSheet,
 
 abbrev pub outcomeText : Outcome → WorkedSheet → List ℕ
 outcomeText (First f) s =
-    firstText f (naturals (s .given)) (vector (s .numerators)) (vector (s .rounded)) (naturals (s .results)) (vector (s .misclosures)) (vector (s .rests))
+    firstText f (naturals (s .given)) (naturals (s .rounds)) (vector (s .numerators)) (vector (s .rounded)) (naturals (s .results)) (vector (s .misclosures)) (vector (s .rests))
 outcomeText (Second f w sideW divisor) s =
-    secondText f w sideW divisor (naturals (s .given)) (vector (s .reduced)) (vector (s .sideReduced)) (vector (s .numerators)) (vector (s .rounded))
+    secondText f w sideW divisor (naturals (s .given)) (naturals (s .rounds)) (vector (s .reduced)) (vector (s .sideReduced)) (vector (s .numerators)) (vector (s .rounded))
     (naturals (s .results)) (vector (s .rests))
 outcomeText (Outcome.Refused refusal) s = refusedText refusal
 

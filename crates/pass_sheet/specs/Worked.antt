@@ -36,6 +36,7 @@ mostFixed = 4
 -- the arrays have their whole length
 pub record FullArrays (r : SheetValues) : Type 0 where
   pub angles-full : length (r .angles) ≡ mostAngles
+  pub rounds-full : length (r .rounds) ≡ mostAngles
   pub fixed-full : length (r .fixed) ≡ mostFixed
   pub log-sines-full : length (r .«log_sines») ≡ mostAngles
   pub differences-full : length (r .differences) ≡ mostAngles
@@ -46,6 +47,7 @@ pub record ReadInto (sheet : List ℕ) (kind : Kind) (f : Figure) (r : SheetValu
   pub full : FullArrays r
   pub reading-is : r .reading ≡ readingAfter (judged (bodyRows kind f sheet (ownLengths kind f))) kind f sheet
   pub angles-are : take (angleCount f) (r .angles) ≡ afterReading (r .reading) (λ k g. valuesRead k g sheet .angles) (take (angleCount f) (r .angles))
+  pub rounds-are : take (angleCount f) (r .rounds) ≡ afterReading (r .reading) (λ k g. valuesRead k g sheet .rounds) (take (angleCount f) (r .rounds))
   pub fixed-are : take (fixedIn kind f) (r .fixed) ≡ afterReading (r .reading) (λ k g. valuesRead k g sheet .fixed) (take (fixedIn kind f) (r .fixed))
   pub log-sines-are : take (sineEntriesIn kind f) (r .«log_sines») ≡ afterReading (r .reading) (λ k g. valuesRead k g sheet .logSines) (take (sineEntriesIn kind f) (r .«log_sines»))
   pub differences-are :
@@ -64,6 +66,7 @@ pub data Outcome : Type 0 where
 pub record WorkedSheet : Type 0 where
   pub outcome : Outcome
   pub given : List ℕ
+  pub rounds : List ℕ
   pub misclosures : List ℤ
   pub reduced : List ℤ
   pub sideReduced : List ℤ
@@ -76,6 +79,7 @@ abbrev pub refusedSheet : Refusal → WorkedSheet
 refusedSheet r = record {
   outcome = Outcome.Refused r;
   given = [];
+  rounds = [];
   misclosures = [];
   reduced = [];
   sideReduced = [];
@@ -85,10 +89,11 @@ refusedSheet r = record {
   rests = [];
 }
 
-abbrev pub firstShown : Figure → (angles fixed : List ℕ) → WorkedSheet
-firstShown f angles fixed = record {
+abbrev pub firstShown : Figure → (angles rounds fixed : List ℕ) → WorkedSheet
+firstShown f angles rounds fixed = record {
   outcome = First f;
   given = angles;
+  rounds = rounds;
   misclosures = misclosuresOf f angles fixed;
   reduced = [];
   sideReduced = [];
@@ -103,17 +108,18 @@ shownIf Passed shown = shown
 shownIf (Failed r) shown = refusedSheet r
 
 -- kinds for the first pass: that of the figure, with slices of the right lengths lent for the results
-abbrev pub firstSheetLengths : Figure → (angles fixed : List ℕ) → List ℕ
-firstSheetLengths f angles fixed = length angles ∷ length fixed ∷ firstResultLengths f
+abbrev pub firstSheetLengths : Figure → (angles rounds fixed : List ℕ) → List ℕ
+firstSheetLengths f angles rounds fixed = length angles ∷ length rounds ∷ length fixed ∷ firstResultLengths f
 
-unfoldable pub firstSheet : Figure → (limit : ℕ) → (angles fixed : List ℕ) → WorkedSheet
-firstSheet f limit angles fixed =
-    shownIf (judged (firstRows f limit angles fixed (firstSheetLengths f angles fixed))) (firstShown f angles fixed)
+unfoldable pub firstSheet : Figure → (limit : ℕ) → (angles rounds fixed : List ℕ) → WorkedSheet
+firstSheet f limit angles rounds fixed =
+    shownIf (judged (firstRows f limit angles rounds fixed (firstSheetLengths f angles rounds fixed))) (firstShown f angles rounds fixed)
 
-abbrev pub secondShown : Figure → (angles : List ℕ) → SineEntries → WorkedSheet
-secondShown f angles e = record {
+abbrev pub secondShown : Figure → (angles rounds : List ℕ) → SineEntries → WorkedSheet
+secondShown f angles rounds e = record {
   outcome = Second f (sineMisclosure f e) (sideMisclosure f e) (divisor f e);
   given = angles;
+  rounds = rounds;
   misclosures = [];
   reduced = reducedOf f e;
   sideReduced = sideReducedOf f e;
@@ -124,13 +130,13 @@ secondShown f angles e = record {
 }
 
 -- kinds for the second pass: that of the figure, with slices of the right lengths lent for the results
-abbrev pub secondSheetLengths : Figure → (angles : List ℕ) → SineEntries → List ℕ
-secondSheetLengths f angles e =
-    length angles ∷ length (e .logSines) ∷ length (e .differences) ∷ length (e .logSides) ∷ secondResultLengths f
+abbrev pub secondSheetLengths : Figure → (angles rounds : List ℕ) → SineEntries → List ℕ
+secondSheetLengths f angles rounds e =
+    length angles ∷ length rounds ∷ length (e .logSines) ∷ length (e .differences) ∷ length (e .logSides) ∷ secondResultLengths f
 
-unfoldable pub secondSheet : Figure → (tolerance : ℕ) → (angles : List ℕ) → SineEntries → WorkedSheet
-secondSheet f tolerance angles e =
-    shownIf (judged (secondRows f tolerance angles e (secondSheetLengths f angles e))) (secondShown f angles e)
+unfoldable pub secondSheet : Figure → (tolerance : ℕ) → (angles rounds : List ℕ) → SineEntries → WorkedSheet
+secondSheet f tolerance angles rounds e =
+    shownIf (judged (secondRows f tolerance angles rounds e (secondSheetLengths f angles rounds e))) (secondShown f angles rounds e)
 
 -- ---- from what the reader answered
 
@@ -138,28 +144,29 @@ secondSheet f tolerance angles e =
 abbrev pub entriesOf : Values → SineEntries
 entriesOf v = sineEntries (v .logSines) (v .differences) (v .logSides)
 
-abbrev pub workedPass : Pass → Figure → (limitOrTolerance : ℕ) → (angles fixed : List ℕ) → SineEntries → WorkedSheet
-workedPass Pass.First f limit angles fixed e = firstSheet f limit angles fixed
-workedPass Pass.Second f tolerance angles fixed e = secondSheet f tolerance angles e
+abbrev pub workedPass : Pass → Figure → (limitOrTolerance : ℕ) → (angles rounds fixed : List ℕ) → SineEntries → WorkedSheet
+workedPass Pass.First f limit angles rounds fixed e = firstSheet f limit angles rounds fixed
+workedPass Pass.Second f tolerance angles rounds fixed e = secondSheet f tolerance angles rounds e
 
 -- the pass is handed L or e in force, where 0 stands for the default of the sheet's kind (document 02, M-102)
-abbrev pub workedKind : Kind → Figure → (limitOrTolerance : ℕ) → (angles fixed : List ℕ) → SineEntries → WorkedSheet
-workedKind kind f limitOrTolerance angles fixed e = workedPass (passOf kind) f (inForce (defaultOf kind) limitOrTolerance) angles fixed e
+abbrev pub workedKind : Kind → Figure → (limitOrTolerance : ℕ) → (angles rounds fixed : List ℕ) → SineEntries → WorkedSheet
+workedKind kind f limitOrTolerance angles rounds fixed e = workedPass (passOf kind) f (inForce (defaultOf kind) limitOrTolerance) angles rounds fixed e
 
-abbrev pub workedReading : Reading → (angles fixed : List ℕ) → SineEntries → WorkedSheet
-workedReading (Reading.Refused r) angles fixed e = refusedSheet r
-workedReading (Read kind f limitOrTolerance) angles fixed e = workedKind kind f limitOrTolerance angles fixed e
+abbrev pub workedReading : Reading → (angles rounds fixed : List ℕ) → SineEntries → WorkedSheet
+workedReading (Reading.Refused r) angles rounds fixed e = refusedSheet r
+workedReading (Read kind f limitOrTolerance) angles rounds fixed e = workedKind kind f limitOrTolerance angles rounds fixed e
 
 abbrev pub workedFrom : Kind → Figure → SheetValues → WorkedSheet
 workedFrom kind f v =
-    workedReading (v .reading) (take (angleCount f) (v .angles)) (take (fixedIn kind f) (v .fixed))
+    workedReading (v .reading) (take (angleCount f) (v .angles)) (take (angleCount f) (v .rounds)) (take (fixedIn kind f) (v .fixed))
     (sineEntries (take (sineEntriesIn kind f) (v .«log_sines»)) (take (sineEntriesIn kind f) (v .differences)) (take (sidesIn kind f) (v .«log_sides»)))
 
 -- the values that the reader gives, where it gives them
 abbrev pub workedRead : Reading → List ℕ → WorkedSheet
 workedRead (Reading.Refused r) sheet = refusedSheet r
 workedRead (Read kind f limitOrTolerance) sheet =
-    workedKind kind f limitOrTolerance (valuesRead kind f sheet .angles) (valuesRead kind f sheet .fixed) (entriesOf (valuesRead kind f sheet))
+    workedKind kind f limitOrTolerance (valuesRead kind f sheet .angles) (valuesRead kind f sheet .rounds) (valuesRead kind f sheet .fixed)
+    (entriesOf (valuesRead kind f sheet))
 
 abbrev pub workedLook : Look → List ℕ → WorkedSheet
 workedLook (Look.Refused r) sheet = refusedSheet r
@@ -172,8 +179,9 @@ workedOf sheet = workedLook (lookOf sheet) sheet
 -- ---- the order of a sheet worked through: the reader's rows, in slices of the right lengths, and then those of the pass that its kind is for
 
 abbrev pub rowsOfPass : Pass → Figure → (limitOrTolerance : ℕ) → Values → List Row
-rowsOfPass Pass.First f limit v = firstRows f limit (v .angles) (v .fixed) (firstSheetLengths f (v .angles) (v .fixed))
-rowsOfPass Pass.Second f tolerance v = secondRows f tolerance (v .angles) (entriesOf v) (secondSheetLengths f (v .angles) (entriesOf v))
+rowsOfPass Pass.First f limit v = firstRows f limit (v .angles) (v .rounds) (v .fixed) (firstSheetLengths f (v .angles) (v .rounds) (v .fixed))
+rowsOfPass Pass.Second f tolerance v =
+    secondRows f tolerance (v .angles) (v .rounds) (entriesOf v) (secondSheetLengths f (v .angles) (v .rounds) (entriesOf v))
 
 abbrev pub passRows : Kind → Figure → Values → List Row
 passRows kind f v = rowsOfPass (passOf kind) f (inForce (defaultOf kind) (v .limitOrTolerance)) v
@@ -192,3 +200,7 @@ outcomeTold (Outcome.Refused refusal) = refusalTold refusal
 -- the log-sines, sine differences and known log sides that a sheet holds
 abbrev pub entriesIn : List ℕ → SineEntries
 entriesIn sheet = ofHead (lookOf sheet) (sineEntries [] [] []) (λ kind f. entriesOf (valuesRead kind f sheet))
+
+-- and the rounds of its angles
+abbrev pub roundsHeld : List ℕ → List ℕ
+roundsHeld sheet = ofHead (lookOf sheet) [] (λ kind f. valuesRead kind f sheet .rounds)

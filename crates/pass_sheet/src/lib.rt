@@ -32,6 +32,7 @@ const MOST_FIXED: usize = 4;
 struct SheetValues {
     reading: Reading,
     angles: [u32; MOST_ANGLES],
+    rounds: [u8; MOST_ANGLES],
     fixed: [u32; MOST_FIXED],
     log_sines: [u32; MOST_ANGLES],
     differences: [i32; MOST_ANGLES],
@@ -47,6 +48,7 @@ fn values_of(sheet: &[u8], kind: Kind, figure: Figure) -> SheetValues
     let m = lengths.log_sines;
     let s = lengths.log_sides;
     let mut angles = [0u32; MOST_ANGLES];
+    let mut rounds = [0u8; MOST_ANGLES];
     let mut fixed = [0u32; MOST_FIXED];
     let mut log_sines = [0u32; MOST_ANGLES];
     let mut differences = [0i32; MOST_ANGLES];
@@ -56,6 +58,7 @@ fn values_of(sheet: &[u8], kind: Kind, figure: Figure) -> SheetValues
         kind,
         figure,
         &mut angles[..n],
+        &mut rounds[..n],
         &mut fixed[..k],
         &mut log_sines[..m],
         &mut differences[..m],
@@ -64,6 +67,7 @@ fn values_of(sheet: &[u8], kind: Kind, figure: Figure) -> SheetValues
     SheetValues {
         reading,
         angles,
+        rounds,
         fixed,
         log_sines,
         differences,
@@ -77,9 +81,11 @@ fn first_sheet(
     figure: Figure,
     limit: u32,
     angles: &[u32],
+    rounds: &[u8],
     fixed: &[u32],
 ) -> usize
-    ensures { λ next. ⌜ Holds (now (buffer .entry)) (textOf (firstSheet figure limit (now (angles .entry)) (now (fixed .entry))))
+    ensures { λ next. ⌜ Holds (now (buffer .entry))
+        (textOf (firstSheet figure limit (now (angles .entry)) (now (rounds .entry)) (now (fixed .entry))))
         (now (buffer .exit)) next ⌝ }
 {
     let counts = figure_tables::counts_of(figure);
@@ -89,16 +95,19 @@ fn first_sheet(
     let mut numerators = [0i32; MOST_ANGLES];
     let mut rounded = [0i32; MOST_ANGLES];
     let mut corrected = [0u32; MOST_ANGLES];
+    let mut corrected_rounds = [0u8; MOST_ANGLES];
     let mut rests = [0i32; MOST_CONDITIONS];
     let verdict = first_pass_of(
         figure,
         limit,
         angles,
+        rounds,
         fixed,
         &mut misclosures[..m],
         &mut numerators[..n],
         &mut rounded[..n],
         &mut corrected[..n],
+        &mut corrected_rounds[..n],
         &mut rests[..m],
     );
     match verdict {
@@ -107,6 +116,7 @@ fn first_sheet(
             buffer,
             figure,
             angles,
+            &corrected_rounds[..n],
             &numerators[..n],
             &rounded[..n],
             &corrected[..n],
@@ -122,30 +132,33 @@ fn second_sheet(
     figure: Figure,
     tolerance: u32,
     angles: &[u32],
+    rounds: &[u8],
     log_sines: &[u32],
     differences: &[i32],
     log_sides: &[u32],
 ) -> usize
     ensures { λ next. ⌜ Holds (now (buffer .entry))
-        (textOf (secondSheet figure tolerance (now (angles .entry))
+        (textOf (secondSheet figure tolerance (now (angles .entry)) (now (rounds .entry))
         (sineEntries (now («log_sines» .entry)) (now (differences .entry)) (now («log_sides» .entry)))))
         (now (buffer .exit)) next ⌝ }
 {
     let lengths = second_result_lengths(figure);
     let n = lengths[0];
     let k = lengths[1];
-    let m = lengths[6];
+    let m = lengths[7];
     let mut reduced = [0i64; MOST_ANGLES];
     let mut side_reduced = [0i64; MOST_ANGLES];
     let mut high = [0i64; MOST_ANGLES];
     let mut low = [0u64; MOST_ANGLES];
     let mut rounded = [0i32; MOST_ANGLES];
     let mut adjusted = [0u32; MOST_ANGLES];
+    let mut adjusted_rounds = [0u8; MOST_ANGLES];
     let mut rests = [0i32; MOST_CONDITIONS];
     let answer = second_pass_of(
         figure,
         tolerance,
         angles,
+        rounds,
         log_sines,
         differences,
         log_sides,
@@ -155,6 +168,7 @@ fn second_sheet(
         &mut low[..n],
         &mut rounded[..n],
         &mut adjusted[..n],
+        &mut adjusted_rounds[..n],
         &mut rests[..m],
     );
     match answer {
@@ -167,6 +181,7 @@ fn second_sheet(
             divisor_high,
             divisor_low,
             angles,
+            &adjusted_rounds[..n],
             &reduced[..n],
             &side_reduced[..k],
             &high[..n],
@@ -189,6 +204,7 @@ fn values_lines(buffer: &mut [u8], kind: Kind, figure: Figure, values: SheetValu
     let m = lengths.log_sines;
     let s = lengths.log_sides;
     let angles = values.angles;
+    let rounds = values.rounds;
     let fixed = values.fixed;
     let log_sines = values.log_sines;
     let differences = values.differences;
@@ -203,12 +219,20 @@ fn values_lines(buffer: &mut [u8], kind: Kind, figure: Figure, values: SheetValu
         } => {
             let bound = in_force(limit_or_tolerance, default_of(read));
             match pass_of(read) {
-                Pass::First => first_sheet(buffer, f, bound, &angles[..n], &fixed[..k]),
+                Pass::First => first_sheet(
+                    buffer,
+                    f,
+                    bound,
+                    &angles[..n],
+                    &rounds[..n],
+                    &fixed[..k],
+                ),
                 Pass::Second => second_sheet(
                     buffer,
                     f,
                     bound,
                     &angles[..n],
+                    &rounds[..n],
                     &log_sines[..m],
                     &differences[..m],
                     &log_sides[..s],

@@ -25,7 +25,7 @@ abbrev pub fitting : {A : Type 0} → (given asked lent own : ℕ) → (new entr
 fitting given asked lent own new entry = cond (eqb given asked) (cond (eqb lent own) new entry) entry
 
 -- a copy, where it has the length of what it is copied to
-abbrev pub sameLength : (new entry : List ℤ) → List ℤ
+abbrev pub sameLength : {A : Type 0} → (new entry : List A) → List A
 sameLength new entry = cond (eqb (length new) (length entry)) new entry
 
 -- a number that is no greater than 2³¹ − 1 either way, and 0 for another

@@ -3,9 +3,11 @@
 mod conditions;
 mod numerators;
 mod results;
+mod rounds;
 mod stores;
 
 pub use conditions::condition_sums;
 pub use numerators::numerators_into;
 pub use results::results_into;
+pub use rounds::store_rounds;
 pub use stores::store_signed;

@@ -14,8 +14,8 @@ use lib.Signed.{_≤ℤ_}
 use Rattle.refusals.specs.Numbers.{numbered}
 use Rattle.refusals.specs.Order.{row, rowAt, HoldsNowhere}
 use Rattle.refusals.specs.Questions.{Question, lessSigned, unequal, differ, outside, outsideSigned, Holds, asked, sameNumbers}
-use Rattle.refusals.specs.Ranges.{leastAngle, mostAngle, leastLogSine, mostLogSine, mostDifference}
-use Rattle.refusals.specs.Table.{lengthsRow, limitOrToleranceRow, anglesRow, fixedRow, misclosuresRow, resultsRow, sineEntriesRow, sineMisclosureRow, sumOfSquaresRow, sheetSizeRow, sumOfAll, fixedSum, fixedSumRow}
+use Rattle.refusals.specs.Ranges.{leastAngle, mostAngle, leastLogSine, mostLogSine, mostDifference, leastRounds}
+use Rattle.refusals.specs.Table.{lengthsRow, limitOrToleranceRow, anglesRow, fixedRow, misclosuresRow, resultsRow, sineEntriesRow, sineMisclosureRow, sumOfSquaresRow, sheetSizeRow, sumOfAll, fixedSum, fixedSumRow, roundsRow}
 use Rattle.refusals.proofs.Decided.{decided-not, not-less-signed}
 use Rattle.refusals.proofs.NumberLists.{same-lists}
 
@@ -149,3 +149,8 @@ module _ (logSines : List ℕ) (differences : List ℤ) (none : HoldsNowhere (si
           let within = differences-within i (omega (arith, same)) in
           between mostDifference (getD differences i (pos 0)) (within .0) (within .1)
       go (no h) = subst (λ (z : ℤ). natAbs z ≤ mostDifference) (sym (List·getD-eq-default differences (pos 0) {n = i} (omega arith))) zero-le
+
+-- 16
+pub rounds-within : (most : ℕ) (rounds : List ℕ) → HoldsNowhere (roundsRow most rounds)
+    → (i : ℕ) → i < length rounds → (leastRounds ≤ getD rounds i 0) × (getD rounds i 0 ≤ most)
+rounds-within most rounds = values-within 16 leastRounds most rounds

@@ -189,6 +189,7 @@ number-range Refusal.WrongSheetLength = (omega arith, omega arith)
 number-range Refusal.FillingBitSet = (omega arith, omega arith)
 number-range Refusal.FixedAnglesDoNotSum = (omega arith, omega arith)
 number-range Refusal.ChoiceDoesNotClose = (omega arith, omega arith)
+number-range (Refusal.RoundsOutOfRange angle) = (omega arith, omega arith)
 
 pub no-zero : (r : Refusal) → numberOf r ≡ 0 → ⊥
 no-zero r e = omega (arith, number-range r .0)

@@ -24,6 +24,7 @@ numberOf Refusal.WrongSheetLength = 12
 numberOf Refusal.FillingBitSet = 13
 numberOf Refusal.FixedAnglesDoNotSum = 14
 numberOf Refusal.ChoiceDoesNotClose = 15
+numberOf (Refusal.RoundsOutOfRange angle) = 16
 
 -- the column "Place"
 abbrev pub placeOf : Refusal → ℕ
@@ -42,6 +43,7 @@ placeOf Refusal.WrongSheetLength = 0
 placeOf Refusal.FillingBitSet = 0
 placeOf Refusal.FixedAnglesDoNotSum = 0
 placeOf Refusal.ChoiceDoesNotClose = 0
+placeOf (Refusal.RoundsOutOfRange angle) = angle
 
 -- ---- the table by number
 
@@ -68,6 +70,7 @@ tableAt place =
     ∷ Refusal.FillingBitSet
     ∷ Refusal.FixedAnglesDoNotSum
     ∷ Refusal.ChoiceDoesNotClose
+    ∷ Refusal.RoundsOutOfRange place
     ∷ []
 
 -- the refusal with a number of the table, at a place

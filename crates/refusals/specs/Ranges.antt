@@ -26,3 +26,10 @@ mostLimit = 600
 -- sine tolerance e in seconds, from 0
 abbrev pub mostTolerance : ℕ
 mostTolerance = 50
+
+-- how often an angle was observed: document 02, M-106
+abbrev pub leastRounds : ℕ
+leastRounds = 1
+
+abbrev pub mostRounds : ℕ
+mostRounds = 255

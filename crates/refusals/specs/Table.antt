@@ -8,7 +8,7 @@ use lib.ListN.{length}
 use Rattle.refusals.specs.Numbers.{numbered}
 use Rattle.refusals.specs.Order.{Row, row, rowAt}
 use Rattle.refusals.specs.Questions.{Question, less, lessSigned, unequal, differ, noneOf, isZero, someOne, either, someAt, outside, outsideSigned}
-use Rattle.refusals.specs.Ranges.{leastAngle, mostAngle, leastLogSine, mostLogSine, mostDifference}
+use Rattle.refusals.specs.Ranges.{leastAngle, mostAngle, leastLogSine, mostLogSine, mostDifference, leastRounds}
 
 -- 1: code and n name no figure; `names` are the code and n of each
 abbrev pub figureRow : (code n : ℕ) → (names : List (List ℕ)) → Row
@@ -90,3 +90,7 @@ choiceRow below above offered rests =
     row 15 (either
     (someAt (length offered) (λ p. outsideSigned (numbered below p (pos 0)) (numbered above p (pos 0)) (numbered offered p (pos 0))))
     (someAt (length rests) (λ p. outsideSigned (pos 0) (pos 0) (numbered rests p (pos 0)))))
+
+-- 16: rounds outside range, document 02, M-106; its place is the angle. An angle has at most 255, and one of a kind of sheet without rounds exactly one
+abbrev pub roundsRow : (most : ℕ) → (rounds : List ℕ) → Row
+roundsRow most rounds = rowAt 16 (length rounds) (λ p. outside leastRounds most (numbered rounds p 0))

@@ -11,10 +11,12 @@ mod units;
 pub use units::LEAST_ANGLE;
 pub use units::LEAST_DIFFERENCE;
 pub use units::LEAST_LOG_SINE;
+pub use units::LEAST_ROUNDS;
 pub use units::MOST_ANGLE;
 pub use units::MOST_DIFFERENCE;
 pub use units::MOST_LIMIT;
 pub use units::MOST_LOG_SINE;
+pub use units::MOST_ROUNDS;
 pub use units::MOST_TOLERANCE;
 
 // Why a sheet is turned back: a case for each row of the table, in its order, with the place where the table has one.
@@ -49,6 +51,8 @@ pub enum Refusal {
     FixedAnglesDoNotSum,
     // 15: an offered choice of whole tenths breaks a rule: one is not just below or just above, or a rest is not 0.
     ChoiceDoesNotClose,
+    // 16: rounds outside range; the angle.
+    RoundsOutOfRange(usize),
 }
 
 // What a test says.
@@ -82,6 +86,7 @@ pub fn number_of(refusal: Refusal) -> u32
         Refusal::FillingBitSet => 13,
         Refusal::FixedAnglesDoNotSum => 14,
         Refusal::ChoiceDoesNotClose => 15,
+        Refusal::RoundsOutOfRange(_) => 16,
     }
 }
 
@@ -104,6 +109,7 @@ pub fn place_of(refusal: Refusal) -> usize
         Refusal::FillingBitSet => 0,
         Refusal::FixedAnglesDoNotSum => 0,
         Refusal::ChoiceDoesNotClose => 0,
+        Refusal::RoundsOutOfRange(angle) => angle,
     }
 }
 

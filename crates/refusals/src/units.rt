@@ -19,3 +19,8 @@ pub const MOST_DIFFERENCE: i32 = 9_999;
 pub const MOST_LIMIT: u32 = 600;
 
 pub const MOST_TOLERANCE: u32 = 50;
+
+// How often an angle was observed: document 02, M-106.
+pub const LEAST_ROUNDS: u8 = 1;
+
+pub const MOST_ROUNDS: u8 = 255;

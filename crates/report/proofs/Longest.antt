@@ -69,55 +69,59 @@ result-digits k g count h i b = subst (λ (m : ℕ). m < 10 ^ k) (sym (getD-list
 
 -- ---- the first pass
 
-module _ (f : Figure) (limit : ℕ) (angles fixed : List ℕ) where
-  module _ (ok : First.Accepted f limit angles fixed (firstSheetLengths f angles fixed)) where
-    first-fits : Fits (firstShown f angles fixed)
+module _ (f : Figure) (limit : ℕ) (angles rounds fixed : List ℕ) where
+  module _ (ok : First.Accepted f limit angles rounds fixed (firstSheetLengths f angles rounds fixed)) where
+    first-fits : Fits (firstShown f angles rounds fixed)
     unfolding textOf
     first-fits =
-        let lent = firstSheetLengths f angles fixed in
-        first-length f (naturals angles) (vector (numeratorsOf f angles fixed)) (vector (roundedOf f angles fixed))
+        let lent = firstSheetLengths f angles rounds fixed in
+        let counted : length rounds ≡ angleCount f = ap (λ (l : List ℕ). getD l 1 0) (ok .entries .lengths) in
+        first-length f (naturals angles) (naturals rounds) (vector (numeratorsOf f angles fixed)) (vector (roundedOf f angles fixed))
         (naturals (correctedOf f angles fixed)) (vector (misclosuresOf f angles fixed)) (vector (restsOf f angles fixed))
         (λ i b. omega (arith, ok .entries .angle-most i))
+        (λ i b. omega (arith, ok .entries .rounds-range i (omega (arith, counted, b))))
         (listed-digits 10 (firstNumerator f angles fixed) (angleCount f)
-        (λ i b. omega (arith, first-numerator-small f limit angles fixed lent ok i)))
+        (λ i b. omega (arith, first-numerator-small f limit angles rounds fixed lent ok i)))
         (listed-digits 10 (firstRounded f angles fixed) (angleCount f)
-        (λ i b. omega (arith, first-rounded-small f limit angles fixed lent ok i)))
+        (λ i b. omega (arith, first-rounded-small f limit angles rounds fixed lent ok i)))
         (result-digits 10 (corrected f angles fixed) (angleCount f)
         (λ i b. omega (arith, angle-most (corrected f angles fixed i) (ok .result-within i b .0) (ok .result-within i b .1))))
         (listed-digits 10 (misclosure f angles fixed) (conditionCount f)
-        (λ j b. omega (arith, misclosure-small f limit angles fixed lent ok j b)))
+        (λ j b. omega (arith, misclosure-small f limit angles rounds fixed lent ok j b)))
         (listed-digits 10 (firstRest f angles fixed) (conditionCount f)
-        (λ j b. omega (arith, first-rest-small f limit angles fixed lent ok j b)))
+        (λ j b. omega (arith, first-rest-small f limit angles rounds fixed lent ok j b)))
 
 -- ---- the second pass
 
-module _ (f : Figure) (tolerance : ℕ) (angles : List ℕ) (e : SineEntries) where
-  module _ (ok : Accepted f tolerance angles e (secondSheetLengths f angles e)) where
+module _ (f : Figure) (tolerance : ℕ) (angles rounds : List ℕ) (e : SineEntries) where
+  module _ (ok : Accepted f tolerance angles rounds e (secondSheetLengths f angles rounds e)) where
     differences-few : Within mostDifference (e .differences)
     differences-few =
         ok .entries .difference-most
-        (ap (λ (l : List ℕ). getD l 2 0) (ok .entries .lengths) ∙ sym (ap (λ (l : List ℕ). getD l 1 0) (ok .entries .lengths)))
+        (ap (λ (l : List ℕ). getD l 3 0) (ok .entries .lengths) ∙ sym (ap (λ (l : List ℕ). getD l 2 0) (ok .entries .lengths)))
 
-    second-fits : Fits (secondShown f angles e)
+    second-fits : Fits (secondShown f angles rounds e)
     unfolding textOf
     second-fits =
-        let lent = secondSheetLengths f angles e in
+        let lent = secondSheetLengths f angles rounds e in
+        let counted : length rounds ≡ angleCount f = ap (λ (l : List ℕ). getD l 1 0) (ok .entries .lengths) in
         second-length f (sineMisclosure f e) (sideMisclosure f e) (divisor f e)
-        (naturals angles) (vector (reducedOf f e)) (vector (sideReducedOf f e)) (vector (listed (angleCount f) (secondNumerator f e)))
+        (naturals angles) (naturals rounds) (vector (reducedOf f e)) (vector (sideReducedOf f e)) (vector (listed (angleCount f) (secondNumerator f e)))
         (vector (secondRoundedOf f e)) (naturals (adjustedOf f angles e)) (vector (secondRestsOf f e))
-        (lt-of-le-of-lt (w-few f tolerance angles e lent ok differences-few) (lit< tt))
-        (lt-of-le-of-lt (side-w-few f tolerance angles e lent ok differences-few) (lit< tt))
-        (divisor-digits f tolerance angles e lent ok differences-few)
+        (lt-of-le-of-lt (w-few f tolerance angles rounds e lent ok differences-few) (lit< tt))
+        (lt-of-le-of-lt (side-w-few f tolerance angles rounds e lent ok differences-few) (lit< tt))
+        (divisor-digits f tolerance angles rounds e lent ok differences-few)
         (λ i b. omega (arith, ok .entries .angle-most i))
+        (λ i b. omega (arith, ok .entries .rounds-range i (omega (arith, counted, b))))
         (listed-digits 8 (secondReduced f e) (angleCount f)
-        (λ i b. omega (arith, reduced-few f tolerance angles e lent ok differences-few i)))
+        (λ i b. omega (arith, reduced-few f tolerance angles rounds e lent ok differences-few i)))
         (some-digits 8 (sideReduced f e) (sideReducedCount f) (angleCount f) (lit< tt)
-        (λ i. omega (arith, side-reduced-few f tolerance angles e lent ok differences-few i)))
+        (λ i. omega (arith, side-reduced-few f tolerance angles rounds e lent ok differences-few i)))
         (listed-digits (numeratorDigits f) (secondNumerator f e) (angleCount f)
-        (λ i b. numerator-digits f tolerance angles e lent ok differences-few i))
-        (listed-digits 8 (secondRounded f e) (angleCount f) (λ i b. omega (arith, rounded-most f tolerance angles e lent ok i b)))
-        (result-digits 7 (secondAdjusted f angles e) (angleCount f) (λ i b. omega (arith, result-most f tolerance angles e lent ok i b)))
-        (listed-digits 1 (secondRest f e) (conditionCount f) (λ j b. omega (arith, rest-most f tolerance angles e lent ok j b)))
+        (λ i b. numerator-digits f tolerance angles rounds e lent ok differences-few i))
+        (listed-digits 8 (secondRounded f e) (angleCount f) (λ i b. omega (arith, rounded-most f tolerance angles rounds e lent ok i b)))
+        (result-digits 7 (secondAdjusted f angles e) (angleCount f) (λ i b. omega (arith, result-most f tolerance angles rounds e lent ok i b)))
+        (listed-digits 1 (secondRest f e) (conditionCount f) (λ j b. omega (arith, rest-most f tolerance angles rounds e lent ok j b)))
 
 -- ---- any bytes
 
@@ -131,16 +135,16 @@ refused-small sheet refusal e =
 pub text-fits : (sheet : List ℕ) → length (reportText sheet) ≤ longestText
 text-fits sheet =
     ⊎-elim
-    (λ (shown : FirstShown (workedOf sheet)).
-    subst Fits (sym (shown .is)) (first-fits (shown .figure) (shown .limit) (shown .angles) (shown .fixed)
-    (First.accepted (shown .figure) (shown .limit) (shown .angles) (shown .fixed)
-    (firstSheetLengths (shown .figure) (shown .angles) (shown .fixed)) (shown .passed))))
+    (λ (shown : FirstShown sheet (workedOf sheet)).
+    subst Fits (sym (shown .is)) (first-fits (shown .figure) (shown .limit) (shown .angles) (shown .rounds) (shown .fixed)
+    (First.accepted (shown .figure) (shown .limit) (shown .angles) (shown .rounds) (shown .fixed)
+    (firstSheetLengths (shown .figure) (shown .angles) (shown .rounds) (shown .fixed)) (shown .passed))))
     (⊎-elim
     (λ (shown : SecondShown sheet (workedOf sheet)).
     subst Fits (sym (shown .is))
-    (second-fits (shown .figure) (shown .tolerance) (shown .angles) (shown .entries)
-    (accepted (shown .figure) (shown .tolerance) (shown .angles) (shown .entries)
-    (secondSheetLengths (shown .figure) (shown .angles) (shown .entries)) (shown .passed))))
+    (second-fits (shown .figure) (shown .tolerance) (shown .angles) (shown .rounds) (shown .entries)
+    (accepted (shown .figure) (shown .tolerance) (shown .angles) (shown .rounds) (shown .entries)
+    (secondSheetLengths (shown .figure) (shown .angles) (shown .rounds) (shown .entries)) (shown .passed))))
     (λ (shown : RefusedShown (workedOf sheet)).
     subst Fits (sym (shown .is)) (refused-fits (shown .refusal) (refused-small sheet (shown .refusal) (shown .is)))))
     (shown-as sheet)

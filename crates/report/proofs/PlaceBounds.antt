@@ -40,6 +40,10 @@ module _ (kind : Kind) (f : Figure) (sheet : List ℕ) where
   unfolding valuesRead
   angles-few = rw (length-listed (angleCount f) _) (angle-bound f)
 
+  pub rounds-few : length (valuesRead kind f sheet .rounds) ≤ mostAngles
+  unfolding valuesRead
+  rounds-few = rw (length-listed (angleCount f) _) (angle-bound f)
+
   pub fixed-few : length (valuesRead kind f sheet .fixed) ≤ mostAngles
   unfolding valuesRead
   fixed-few = rw (length-listed (fixedIn kind f) _) (le-trans (SheetBounds.fixed-few kind f) (lit≤ tt))
@@ -53,37 +57,44 @@ module _ (kind : Kind) (f : Figure) (sheet : List ℕ) where
       → PlacesWithin mostAngles (bodyRows kind f sheet lent ++ later)
   unfolding bodyRows
   body-within lent later within =
-      λ size lengths filling limit. (angles-few, λ angles. (fixed-few, λ fixed summed. (entries-few, λ entries. within)))
+      λ size lengths filling limit. (angles-few, λ angles. (rounds-few, λ rounds. (fixed-few, λ fixed summed. (entries-few, λ entries. within))))
 
 -- ---- the passes, where slices of the right lengths are few values
 
 conditions-few : (f : Figure) → conditionCount f ≤ mostAngles
 conditions-few f = omega (arith, condition-bound f)
 
-pub first-within : (f : Figure) (limit : ℕ) (angles fixed lent : List ℕ)
-    → (HoldsNowhere (lengthsRow lent (firstLengths f)) → (length angles ≤ mostAngles) × (length fixed ≤ mostAngles))
-    → PlacesWithin mostAngles (firstRows f limit angles fixed lent)
+pub first-within : (f : Figure) (limit : ℕ) (angles rounds fixed lent : List ℕ)
+    → (HoldsNowhere (lengthsRow lent (firstLengths f)) → (length angles ≤ mostAngles) × (length rounds ≤ mostAngles) × (length fixed ≤ mostAngles))
+    → PlacesWithin mostAngles (firstRows f limit angles rounds fixed lent)
 unfolding firstRows
-first-within f limit angles fixed lent few = λ lengths range. (
+first-within f limit angles rounds fixed lent few = λ lengths range. (
   few lengths .0,
   λ angle. (
     few lengths .1,
-    λ fixed-angle summed. (
-      rw (length-listed (conditionCount f) (misclosure f angles fixed)) (conditions-few f),
-      λ misclosures. (rw (length-listed (angleCount f) (corrected f angles fixed)) (angle-bound f), λ results. tt),
+    λ round. (
+      few lengths .2,
+      λ fixed-angle summed. (
+        rw (length-listed (conditionCount f) (misclosure f angles fixed)) (conditions-few f),
+        λ misclosures. (rw (length-listed (angleCount f) (corrected f angles fixed)) (angle-bound f), λ results. tt),
+      ),
     ),
   ),
 )
 
-pub second-within : (f : Figure) (tolerance : ℕ) (angles : List ℕ) (e : SineEntries) (lent : List ℕ)
-    → (HoldsNowhere (lengthsRow lent (secondLengths f)) → (length angles ≤ mostAngles) × (length (e .logSines ++ e .logSides) ≤ mostAngles))
-    → PlacesWithin mostAngles (secondRows f tolerance angles e lent)
+pub second-within : (f : Figure) (tolerance : ℕ) (angles rounds : List ℕ) (e : SineEntries) (lent : List ℕ)
+    → (HoldsNowhere (lengthsRow lent (secondLengths f))
+    → (length angles ≤ mostAngles) × (length rounds ≤ mostAngles) × (length (e .logSines ++ e .logSides) ≤ mostAngles))
+    → PlacesWithin mostAngles (secondRows f tolerance angles rounds e lent)
 unfolding secondRows
-second-within f tolerance angles e lent few = λ lengths range. (
+second-within f tolerance angles rounds e lent few = λ lengths range. (
   few lengths .0,
   λ angle. (
     few lengths .1,
-    λ entries zero pole-row side-row. (rw (length-listed (angleCount f) (secondAdjusted f angles e)) (angle-bound f), λ results. tt),
+    λ round. (
+      few lengths .2,
+      λ entries zero pole-row side-row. (rw (length-listed (angleCount f) (secondAdjusted f angles e)) (angle-bound f), λ results. tt),
+    ),
   ),
 )
 
@@ -94,11 +105,11 @@ pass-within kind f sheet = go (passOf kind) _
   where
     go : (pass : Pass) (limitOrTolerance : ℕ) → PlacesWithin mostAngles (rowsOfPass pass f limitOrTolerance (valuesRead kind f sheet))
     go Pass.First limit =
-        first-within f limit (valuesRead kind f sheet .angles) (valuesRead kind f sheet .fixed) _
-        (λ lengths. (angles-few kind f sheet, fixed-few kind f sheet))
+        first-within f limit (valuesRead kind f sheet .angles) (valuesRead kind f sheet .rounds) (valuesRead kind f sheet .fixed) _
+        (λ lengths. (angles-few kind f sheet, rounds-few kind f sheet, fixed-few kind f sheet))
     go Pass.Second tolerance =
-        second-within f tolerance (valuesRead kind f sheet .angles) (entriesOf (valuesRead kind f sheet)) _
-        (λ lengths. (angles-few kind f sheet, entries-few kind f sheet))
+        second-within f tolerance (valuesRead kind f sheet .angles) (valuesRead kind f sheet .rounds) (entriesOf (valuesRead kind f sheet)) _
+        (λ lengths. (angles-few kind f sheet, rounds-few kind f sheet, entries-few kind f sheet))
 
 pub sheet-within : (sheet : List ℕ) → PlacesWithin mostAngles (sheetRows sheet)
 unfolding sheetRows

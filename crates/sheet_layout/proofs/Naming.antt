@@ -22,7 +22,7 @@ use Rattle.figures.specs.declared.Named.the-variants.{As, Nothing}
 use Rattle.figures.specs.Figure.{description, figureOf, figureNames}
 use Rattle.figures.proofs.Naming.{own-name, none-named, one-named}
 use Rattle.sheet_layout.specs.declared.Kind.{Kind}
-use Rattle.sheet_layout.specs.declared.Kind.the-variants.{One, Two, Three}
+use Rattle.sheet_layout.specs.declared.Kind.the-variants.{One, Two, Three, Four, Five}
 use Rattle.sheet_layout.specs.Kinds.{allKinds, numberOfKind}
 use Rattle.sheet_layout.specs.Layout.{sort, numberOfItem, same, positionOf, held}
 use Rattle.sheet_layout.specs.declared.head.NamedKind.{NamedKind}
@@ -46,6 +46,8 @@ own-number : (kind : Kind) → kindOf (numberOfKind kind) ≡ Is kind
 own-number One = refl
 own-number Two = refl
 own-number Three = refl
+own-number Four = refl
+own-number Five = refl
 
 -- a number names a kind exactly if it is the kind's own
 pub kind-exactly : (number : ℕ) (kind : Kind) → (kindOf number ≡ Is kind) ↔ (number ≡ numberOfKind kind)

@@ -1,5 +1,6 @@
--- Sizes of sheets, computed over all kinds and figures: document 01, "Packed sheets".
+-- Sizes of sheets, computed over all kinds and figures: document 01, "Packed sheets", and document 02, M-106.
 use Prim.Native.Nat.{ℕ, _+_, _*_, _≤_, _<_}
+use mathlib.Core.Bool.{Bool}
 use mathlib.Core.List.{[], _∷_, map}
 use mathlib.Core.Path.{_≡_, refl}
 use native.Mathlib.Omega.{arith}
@@ -11,11 +12,11 @@ use Rattle.figures.specs.Figure.{allFigures, angleCount, fixedCount, sideCount,
 use Rattle.figures.specs.Numerators.{mostAngles, mostSides}
 use Rattle.figures.proofs.Figures.{each-figure, angle-bound, side-signed}
 use Rattle.sheet_layout.specs.declared.Kind.{Kind}
-use Rattle.sheet_layout.specs.declared.Kind.the-variants.{One, Two, Three}
+use Rattle.sheet_layout.specs.declared.Kind.the-variants.{One, Two, Three, Four, Five}
 use Rattle.sheet_layout.specs.declared.Pass.{Pass}
-use Rattle.sheet_layout.specs.Kinds.{passOf, ofPass}
-use Rattle.sheet_layout.specs.Layout.{layout, sineEntriesIn, sidesIn, bitCount, sheetSize}
-use Rattle.sheet_layout.proofs.EachKind.{each}
+use Rattle.sheet_layout.specs.Kinds.{passOf, carriesRounds, ofPass}
+use Rattle.sheet_layout.specs.Layout.{layout, roundsBits, sineEntriesIn, sidesIn, bitCount, sheetSize}
+use Rattle.sheet_layout.proofs.EachKind.{each-kind, each}
 
 -- in the order of `allFigures`: code 1; code 2 with n = 3 and 4; code 3 with n = 3 to 8
 pub kind-1-sizes : map (sheetSize One) allFigures ≡ 26 ∷ 38 ∷ 49 ∷ 29 ∷ 38 ∷ 46 ∷ 55 ∷ 64 ∷ 72 ∷ []
@@ -31,10 +32,18 @@ pub kind-3-layout : layout Three ≡ layout One
 unfolding layout
 kind-3-layout = refl
 
--- no sheet is longer than that of kind 2, code 3, n = 8
-pub longest : (kind : Kind) (f : Figure) → sheetSize kind f ≤ 198
+pub kind-4-sizes : map (sheetSize Four) allFigures ≡ 34 ∷ 47 ∷ 61 ∷ 38 ∷ 50 ∷ 61 ∷ 73 ∷ 85 ∷ 96 ∷ []
 unfolding sheetSize bitCount layout totalWidth byteCount
-longest kind f = leb→le (sheetSize kind f) 198 (each (λ k g. leb (sheetSize k g) 198) tt kind f)
+kind-4-sizes = refl
+
+pub kind-5-sizes : map (sheetSize Five) allFigures ≡ 76 ∷ 85 ∷ 119 ∷ 85 ∷ 112 ∷ 140 ∷ 167 ∷ 194 ∷ 222 ∷ []
+unfolding sheetSize bitCount layout totalWidth byteCount
+kind-5-sizes = refl
+
+-- no sheet is longer than that of kind 5, code 3, n = 8
+pub longest : (kind : Kind) (f : Figure) → sheetSize kind f ≤ 222
+unfolding sheetSize bitCount layout totalWidth byteCount
+longest kind f = leb→le (sheetSize kind f) 222 (each (λ k g. leb (sheetSize k g) 222) tt kind f)
 
 -- ---- how many values
 
@@ -59,18 +68,30 @@ few-sides f e = rw e (side-bound f)
 
 -- ---- how many bits
 
--- by the pass that the kind is for
-abbrev pub bitsFor : Pass → Figure → ℕ
-bitsFor pass f = ofPass pass (22 + 23 * (angleCount f + fixedCount f)) (18 + 27 * sideCount f + 65 * angleCount f)
+-- the rounds of an angle, and of all angles
+pub rounds-small : {step : ℕ} (kind : Kind) → step ≡ roundsBits (carriesRounds kind) → step ≤ 8
+rounds-small kind e = rw e (leb→le (roundsBits (carriesRounds kind)) 8 (each-kind (λ k. leb (roundsBits (carriesRounds k)) 8) tt kind))
 
-pub pass-bits : (kind : Kind) (f : Figure) → bitCount kind f ≡ bitsFor (passOf kind) f
+pub few-rounds : {r : Counts} {step : ℕ} (kind : Kind) (f : Figure) → r ≡ countsOf f → step ≡ roundsBits (carriesRounds kind) → step * r .angles ≤ 192
+few-rounds kind f e d =
+    let n : ℕ = roundsBits (carriesRounds kind) * angleCount f in
+    rw (e, d) (leb→le n 192 (each (λ k g. leb (roundsBits (carriesRounds k) * angleCount g) 192) tt kind f))
+
+-- by the pass that the kind is for and whether it carries rounds
+abbrev pub bitsFor : Pass → (rounds : Bool) → Figure → ℕ
+bitsFor pass rounds f =
+    ofPass pass (22 + 23 * (angleCount f + fixedCount f)) (18 + 27 * sideCount f + 65 * angleCount f) + roundsBits rounds * angleCount f
+
+pub pass-bits : (kind : Kind) (f : Figure) → bitCount kind f ≡ bitsFor (passOf kind) (carriesRounds kind) f
 unfolding bitCount layout totalWidth
-pass-bits kind f = eqb→eq (bitCount kind f) (bitsFor (passOf kind) f) (each (λ k g. eqb (bitCount k g) (bitsFor (passOf k) g)) tt kind f)
+pass-bits kind f =
+    eqb→eq (bitCount kind f) (bitsFor (passOf kind) (carriesRounds kind) f)
+    (each (λ k g. eqb (bitCount k g) (bitsFor (passOf k) (carriesRounds k) g)) tt kind f)
 
 -- the figure with the most angles has no known sides
-pub few-bits : (kind : Kind) (f : Figure) → bitCount kind f ≤ 1_578
+pub few-bits : (kind : Kind) (f : Figure) → bitCount kind f ≤ 1_770
 unfolding bitCount layout totalWidth
-few-bits kind f = leb→le (bitCount kind f) 1_578 (each (λ k g. leb (bitCount k g) 1_578) tt kind f)
+few-bits kind f = leb→le (bitCount kind f) 1_770 (each (λ k g. leb (bitCount k g) 1_770) tt kind f)
 
 -- the bytes hold the fields, and less than a byte more
 pub bits-within : (kind : Kind) (f : Figure) → bitCount kind f ≤ 8 * sheetSize kind f

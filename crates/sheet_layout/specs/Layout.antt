@@ -1,6 +1,6 @@
 -- The layout of a packed sheet: document 01, "Packed sheets". "Fields run on without gaps, most significant bit first; zero bits fill the last
--- byte." A kind's fields are one row of `layout`, by the pass that it is for; the size of a sheet, the values that are read off it and its bytes all follow
--- from that row.
+-- byte." A kind's fields are one row of `layout`, by the pass that it is for and whether it carries rounds; the size of a sheet, the values that are
+-- read off it and its bytes all follow from that row.
 use Prim.Native.Nat.{ℕ, _+_}
 use mathlib.Core.Bool.{Bool, cond, _&&_}
 use mathlib.Core.List.{List, [], _∷_, _++_, map}
@@ -12,11 +12,11 @@ use Rattle.bits.specs.Bits.{fieldAt, totalWidth, byteCount}
 use Rattle.sheet_layout.specs.declared.Kind.{Kind}
 use Rattle.sheet_layout.specs.declared.Lengths.{Lengths}
 use Rattle.sheet_layout.specs.declared.Pass.{Pass}
-use Rattle.sheet_layout.specs.Kinds.{passOf, ofPass}
+use Rattle.sheet_layout.specs.Kinds.{passOf, carriesRounds, ofPass}
 
 -- ---- what stands in a sheet, and in which width
 
--- angles, fixed angles, log-sines, differences and known log sides by their number, counted from 1
+-- angles, their rounds, fixed angles, log-sines, differences and known log sides by their number, counted from 1
 pub data Item : Type 0 where
   theKind : Item
   theCode : Item
@@ -24,12 +24,14 @@ pub data Item : Type 0 where
   limit : Item
   tolerance : Item
   angle : ℕ → Item
+  angleRounds : ℕ → Item
   fixedAngle : ℕ → Item
   logSine : ℕ → Item
   difference : ℕ → Item
   logSide : ℕ → Item
 
--- "kind 4 bits, code 4, n 4, L 10, each angle 23"; "e 6"; "23 angle, 27 log-sine, 15 sine difference"; M-100: a log side 27
+-- "kind 4 bits, code 4, n 4, L 10, each angle 23"; "e 6"; "23 angle, 27 log-sine, 15 sine difference"; M-100: a log side 27;
+-- M-106: the rounds of an observed angle 8
 abbrev pub widthOf : Item → ℕ
 widthOf theKind = 4
 widthOf theCode = 4
@@ -37,6 +39,7 @@ widthOf theN = 4
 widthOf limit = 10
 widthOf tolerance = 6
 widthOf (angle i) = 23
+widthOf (angleRounds i) = 8
 widthOf (fixedAngle i) = 23
 widthOf (logSine i) = 27
 widthOf (difference i) = 15
@@ -50,16 +53,29 @@ limitOrToleranceItem kind = ofPass (passOf kind) limit tolerance
 abbrev pub head : List Item
 head = theKind ∷ theCode ∷ theN ∷ []
 
--- for the first pass, kinds 1 and 3: each angle, then the fixed angles. For the second, kind 2: the known log sides (M-100, "after e"), then per angle the
--- angle, its log-sine and its sine difference
-abbrev pub body : Pass → Figure → List Item
-body Pass.First f = eachOf (angleCount f) (λ i. angle i ∷ []) ++ eachOf (fixedCount f) (λ j. fixedAngle j ∷ [])
-body Pass.Second f = eachOf (sideCount f) (λ j. logSide j ∷ []) ++ eachOf (angleCount f) (λ i. angle i ∷ logSine i ∷ difference i ∷ [])
+-- M-106: "8 bits more right after the 23 bits of each observed angle"
+abbrev pub angleItems : (rounds : Bool) → ℕ → List Item
+angleItems rounds i = angle i ∷ cond rounds (angleRounds i ∷ []) []
+
+-- for the first pass, kinds 1, 3 and 4: each angle, then the fixed angles. For the second, kinds 2 and 5: the known log sides (M-100, "after e"), then
+-- per angle the angle, its log-sine and its sine difference; the rounds right after each angle
+abbrev pub body : Pass → (rounds : Bool) → Figure → List Item
+body Pass.First rounds f = eachOf (angleCount f) (angleItems rounds) ++ eachOf (fixedCount f) (λ j. fixedAngle j ∷ [])
+body Pass.Second rounds f =
+    eachOf (sideCount f) (λ j. logSide j ∷ []) ++ eachOf (angleCount f) (λ i. angleItems rounds i ++ (logSine i ∷ difference i ∷ []))
 
 unfoldable pub layout : Kind → Figure → List Item
-layout kind f = head ++ (limitOrToleranceItem kind ∷ body (passOf kind) f)
+layout kind f = head ++ (limitOrToleranceItem kind ∷ body (passOf kind) (carriesRounds kind) f)
+
+-- the bits that an angle's rounds take
+abbrev pub roundsBits : (rounds : Bool) → ℕ
+roundsBits rounds = cond rounds 8 0
 
 -- ---- how many of each, and how many bytes
+
+-- rounds that stand in the sheet
+abbrev pub roundsIn : Kind → Figure → ℕ
+roundsIn kind f = cond (carriesRounds kind) (angleCount f) 0
 
 abbrev pub fixedIn : Kind → Figure → ℕ
 fixedIn kind f = ofPass (passOf kind) (fixedCount f) 0
@@ -70,12 +86,13 @@ sineEntriesIn kind f = ofPass (passOf kind) 0 (angleCount f)
 abbrev pub sidesIn : Kind → Figure → ℕ
 sidesIn kind f = ofPass (passOf kind) 0 (sideCount f)
 
-abbrev pub lengthsFrom : (angles fixed logSines differences logSides : ℕ) → Lengths
-lengthsFrom a f l d s = record { angles = a; fixed = f; «log_sines» = l; differences = d; «log_sides» = s }
+abbrev pub lengthsFrom : (angles rounds fixed logSines differences logSides : ℕ) → Lengths
+lengthsFrom a r f l d s = record { angles = a; rounds = r; fixed = f; «log_sines» = l; differences = d; «log_sides» = s }
 
--- how long each slice of values is
+-- how long each slice of values is; every angle has its rounds, also where they do not stand in the sheet
 abbrev pub lengthsOf : Kind → Figure → Lengths
-lengthsOf kind f = lengthsFrom (angleCount f) (fixedIn kind f) (sineEntriesIn kind f) (sineEntriesIn kind f) (sidesIn kind f)
+lengthsOf kind f =
+    lengthsFrom (angleCount f) (angleCount f) (fixedIn kind f) (sineEntriesIn kind f) (sineEntriesIn kind f) (sidesIn kind f)
 
 -- how many bits the fields take, and how many bytes hold them
 unfoldable pub bitCount : Kind → Figure → ℕ
@@ -94,10 +111,11 @@ sort theN = 2
 sort limit = 3
 sort tolerance = 4
 sort (angle i) = 5
-sort (fixedAngle i) = 6
-sort (logSine i) = 7
-sort (difference i) = 8
-sort (logSide i) = 9
+sort (angleRounds i) = 6
+sort (fixedAngle i) = 7
+sort (logSine i) = 8
+sort (difference i) = 9
+sort (logSide i) = 10
 
 unfoldable pub numberOfItem : Item → ℕ
 numberOfItem theKind = 0
@@ -106,6 +124,7 @@ numberOfItem theN = 0
 numberOfItem limit = 0
 numberOfItem tolerance = 0
 numberOfItem (angle i) = i
+numberOfItem (angleRounds i) = i
 numberOfItem (fixedAngle i) = i
 numberOfItem (logSine i) = i
 numberOfItem (difference i) = i

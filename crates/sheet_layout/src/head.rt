@@ -33,6 +33,8 @@ fn kind_of(number: u32) -> NamedKind
         1 => NamedKind::Is(Kind::One),
         2 => NamedKind::Is(Kind::Two),
         3 => NamedKind::Is(Kind::Three),
+        4 => NamedKind::Is(Kind::Four),
+        5 => NamedKind::Is(Kind::Five),
         _ => NamedKind::NoKind,
     }
 }

@@ -1,7 +1,8 @@
 // The layout of packed sheets: document 01, "Packed sheets". Which fields a sheet has is the definition `layout` of specs/Layout.antt; what
 // the numbers of its head name stands in specs/Head.antt.
 ghost use mathlib.Core.Path.{_≡_};
-ghost use Rattle.sheet_layout.specs.Layout.{lengthsOf, bitCount, sheetSize};
+ghost use Rattle.sheet_layout.specs.Kinds.{carriesRounds};
+ghost use Rattle.sheet_layout.specs.Layout.{roundsBits, lengthsOf, bitCount, sheetSize};
 
 mod head;
 mod kinds;
@@ -12,6 +13,7 @@ pub use head::Look;
 pub use head::NamedKind;
 pub use head::look_at;
 pub use head::named_head;
+pub use kinds::carries_rounds;
 pub use kinds::default_of;
 pub use kinds::number_of_kind;
 pub use kinds::pass_of;
@@ -27,18 +29,22 @@ pub enum Kind {
     One,
     Two,
     Three,
+    Four,
+    Five,
 }
 
-// What a kind is; `default` is what L or e of 0 stands for in it.
+// What a kind is; `default` is what L or e of 0 stands for in it, `rounds` whether each observed angle has its rounds after it.
 pub struct KindRow {
     pub number: u32,
     pub pass: Pass,
     pub default: u32,
+    pub rounds: bool,
 }
 
 // How many values of each sort.
 pub struct Lengths {
     pub angles: usize,
+    pub rounds: usize,
     pub fixed: usize,
     pub log_sines: usize,
     pub differences: usize,
@@ -58,6 +64,8 @@ pub const TOLERANCE_WIDTH: u32 = 6;
 
 pub const ANGLE_WIDTH: u32 = 23;
 
+pub const ROUNDS_WIDTH: u32 = 8;
+
 pub const LOG_SINE_WIDTH: u32 = 27;
 
 pub const DIFFERENCE_WIDTH: u32 = 15;
@@ -76,7 +84,8 @@ pub const FIRST_PASS_BODY_AT: usize = LIMIT_OR_TOLERANCE_AT + LIMIT_WIDTH as usi
 
 pub const SECOND_PASS_BODY_AT: usize = LIMIT_OR_TOLERANCE_AT + TOLERANCE_WIDTH as usize;
 
-// A known log side's bits in the body, and an angle's: the angle, and for the second pass its log-sine and difference too.
+// A known log side's bits in the body, and an angle's without its rounds: the angle, and for the second pass its log-sine and difference
+// too.
 pub const LOG_SIDE_STEP: usize = LOG_SIDE_WIDTH as usize;
 
 pub const FIRST_PASS_STEP: usize = ANGLE_WIDTH as usize;
@@ -85,7 +94,8 @@ pub const SECOND_PASS_STEP: usize = FIRST_PASS_STEP
     + LOG_SINE_WIDTH as usize
     + DIFFERENCE_WIDTH as usize;
 
-// How many values of each sort a sheet holds, and so how long each slice of values is.
+// How many values of each sort a sheet has, and so how long each slice of values is. Every angle has its rounds: one where the kind does
+// not carry them.
 pub fn lengths_of(kind: Kind, figure: Figure) -> Lengths
     ensures { λ lengths. ⌜ lengths ≡ lengthsOf kind figure ⌝ }
 {
@@ -93,6 +103,7 @@ pub fn lengths_of(kind: Kind, figure: Figure) -> Lengths
     match pass_of(kind) {
         Pass::First => Lengths {
             angles: counts.angles,
+            rounds: counts.angles,
             fixed: counts.fixed,
             log_sines: 0,
             differences: 0,
@@ -100,6 +111,7 @@ pub fn lengths_of(kind: Kind, figure: Figure) -> Lengths
         },
         Pass::Second => Lengths {
             angles: counts.angles,
+            rounds: counts.angles,
             fixed: 0,
             log_sines: counts.angles,
             differences: counts.angles,
@@ -108,15 +120,32 @@ pub fn lengths_of(kind: Kind, figure: Figure) -> Lengths
     }
 }
 
+// The bits of an observed angle's rounds, right after the angle: none where the kind does not carry them.
+pub fn rounds_step(kind: Kind) -> usize
+    ensures { λ step. ⌜ step ≡ roundsBits (carriesRounds kind) ⌝ }
+{
+    if carries_rounds(kind) {
+        ROUNDS_WIDTH as usize
+    } else {
+        0
+    }
+}
+
 // How many bits the fields take, without the filling.
 pub fn bit_count(kind: Kind, figure: Figure) -> usize
     ensures { λ count. ⌜ count ≡ bitCount kind figure ⌝ }
 {
     let counts = counts_of(figure);
+    let rounds = rounds_step(kind) * counts.angles;
     match pass_of(kind) {
-        Pass::First => FIRST_PASS_BODY_AT + FIRST_PASS_STEP * (counts.angles + counts.fixed),
+        Pass::First => {
+            FIRST_PASS_BODY_AT + FIRST_PASS_STEP * (counts.angles + counts.fixed) + rounds
+        }
         Pass::Second => {
-            SECOND_PASS_BODY_AT + LOG_SIDE_STEP * counts.sides + SECOND_PASS_STEP * counts.angles
+            SECOND_PASS_BODY_AT
+                + LOG_SIDE_STEP * counts.sides
+                + SECOND_PASS_STEP * counts.angles
+                + rounds
         }
     }
 }

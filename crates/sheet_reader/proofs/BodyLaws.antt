@@ -31,10 +31,11 @@ use Rattle.sheet_reader.specs.Parts.{shapeRows, answered, bodyAnswer, Bo
 use Rattle.sheet_reader.proofs.ColumnLaws.{few-of-each}
 
 -- what was taken off a sheet
-pub record TakenOff (kind : Kind) (f : Figure) (s : List ℕ) (limitOrTolerance : ℕ) (angles fixed logSines : List ℕ) (differences : List ℤ) (logSides : List ℕ)
+pub record TakenOff (kind : Kind) (f : Figure) (s : List ℕ) (limitOrTolerance : ℕ) (angles rounds fixed logSines : List ℕ) (differences : List ℤ) (logSides : List ℕ)
     : Type 0 where
   pub limit : limitOrTolerance ≡ valuesRead kind f s .limitOrTolerance
   pub each-angle : take (angleCount f) angles ≡ valuesRead kind f s .angles
+  pub each-rounds : take (angleCount f) rounds ≡ valuesRead kind f s .rounds
   pub each-fixed : take (fixedIn kind f) fixed ≡ valuesRead kind f s .fixed
   pub each-log-sine : take (sineEntriesIn kind f) logSines ≡ valuesRead kind f s .logSines
   pub each-difference : take (sineEntriesIn kind f) differences ≡ valuesRead kind f s .differences
@@ -60,24 +61,24 @@ module _ (kind : Kind) (f : Figure) (s : List ℕ) (entry : Slices) where
     as-many i = ap (λ (l : List ℕ). getD l i 0) right-lengths
 
     pub short-enough : ShortEnough entry
-    short-enough = omega (arith, few-of-each kind f {lengths = lengthsOf kind f} refl, as-many 0, as-many 1, as-many 2, as-many 3, as-many 4)
+    short-enough = omega (arith, few-of-each kind f {lengths = lengthsOf kind f} refl, as-many 0, as-many 1, as-many 2, as-many 3, as-many 4, as-many 5)
 
-    module _ {l : ℕ} {angles fixed logSines : List ℕ} {differences : List ℤ} {logSides : List ℕ}
-        (off : TakenOff kind f s l angles fixed logSines differences logSides)
-        {verdict : Verdict} (is : verdict ≡ judged (valueRows kind (valuesTaken kind f l angles fixed logSines differences logSides))) where
+    module _ {l : ℕ} {angles rounds fixed logSines : List ℕ} {differences : List ℤ} {logSides : List ℕ}
+        (off : TakenOff kind f s l angles rounds fixed logSines differences logSides)
+        {verdict : Verdict} (is : verdict ≡ judged (valueRows kind (valuesTaken kind f l angles rounds fixed logSines differences logSides))) where
       -- the values decide
       decided : judged (bodyRows kind f s (lengthsLent entry)) ≡ verdict
       unfolding bodyRows
       decided =
           judged-after-pass (shapeRows kind f s (lengthsLent entry)) (valueRows kind (valuesRead kind f s)) (sym is-shape ∙ passes)
-          ∙ sym (is ∙ rw (off .limit, off .each-angle, off .each-fixed, off .each-log-sine, off .each-difference, off .each-log-side))
+          ∙ sym (is ∙ rw (off .limit, off .each-angle, off .each-rounds, off .each-fixed, off .each-log-sine, off .each-difference, off .each-log-side))
 
       pub values-refused : {reading : Reading} (r : Refusal) → reading ≡ answered verdict kind f l → verdict ≡ Failed r → BodyPromise kind f s entry reading entry
       values-refused r is-reading e =
           rw (is-reading, e) (refused r (decided ∙ e))
 
       pub values-read : {reading : Reading} {exit : Slices} → reading ≡ answered verdict kind f l → verdict ≡ Passed
-          → exit ≡ firstOf entry (slices angles fixed logSines differences logSides)
+          → exit ≡ firstOf entry (slices angles rounds fixed logSines differences logSides)
           → BodyPromise kind f s entry reading exit
       values-read is-reading e stored =
           let answer : bodyAnswer kind f s entry ≡ Read kind f (valuesRead kind f s .limitOrTolerance) =
@@ -86,7 +87,7 @@ module _ (kind : Kind) (f : Figure) (s : List ℕ) (entry : Slices) where
             answered = is-reading ∙ ap (λ (v : Verdict). answered v kind f l) e ∙ ap (Read kind f) (off .limit) ∙ sym answer;
             leaves =
                 stored
-                ∙ (rw (as-many 0, as-many 1, as-many 2, as-many 3, as-many 4, off .each-angle, off .each-fixed, off .each-log-sine, off .each-difference, off .each-log-side))
+                ∙ (rw (as-many 0, as-many 1, as-many 2, as-many 3, as-many 4, as-many 5, off .each-angle, off .each-rounds, off .each-fixed, off .each-log-sine, off .each-difference, off .each-log-side))
                 ∙ sym (ap (λ (reading : Reading). afterReading reading (λ k g. slicesOf (valuesRead k g s)) entry) answer);
           }
 

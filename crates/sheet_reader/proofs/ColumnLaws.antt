@@ -1,13 +1,13 @@
 -- The columns of the reader are those of the layout, by tests that antt computes over all kinds and figures, and hold the values of the sheet.
 -- Assumes nothing.
 use Prim.Native.Nat.{ℕ, suc, _+_, _*_, _≤_, _<_}
-use mathlib.Core.Bool.{Bool, _&&_}
+use mathlib.Core.Bool.{Bool, true, false, cond, _&&_}
 use mathlib.Core.List.{List}
-use mathlib.Core.Path.{_≡_, refl, sym, ap, ap₂, _∙_}
+use mathlib.Core.Path.{_≡_, refl, sym, ap, ap₂, subst, _∙_}
 use native.Mathlib.Omega.{arith}
 use lib.Dec.{T, eqb, eqb→eq}
 use lib.IntN.{ℤ}
-use lib.ListN.{take}
+use lib.ListN.{take, getD, replicate, length-replicate, getD-replicate}
 use Rattle.whole.specs.Lists.{listed, every, everyBelow}
 use Rattle.whole.proofs.Computed.{and-left, and-right, every-below}
 use Rattle.whole.proofs.Lists.{listed-ext}
@@ -18,14 +18,15 @@ use Rattle.figures.specs.Figure.{allFigures, angleCount, fixedCount, sideCount}
 use Rattle.figures.proofs.Figures.{angle-bound}
 use Rattle.sheet_layout.specs.declared.Kind.{Kind}
 use Rattle.sheet_layout.specs.declared.Pass.{Pass}
-use Rattle.sheet_layout.specs.Kinds.{allKinds, passOf, ofPass}
+use Rattle.sheet_layout.specs.Kinds.{allKinds, passOf, carriesRounds, ofPass}
 use Rattle.sheet_layout.specs.declared.Lengths.{Lengths}
-use Rattle.sheet_layout.specs.Layout.{Item, angle, fixedAngle, logSine, difference, logSide, widthOf, layout, lengthsOf, limitOrToleranceItem, fixedIn, sineEntriesIn, sidesIn, sort, numberOfItem, same, positionOf, held}
+use Rattle.sheet_layout.specs.Layout.{Item, angle, angleRounds, fixedAngle, logSine, difference, logSide, widthOf, layout, lengthsOf, limitOrToleranceItem, roundsIn, fixedIn, sineEntriesIn, sidesIn, sort, numberOfItem, same, positionOf, held}
 use Rattle.sheet_layout.proofs.EachKind.{each}
 use Rattle.sheet_layout.proofs.Sizes.{fixed-bound, side-bound}
-use Rattle.sheet_rules.specs.Sheet.{valuesRead}
+use Rattle.sheet_rules.specs.Sheet.{valuesRead, mostBits}
 use Rattle.sheet_reader.specs.declared.columns.Column.{Column}
-use Rattle.sheet_reader.specs.Columns.{angleColumn, fixedColumn, logSineColumn, differenceColumn, logSideColumn, ColumnFits, columnValues, signedColumnValues}
+use Rattle.sheet_reader.specs.Columns.{angleColumn, roundsColumn, fixedColumn, logSineColumn, differenceColumn, logSideColumn, ColumnFits, columnValues, signedColumnValues}
+use Rattle.sheet_reader.proofs.Taking.{first-values}
 
 -- ---- items in columns
 
@@ -56,21 +57,25 @@ module _ (item : ℕ → Item) (count : Kind → Figure → ℕ) (column : Kind 
         width = eqb→eq (widthOf p) (column kind f .width) (and-right first second all);
       }
 
-pub angle-in-column : (kind : Kind) (f : Figure) (i : ℕ) → i < angleCount f → InColumn kind f (angle (suc i)) (angleColumn (passOf kind) f) i
+pub angle-in-column : (kind : Kind) (f : Figure) (i : ℕ) → i < angleCount f → InColumn kind f (angle (suc i)) (angleColumn (passOf kind) (carriesRounds kind) f) i
 unfolding layout positionOf same sort numberOfItem isColumn isInColumn
-angle-in-column = in-column angle (λ kind f. angleCount f) (λ kind f. angleColumn (passOf kind) f) tt
+angle-in-column = in-column angle (λ kind f. angleCount f) (λ kind f. angleColumn (passOf kind) (carriesRounds kind) f) tt
 
-pub fixed-in-column : (kind : Kind) (f : Figure) (i : ℕ) → i < fixedIn kind f → InColumn kind f (fixedAngle (suc i)) (fixedColumn f) i
+pub rounds-in-column : (kind : Kind) (f : Figure) (i : ℕ) → i < roundsIn kind f → InColumn kind f (angleRounds (suc i)) (roundsColumn (passOf kind) (carriesRounds kind) f) i
 unfolding layout positionOf same sort numberOfItem isColumn isInColumn
-fixed-in-column = in-column fixedAngle fixedIn (λ kind f. fixedColumn f) tt
+rounds-in-column = in-column angleRounds roundsIn (λ kind f. roundsColumn (passOf kind) (carriesRounds kind) f) tt
 
-pub log-sine-in-column : (kind : Kind) (f : Figure) (i : ℕ) → i < sineEntriesIn kind f → InColumn kind f (logSine (suc i)) (logSineColumn f) i
+pub fixed-in-column : (kind : Kind) (f : Figure) (i : ℕ) → i < fixedIn kind f → InColumn kind f (fixedAngle (suc i)) (fixedColumn (carriesRounds kind) f) i
 unfolding layout positionOf same sort numberOfItem isColumn isInColumn
-log-sine-in-column = in-column logSine sineEntriesIn (λ kind f. logSineColumn f) tt
+fixed-in-column = in-column fixedAngle fixedIn (λ kind f. fixedColumn (carriesRounds kind) f) tt
 
-pub difference-in-column : (kind : Kind) (f : Figure) (i : ℕ) → i < sineEntriesIn kind f → InColumn kind f (difference (suc i)) (differenceColumn f) i
+pub log-sine-in-column : (kind : Kind) (f : Figure) (i : ℕ) → i < sineEntriesIn kind f → InColumn kind f (logSine (suc i)) (logSineColumn (carriesRounds kind) f) i
 unfolding layout positionOf same sort numberOfItem isColumn isInColumn
-difference-in-column = in-column difference sineEntriesIn (λ kind f. differenceColumn f) tt
+log-sine-in-column = in-column logSine sineEntriesIn (λ kind f. logSineColumn (carriesRounds kind) f) tt
+
+pub difference-in-column : (kind : Kind) (f : Figure) (i : ℕ) → i < sineEntriesIn kind f → InColumn kind f (difference (suc i)) (differenceColumn (carriesRounds kind) f) i
+unfolding layout positionOf same sort numberOfItem isColumn isInColumn
+difference-in-column = in-column difference sineEntriesIn (λ kind f. differenceColumn (carriesRounds kind) f) tt
 
 pub log-side-in-column : (kind : Kind) (f : Figure) (i : ℕ) → i < sidesIn kind f → InColumn kind f (logSide (suc i)) logSideColumn i
 unfolding layout positionOf same sort numberOfItem isColumn isInColumn
@@ -91,24 +96,39 @@ column-read kind f s item c count stands =
     (λ i h. held-in-column kind f s (item (suc i)) c i (stands i h))
 
 module _ (kind : Kind) (f : Figure) (s : List ℕ) where
-  pub angles-read : valuesRead kind f s .angles ≡ columnValues s (angleColumn (passOf kind) f) (angleCount f)
+  pub angles-read : valuesRead kind f s .angles ≡ columnValues s (angleColumn (passOf kind) (carriesRounds kind) f) (angleCount f)
   unfolding valuesRead
-  angles-read = column-read kind f s angle (angleColumn (passOf kind) f) (angleCount f) (angle-in-column kind f)
+  angles-read = column-read kind f s angle (angleColumn (passOf kind) (carriesRounds kind) f) (angleCount f) (angle-in-column kind f)
 
-  pub fixed-read : valuesRead kind f s .fixed ≡ columnValues s (fixedColumn f) (fixedIn kind f)
+  -- the rounds where the kind carries them, and one for each angle where it does not
+  pub rounds-read : carriesRounds kind ≡ true → valuesRead kind f s .rounds ≡ columnValues s (roundsColumn (passOf kind) (carriesRounds kind) f) (angleCount f)
   unfolding valuesRead
-  fixed-read = column-read kind f s fixedAngle (fixedColumn f) (fixedIn kind f) (fixed-in-column kind f)
+  rounds-read e =
+      ap (λ (rounds : Bool). listed (angleCount f) (λ i. cond rounds (held (layout kind f) s (angleRounds (suc i))) 1)) e
+      ∙ column-read kind f s angleRounds (roundsColumn (passOf kind) (carriesRounds kind) f) (angleCount f)
+      (λ i h. rounds-in-column kind f i (subst (λ (rounds : Bool). i < cond rounds (angleCount f) 0) (sym e) h))
 
-  pub log-sines-read : valuesRead kind f s .logSines ≡ columnValues s (logSineColumn f) (sineEntriesIn kind f)
+  pub ones-read : carriesRounds kind ≡ false → take (angleCount f) (replicate 24 1) ≡ valuesRead kind f s .rounds
   unfolding valuesRead
-  log-sines-read = column-read kind f s logSine (logSineColumn f) (sineEntriesIn kind f) (log-sine-in-column kind f)
+  ones-read e =
+      sym (first-values (angleCount f) (replicate 24 1) 1 (omega (arith, length-replicate {A = ℕ} 24 1, angle-bound f)))
+      ∙ listed-ext (angleCount f) (λ i. getD (replicate 24 1) i 1) (λ i. 1) (λ i h. getD-replicate 24 i 1 1 (omega (arith, angle-bound f)))
+      ∙ sym (ap (λ (rounds : Bool). listed (angleCount f) (λ i. cond rounds (held (layout kind f) s (angleRounds (suc i))) 1)) e)
 
-  pub differences-read : valuesRead kind f s .differences ≡ signedColumnValues s (differenceColumn f) (sineEntriesIn kind f)
+  pub fixed-read : valuesRead kind f s .fixed ≡ columnValues s (fixedColumn (carriesRounds kind) f) (fixedIn kind f)
+  unfolding valuesRead
+  fixed-read = column-read kind f s fixedAngle (fixedColumn (carriesRounds kind) f) (fixedIn kind f) (fixed-in-column kind f)
+
+  pub log-sines-read : valuesRead kind f s .logSines ≡ columnValues s (logSineColumn (carriesRounds kind) f) (sineEntriesIn kind f)
+  unfolding valuesRead
+  log-sines-read = column-read kind f s logSine (logSineColumn (carriesRounds kind) f) (sineEntriesIn kind f) (log-sine-in-column kind f)
+
+  pub differences-read : valuesRead kind f s .differences ≡ signedColumnValues s (differenceColumn (carriesRounds kind) f) (sineEntriesIn kind f)
   unfolding valuesRead signedColumnValues
   differences-read =
       listed-ext (sineEntriesIn kind f) (λ i. signedOf 15 (held (layout kind f) s (difference (suc i))))
-      (λ i. signedOf 15 (fieldAt s (differenceColumn f .start + differenceColumn f .step * i) (differenceColumn f .width)))
-      (λ i h. ap (signedOf 15) (held-in-column kind f s (difference (suc i)) (differenceColumn f) i (difference-in-column kind f i h)))
+      (λ i. signedOf 15 (fieldAt s (differenceColumn (carriesRounds kind) f .start + differenceColumn (carriesRounds kind) f .step * i) (differenceColumn (carriesRounds kind) f .width)))
+      (λ i h. ap (signedOf 15) (held-in-column kind f s (difference (suc i)) (differenceColumn (carriesRounds kind) f) i (difference-in-column kind f i h)))
 
   pub log-sides-read : valuesRead kind f s .logSides ≡ columnValues s logSideColumn (sidesIn kind f)
   unfolding valuesRead
@@ -124,46 +144,74 @@ limit-or-tolerance-read kind f s =
 
 -- ---- columns of a kind and a figure
 
+-- they begin early
+pub angles-early : (kind : Kind) (f : Figure) {c : Column} → c ≡ angleColumn (passOf kind) (carriesRounds kind) f → c .start ≤ mostBits
+angles-early kind f e = rw e (go (passOf kind))
+  where
+    go : (pass : Pass) → angleColumn pass (carriesRounds kind) f .start ≤ mostBits
+    go Pass.First = omega arith
+    go Pass.Second = omega (arith, side-bound f)
+
 -- there are at most 24 values of each sort
 pub few-of-each : (kind : Kind) (f : Figure) {lengths : Lengths} → lengths ≡ lengthsOf kind f
-    → (lengths .angles ≤ 24) × (lengths .fixed ≤ 24) × (lengths .«log_sines» ≤ 24) × (lengths .differences ≤ 24) × (lengths .«log_sides» ≤ 24)
+    → (lengths .angles ≤ 24) × (lengths .rounds ≤ 24) × (lengths .fixed ≤ 24) × (lengths .«log_sines» ≤ 24) × (lengths .differences ≤ 24) × (lengths .«log_sides» ≤ 24)
 few-of-each kind f e = rw e (go (passOf kind))
   where
     go : (pass : Pass)
-        → (angleCount f ≤ 24) × (ofPass pass (fixedCount f) 0 ≤ 24) × (ofPass pass 0 (angleCount f) ≤ 24) × (ofPass pass 0 (angleCount f) ≤ 24)
+        → (angleCount f ≤ 24) × (angleCount f ≤ 24) × (ofPass pass (fixedCount f) 0 ≤ 24) × (ofPass pass 0 (angleCount f) ≤ 24) × (ofPass pass 0 (angleCount f) ≤ 24)
         × (ofPass pass 0 (sideCount f) ≤ 24)
     go Pass.First = omega (arith, angle-bound f, fixed-bound f)
     go Pass.Second = omega (arith, angle-bound f, side-bound f)
 
 module _ (kind : Kind) (f : Figure) {lengths : Lengths} (is-lengths : lengths ≡ lengthsOf kind f) {c : Column} where
   -- they are short and end early
-  pub angles-fit : c ≡ angleColumn (passOf kind) f → ColumnFits c (lengths .angles)
-  angles-fit e = rw (is-lengths, e) (go (passOf kind))
+  pub angles-fit : c ≡ angleColumn (passOf kind) (carriesRounds kind) f → ColumnFits c (lengths .angles)
+  angles-fit e = rw (is-lengths, e) (go (passOf kind) (carriesRounds kind))
     where
-      go : (pass : Pass) → ColumnFits (angleColumn pass f) (angleCount f)
-      go Pass.First = (angle-bound f, omega (arith, angle-bound f))
-      go Pass.Second = (angle-bound f, omega (arith, angle-bound f, side-bound f))
+      go : (pass : Pass) (rounds : Bool) → ColumnFits (angleColumn pass rounds f) (angleCount f)
+      go Pass.First true = (angle-bound f, omega (arith, angle-bound f))
+      go Pass.First false = (angle-bound f, omega (arith, angle-bound f))
+      go Pass.Second true = (angle-bound f, omega (arith, angle-bound f, side-bound f))
+      go Pass.Second false = (angle-bound f, omega (arith, angle-bound f, side-bound f))
 
-  pub fixed-fit : c ≡ fixedColumn f → ColumnFits c (lengths .fixed)
-  fixed-fit e = rw (is-lengths, e) (go (passOf kind))
+  pub rounds-fit : c ≡ roundsColumn (passOf kind) (carriesRounds kind) f → ColumnFits c (lengths .rounds)
+  rounds-fit e = rw (is-lengths, e) (go (passOf kind) (carriesRounds kind))
     where
-      go : (pass : Pass) → ColumnFits (fixedColumn f) (ofPass pass (fixedCount f) 0)
-      go Pass.First = (omega (arith, fixed-bound f), omega (arith, angle-bound f, fixed-bound f))
-      go Pass.Second = (omega arith, omega (arith, angle-bound f))
+      go : (pass : Pass) (rounds : Bool) → ColumnFits (roundsColumn pass rounds f) (angleCount f)
+      go Pass.First true = (angle-bound f, omega (arith, angle-bound f))
+      go Pass.First false = (angle-bound f, omega (arith, angle-bound f))
+      go Pass.Second true = (angle-bound f, omega (arith, angle-bound f, side-bound f))
+      go Pass.Second false = (angle-bound f, omega (arith, angle-bound f, side-bound f))
 
-  pub log-sines-fit : c ≡ logSineColumn f → ColumnFits c (lengths .«log_sines»)
-  log-sines-fit e = rw (is-lengths, e) (go (passOf kind))
-    where
-      go : (pass : Pass) → ColumnFits (logSineColumn f) (ofPass pass 0 (angleCount f))
-      go Pass.First = (omega arith, omega (arith, side-bound f))
-      go Pass.Second = (angle-bound f, omega (arith, angle-bound f, side-bound f))
+  pub rounds-wide : c ≡ roundsColumn (passOf kind) (carriesRounds kind) f → c .width ≡ 8
+  rounds-wide e = ap (λ (column : Column). column .width) e
 
-  pub differences-fit : c ≡ differenceColumn f → ColumnFits c (lengths .differences)
-  differences-fit e = rw (is-lengths, e) (go (passOf kind))
+  pub fixed-fit : c ≡ fixedColumn (carriesRounds kind) f → ColumnFits c (lengths .fixed)
+  fixed-fit e = rw (is-lengths, e) (go (passOf kind) (carriesRounds kind))
     where
-      go : (pass : Pass) → ColumnFits (differenceColumn f) (ofPass pass 0 (angleCount f))
-      go Pass.First = (omega arith, omega (arith, side-bound f))
-      go Pass.Second = (angle-bound f, omega (arith, angle-bound f, side-bound f))
+      go : (pass : Pass) (rounds : Bool) → ColumnFits (fixedColumn rounds f) (ofPass pass (fixedCount f) 0)
+      go Pass.First true = (omega (arith, fixed-bound f), omega (arith, angle-bound f, fixed-bound f))
+      go Pass.First false = (omega (arith, fixed-bound f), omega (arith, angle-bound f, fixed-bound f))
+      go Pass.Second true = (omega arith, omega (arith, angle-bound f))
+      go Pass.Second false = (omega arith, omega (arith, angle-bound f))
+
+  pub log-sines-fit : c ≡ logSineColumn (carriesRounds kind) f → ColumnFits c (lengths .«log_sines»)
+  log-sines-fit e = rw (is-lengths, e) (go (passOf kind) (carriesRounds kind))
+    where
+      go : (pass : Pass) (rounds : Bool) → ColumnFits (logSineColumn rounds f) (ofPass pass 0 (angleCount f))
+      go Pass.First true = (omega arith, omega (arith, side-bound f))
+      go Pass.First false = (omega arith, omega (arith, side-bound f))
+      go Pass.Second true = (angle-bound f, omega (arith, angle-bound f, side-bound f))
+      go Pass.Second false = (angle-bound f, omega (arith, angle-bound f, side-bound f))
+
+  pub differences-fit : c ≡ differenceColumn (carriesRounds kind) f → ColumnFits c (lengths .differences)
+  differences-fit e = rw (is-lengths, e) (go (passOf kind) (carriesRounds kind))
+    where
+      go : (pass : Pass) (rounds : Bool) → ColumnFits (differenceColumn rounds f) (ofPass pass 0 (angleCount f))
+      go Pass.First true = (omega arith, omega (arith, side-bound f))
+      go Pass.First false = (omega arith, omega (arith, side-bound f))
+      go Pass.Second true = (angle-bound f, omega (arith, angle-bound f, side-bound f))
+      go Pass.Second false = (angle-bound f, omega (arith, angle-bound f, side-bound f))
 
   pub log-sides-fit : c ≡ logSideColumn → ColumnFits c (lengths .«log_sides»)
   log-sides-fit e = rw (is-lengths, e) (go (passOf kind))
@@ -174,15 +222,19 @@ module _ (kind : Kind) (f : Figure) {lengths : Lengths} (is-lengths : lengths �
 
   -- and hold the values of the sheet
   module _ (s values : List ℕ) where
-    pub angles-held : c ≡ angleColumn (passOf kind) f → take (lengths .angles) values ≡ columnValues s c (lengths .angles)
+    pub angles-held : c ≡ angleColumn (passOf kind) (carriesRounds kind) f → take (lengths .angles) values ≡ columnValues s c (lengths .angles)
         → take (angleCount f) values ≡ valuesRead kind f s .angles
     angles-held e is = (rw (is-lengths, e) at is) ∙ sym (angles-read kind f s)
 
-    pub fixed-held : c ≡ fixedColumn f → take (lengths .fixed) values ≡ columnValues s c (lengths .fixed)
+    pub rounds-held : carriesRounds kind ≡ true → c ≡ roundsColumn (passOf kind) (carriesRounds kind) f
+        → take (lengths .rounds) values ≡ columnValues s c (lengths .rounds) → take (angleCount f) values ≡ valuesRead kind f s .rounds
+    rounds-held carried e is = (rw (is-lengths, e) at is) ∙ sym (rounds-read kind f s carried)
+
+    pub fixed-held : c ≡ fixedColumn (carriesRounds kind) f → take (lengths .fixed) values ≡ columnValues s c (lengths .fixed)
         → take (fixedIn kind f) values ≡ valuesRead kind f s .fixed
     fixed-held e is = (rw (is-lengths, e) at is) ∙ sym (fixed-read kind f s)
 
-    pub log-sines-held : c ≡ logSineColumn f → take (lengths .«log_sines») values ≡ columnValues s c (lengths .«log_sines»)
+    pub log-sines-held : c ≡ logSineColumn (carriesRounds kind) f → take (lengths .«log_sines») values ≡ columnValues s c (lengths .«log_sines»)
         → take (sineEntriesIn kind f) values ≡ valuesRead kind f s .logSines
     log-sines-held e is = (rw (is-lengths, e) at is) ∙ sym (log-sines-read kind f s)
 
@@ -190,7 +242,7 @@ module _ (kind : Kind) (f : Figure) {lengths : Lengths} (is-lengths : lengths �
         → take (sidesIn kind f) values ≡ valuesRead kind f s .logSides
     log-sides-held e is = (rw (is-lengths, e) at is) ∙ sym (log-sides-read kind f s)
 
-  pub differences-held : (s : List ℕ) (values : List ℤ) → c ≡ differenceColumn f
+  pub differences-held : (s : List ℕ) (values : List ℤ) → c ≡ differenceColumn (carriesRounds kind) f
       → take (lengths .differences) values ≡ signedColumnValues s c (lengths .differences)
       → take (sineEntriesIn kind f) values ≡ valuesRead kind f s .differences
   differences-held s values e is = (rw (is-lengths, e) at is) ∙ sym (differences-read kind f s)

@@ -1,6 +1,7 @@
 -- Where the reader looks for the values of one sort: at start, start + step, start + 2·step and so on, each in the same width. That these are where
 -- the layout has them is a law (proofs/ColumnLaws.antt).
 use Prim.Native.Nat.{ℕ, _+_, _*_, _≤_}
+use mathlib.Core.Bool.{Bool}
 use mathlib.Core.List.{List}
 use lib.IntN.{ℤ}
 use lib.ListN.{length, take}
@@ -12,7 +13,7 @@ use Rattle.bits.specs.Bits.{fieldAt}
 use Rattle.bits.specs.Complement.{signedOf}
 use Rattle.sheet_layout.specs.declared.Kind.{Kind}
 use Rattle.sheet_layout.specs.declared.Pass.{Pass}
-use Rattle.sheet_layout.specs.Layout.{fixedIn, sineEntriesIn, sidesIn}
+use Rattle.sheet_layout.specs.Layout.{roundsBits, fixedIn, sineEntriesIn, sidesIn}
 use Rattle.sheet_rules.specs.Sheet.{Values, valuesFrom, mostBits}
 use Rattle.sheet_rules.specs.Promises.{Slices, slices}
 use Rattle.sheet_reader.specs.declared.columns.Column.{Column}
@@ -24,18 +25,22 @@ columnFrom a b w = record { start = a; step = b; width = w }
 abbrev pub rowsStart : Figure → ℕ
 rowsStart f = 18 + 27 * sideCount f
 
-abbrev pub angleColumn : Pass → Figure → Column
-angleColumn Pass.First f = columnFrom 22 23 23
-angleColumn Pass.Second f = columnFrom (rowsStart f) 65 23
+-- by the pass, and whether each angle has its rounds after it
+abbrev pub angleColumn : Pass → (rounds : Bool) → Figure → Column
+angleColumn Pass.First rounds f = columnFrom 22 (23 + roundsBits rounds) 23
+angleColumn Pass.Second rounds f = columnFrom (rowsStart f) (65 + roundsBits rounds) 23
 
-abbrev pub fixedColumn : Figure → Column
-fixedColumn f = columnFrom (22 + 23 * angleCount f) 23 23
+abbrev pub roundsColumn : Pass → (rounds : Bool) → Figure → Column
+roundsColumn pass rounds f = columnFrom (angleColumn pass rounds f .start + 23) (angleColumn pass rounds f .step) 8
 
-abbrev pub logSineColumn : Figure → Column
-logSineColumn f = columnFrom (rowsStart f + 23) 65 27
+abbrev pub fixedColumn : (rounds : Bool) → Figure → Column
+fixedColumn rounds f = columnFrom (22 + 23 * angleCount f + roundsBits rounds * angleCount f) 23 23
 
-abbrev pub differenceColumn : Figure → Column
-differenceColumn f = columnFrom (rowsStart f + 50) 65 15
+abbrev pub logSineColumn : (rounds : Bool) → Figure → Column
+logSineColumn rounds f = columnFrom (rowsStart f + 23 + roundsBits rounds) (65 + roundsBits rounds) 27
+
+abbrev pub differenceColumn : (rounds : Bool) → Figure → Column
+differenceColumn rounds f = columnFrom (rowsStart f + 50 + roundsBits rounds) (65 + roundsBits rounds) 15
 
 abbrev pub logSideColumn : Column
 logSideColumn = columnFrom 18 27 27
@@ -55,19 +60,19 @@ signedColumnValues sheet c count = listed count (λ i. signedOf (c .width) (fiel
 
 -- as many of each sort as the kind and the figure have
 abbrev pub valuesTaken : Kind → Figure
-    → (limitOrTolerance : ℕ) (angles fixed logSines : List ℕ) (differences : List ℤ) (logSides : List ℕ) → Values
-valuesTaken kind f limitOrTolerance angles fixed logSines differences logSides =
-    valuesFrom limitOrTolerance (take (angleCount f) angles) (take (fixedIn kind f) fixed)
+    → (limitOrTolerance : ℕ) (angles rounds fixed logSines : List ℕ) (differences : List ℤ) (logSides : List ℕ) → Values
+valuesTaken kind f limitOrTolerance angles rounds fixed logSines differences logSides =
+    valuesFrom limitOrTolerance (take (angleCount f) angles) (take (angleCount f) rounds) (take (fixedIn kind f) fixed)
     (take (sineEntriesIn kind f) logSines) (take (sineEntriesIn kind f) differences) (take (sidesIn kind f) logSides)
 
 -- no slice is longer than the arrays
 abbrev pub ShortEnough : Slices → Type 0
 ShortEnough lent =
-    (length (lent .angles) ≤ mostAngles) × (length (lent .fixed) ≤ mostAngles)
+    (length (lent .angles) ≤ mostAngles) × (length (lent .rounds) ≤ mostAngles) × (length (lent .fixed) ≤ mostAngles)
     × (length (lent .logSines) ≤ mostAngles) × (length (lent .differences) ≤ mostAngles) × (length (lent .logSides) ≤ mostAngles)
 
 -- the first values of each sort, as many as are lent
 abbrev pub firstOf : (lent taken : Slices) → Slices
-firstOf lent taken = slices (take (length (lent .angles)) (taken .angles)) (take (length (lent .fixed)) (taken .fixed))
-    (take (length (lent .logSines)) (taken .logSines)) (take (length (lent .differences)) (taken .differences))
+firstOf lent taken = slices (take (length (lent .angles)) (taken .angles)) (take (length (lent .rounds)) (taken .rounds))
+    (take (length (lent .fixed)) (taken .fixed)) (take (length (lent .logSines)) (taken .logSines)) (take (length (lent .differences)) (taken .differences))
     (take (length (lent .logSides)) (taken .logSides))

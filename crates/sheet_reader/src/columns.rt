@@ -1,8 +1,9 @@
 // Columns of a sheet: the values of one sort, as they stand in it.
 ghost use mathlib.Core.Path.{_≡_};
 ghost use lib.ListN.{take};
-ghost use Rattle.sheet_reader.specs.Columns.{rowsStart, angleColumn, fixedColumn, logSineColumn, differenceColumn, logSideColumn};
-ghost use Rattle.sheet_reader.specs.Columns.{ColumnFits, columnValues, signedColumnValues};
+ghost use Rattle.sheet_layout.specs.Kinds.{passOf, carriesRounds};
+ghost use Rattle.sheet_reader.specs.Columns.{rowsStart, angleColumn, roundsColumn, fixedColumn, logSineColumn, differenceColumn};
+ghost use Rattle.sheet_reader.specs.Columns.{logSideColumn, ColumnFits, columnValues, signedColumnValues};
 use bits::field;
 use bits::signed;
 use figure_tables::counts_of;
@@ -12,12 +13,16 @@ use sheet_layout::ANGLE_WIDTH;
 use sheet_layout::DIFFERENCE_WIDTH;
 use sheet_layout::FIRST_PASS_BODY_AT;
 use sheet_layout::FIRST_PASS_STEP;
+use sheet_layout::Kind;
 use sheet_layout::LOG_SIDE_STEP;
 use sheet_layout::LOG_SIDE_WIDTH;
 use sheet_layout::LOG_SINE_WIDTH;
 use sheet_layout::Pass;
+use sheet_layout::ROUNDS_WIDTH;
 use sheet_layout::SECOND_PASS_BODY_AT;
 use sheet_layout::SECOND_PASS_STEP;
+use sheet_layout::pass_of;
+use sheet_layout::rounds_step;
 
 // They stand at start, start + step, start + 2 * step and so on, each in the same width.
 pub(crate) struct Column {
@@ -26,7 +31,10 @@ pub(crate) struct Column {
     pub(crate) width: u32,
 }
 
-// Where the log-sine and the difference stand in a row for the second pass, after the angle.
+// Where the rounds stand after the start of their angle, and where the log-sine and the difference stand in a row for the second pass:
+// after the angle, and after its rounds where it has them.
+const ROUNDS_IN_ROW: usize = 23;
+
 const LOG_SINE_IN_ROW: usize = 23;
 
 const DIFFERENCE_IN_ROW: usize = 50;
@@ -38,50 +46,66 @@ fn rows_at(figure: Figure) -> usize
     SECOND_PASS_BODY_AT + LOG_SIDE_STEP * counts_of(figure).sides
 }
 
-pub(crate) fn angle_column(pass: Pass, figure: Figure) -> Column
-    ensures { λ column. ⌜ column ≡ angleColumn pass figure ⌝ }
+pub(crate) fn angle_column(kind: Kind, figure: Figure) -> Column
+    ensures { λ column. ⌜ column ≡ angleColumn (passOf kind) (carriesRounds kind) figure ⌝ }
 {
-    match pass {
+    let rounds = rounds_step(kind);
+    match pass_of(kind) {
         Pass::First => Column {
             start: FIRST_PASS_BODY_AT,
-            step: FIRST_PASS_STEP,
+            step: FIRST_PASS_STEP + rounds,
             width: ANGLE_WIDTH,
         },
         Pass::Second => Column {
             start: rows_at(figure),
-            step: SECOND_PASS_STEP,
+            step: SECOND_PASS_STEP + rounds,
             width: ANGLE_WIDTH,
         },
     }
 }
 
-// Fixed angles stand after the angles, for the first pass only.
-pub(crate) fn fixed_column(figure: Figure) -> Column
-    ensures { λ column. ⌜ column ≡ fixedColumn figure ⌝ }
+// Rounds stand right after their angle, where the kind carries them.
+pub(crate) fn rounds_column(kind: Kind, figure: Figure) -> Column
+    ensures { λ column. ⌜ column ≡ roundsColumn (passOf kind) (carriesRounds kind) figure ⌝ }
 {
+    let angles = angle_column(kind, figure);
     Column {
-        start: FIRST_PASS_BODY_AT + FIRST_PASS_STEP * counts_of(figure).angles,
+        start: angles.start + ROUNDS_IN_ROW,
+        step: angles.step,
+        width: ROUNDS_WIDTH,
+    }
+}
+
+// Fixed angles stand after the angles, for the first pass only.
+pub(crate) fn fixed_column(kind: Kind, figure: Figure) -> Column
+    ensures { λ column. ⌜ column ≡ fixedColumn (carriesRounds kind) figure ⌝ }
+{
+    let angles = counts_of(figure).angles;
+    Column {
+        start: FIRST_PASS_BODY_AT + FIRST_PASS_STEP * angles + rounds_step(kind) * angles,
         step: FIRST_PASS_STEP,
         width: ANGLE_WIDTH,
     }
 }
 
-pub(crate) fn log_sine_column(figure: Figure) -> Column
-    ensures { λ column. ⌜ column ≡ logSineColumn figure ⌝ }
+pub(crate) fn log_sine_column(kind: Kind, figure: Figure) -> Column
+    ensures { λ column. ⌜ column ≡ logSineColumn (carriesRounds kind) figure ⌝ }
 {
+    let rounds = rounds_step(kind);
     Column {
-        start: rows_at(figure) + LOG_SINE_IN_ROW,
-        step: SECOND_PASS_STEP,
+        start: rows_at(figure) + LOG_SINE_IN_ROW + rounds,
+        step: SECOND_PASS_STEP + rounds,
         width: LOG_SINE_WIDTH,
     }
 }
 
-pub(crate) fn difference_column(figure: Figure) -> Column
-    ensures { λ column. ⌜ column ≡ differenceColumn figure ⌝ }
+pub(crate) fn difference_column(kind: Kind, figure: Figure) -> Column
+    ensures { λ column. ⌜ column ≡ differenceColumn (carriesRounds kind) figure ⌝ }
 {
+    let rounds = rounds_step(kind);
     Column {
-        start: rows_at(figure) + DIFFERENCE_IN_ROW,
-        step: SECOND_PASS_STEP,
+        start: rows_at(figure) + DIFFERENCE_IN_ROW + rounds,
+        step: SECOND_PASS_STEP + rounds,
         width: DIFFERENCE_WIDTH,
     }
 }
@@ -107,6 +131,23 @@ pub(crate) fn column_values(sheet: &[u8], column: Column, count: usize) -> [u32;
     let mut taken = 0;
     while taken < count {
         values[taken] = field(sheet, at, column.width);
+        at += column.step;
+        taken += 1;
+    }
+    values
+}
+
+// The same of values of a byte.
+pub(crate) fn byte_column_values(sheet: &[u8], column: Column, count: usize) -> [u8; MOST_ANGLES]
+    requires { ⌜ ColumnFits column count ⌝ }
+    requires { ⌜ column .width ≡ 8 ⌝ }
+    ensures { λ values. ⌜ take count values ≡ columnValues (now (sheet .entry)) column count ⌝ }
+{
+    let mut values = [0u8; MOST_ANGLES];
+    let mut at = column.start;
+    let mut taken = 0;
+    while taken < count {
+        values[taken] = field(sheet, at, column.width) as u8;
         at += column.step;
         taken += 1;
     }

@@ -13,6 +13,7 @@ use crate::values::fixed_in;
 use crate::values::limit_or_tolerance_in;
 use crate::values::log_sides_in;
 use crate::values::log_sines_in;
+use crate::values::rounds_in;
 use crate::values::store;
 use crate::values::taken_verdict;
 use bits::field;
@@ -54,6 +55,7 @@ fn shape_verdict(sheet: &[u8], kind: Kind, figure: Figure, lent: &[usize]) -> Ve
         lent,
         &[
             own.angles,
+            own.rounds,
             own.fixed,
             own.log_sines,
             own.differences,
@@ -82,19 +84,21 @@ pub fn read_body(
     kind: Kind,
     figure: Figure,
     angles: &mut [u32],
+    rounds: &mut [u8],
     fixed: &mut [u32],
     log_sines: &mut [u32],
     differences: &mut [i32],
     log_sides: &mut [u32],
 ) -> Reading
     ensures { λ reading. ⌜ BodyPromise kind figure (now (sheet .entry))
-        (slices (now (angles .entry)) (now (fixed .entry)) (now («log_sines» .entry)) (now (differences .entry))
-        (now («log_sides» .entry))) reading
-        (slices (now (angles .exit)) (now (fixed .exit)) (now («log_sines» .exit)) (now (differences .exit))
-        (now («log_sides» .exit))) ⌝ }
+        (slices (now (angles .entry)) (now (rounds .entry)) (now (fixed .entry)) (now («log_sines» .entry))
+        (now (differences .entry)) (now («log_sides» .entry))) reading
+        (slices (now (angles .exit)) (now (rounds .exit)) (now (fixed .exit)) (now («log_sines» .exit))
+        (now (differences .exit)) (now («log_sides» .exit))) ⌝ }
 {
     let lent = [
         angles.len(),
+        rounds.len(),
         fixed.len(),
         log_sines.len(),
         differences.len(),
@@ -104,23 +108,26 @@ pub fn read_body(
     if let Verdict::Failed(refusal) = shape {
         return Reading::Refused(refusal);
     }
-    // Angles, fixed angles, log-sines, differences and log sides, each taken once.
+    // Angles, rounds, fixed angles, log-sines, differences and log sides, each taken once.
     let bound = limit_or_tolerance_in(sheet, kind);
     let a = angles_in(sheet, kind, figure);
+    let r = rounds_in(sheet, kind, figure);
     let f = fixed_in(sheet, kind, figure);
     let l = log_sines_in(sheet, kind, figure);
     let d = differences_in(sheet, kind, figure);
     let s = log_sides_in(sheet, kind, figure);
-    let verdict = taken_verdict(kind, figure, bound, a, f, l, d, s);
+    let verdict = taken_verdict(kind, figure, bound, a, r, f, l, d, s);
     let reading = reading_after(verdict, kind, figure, bound);
     if let Verdict::Passed = verdict {
         store(
             a,
+            r,
             f,
             l,
             d,
             s,
             angles,
+            rounds,
             fixed,
             log_sines,
             differences,
@@ -134,16 +141,17 @@ pub fn read_body(
 pub fn read_sheet(
     sheet: &[u8],
     angles: &mut [u32],
+    rounds: &mut [u8],
     fixed: &mut [u32],
     log_sines: &mut [u32],
     differences: &mut [i32],
     log_sides: &mut [u32],
 ) -> Reading
     ensures { λ reading. ⌜ ReaderPromise (now (sheet .entry))
-        (slices (now (angles .entry)) (now (fixed .entry)) (now («log_sines» .entry)) (now (differences .entry))
-        (now («log_sides» .entry))) reading
-        (slices (now (angles .exit)) (now (fixed .exit)) (now («log_sines» .exit)) (now (differences .exit))
-        (now («log_sides» .exit))) ⌝ }
+        (slices (now (angles .entry)) (now (rounds .entry)) (now (fixed .entry)) (now («log_sines» .entry))
+        (now (differences .entry)) (now («log_sides» .entry))) reading
+        (slices (now (angles .exit)) (now (rounds .exit)) (now (fixed .exit)) (now («log_sines» .exit))
+        (now (differences .exit)) (now («log_sides» .exit))) ⌝ }
 {
     match look_at(sheet) {
         Look::Refused(refusal) => Reading::Refused(refusal),
@@ -152,6 +160,7 @@ pub fn read_sheet(
             kind,
             figure,
             angles,
+            rounds,
             fixed,
             log_sines,
             differences,

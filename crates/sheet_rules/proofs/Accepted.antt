@@ -142,6 +142,7 @@ module _ (kind code n : ℕ) (v : Values) (before : List ℕ) where
 -- there are as many of each sort as the kind and the figure have
 pub record AsMany (kind : Kind) (f : Figure) (v : Values) : Type 0 where
   pub angles : length (v .angles) ≡ angleCount f
+  pub rounds : length (v .rounds) ≡ angleCount f
   pub fixed : length (v .fixed) ≡ fixedIn kind f
   pub logSines : length (v .logSines) ≡ sineEntriesIn kind f
   pub differences : length (v .differences) ≡ sineEntriesIn kind f
@@ -150,10 +151,10 @@ pub record AsMany (kind : Kind) (f : Figure) (v : Values) : Type 0 where
 pub as-many : (kind : Kind) (f : Figure) (v : Values) → lengthsGiven v ≡ ownLengths kind f → AsMany kind f v
 as-many kind f v same =
     let each : (i : ℕ) → getD (lengthsGiven v) i 0 ≡ getD (ownLengths kind f) i 0 = λ i. ap (λ (l : List ℕ). getD l i 0) same in
-    record { angles = each 0; fixed = each 1; logSines = each 2; differences = each 3; logSides = each 4 }
+    record { angles = each 0; rounds = each 1; fixed = each 2; logSines = each 3; differences = each 4; logSides = each 5 }
 
 pub own-lengths : (kind : Kind) (f : Figure) (v : Values) → AsMany kind f v → lengthsGiven v ≡ ownLengths kind f
-own-lengths kind f v many = rw (many .angles, many .fixed, many .logSines, many .differences, many .logSides)
+own-lengths kind f v many = rw (many .angles, many .rounds, many .fixed, many .logSines, many .differences, many .logSides)
 
 pub record Given (kind : Kind) (f : Figure) (v : Values) (size : ℕ) : Type 0 where
   pub lengths : AsMany kind f v
@@ -166,7 +167,7 @@ module _ (kind : Kind) (f : Figure) (v : Values) (size : ℕ) where
       → (lengthsGiven v ≡ ownLengths kind f) × (size ≡ sheetSize kind f)
   right-lengths none =
       let same : lengthsGiven v ++ (size ∷ []) ≡ ownLengths kind f ++ (sheetSize kind f ∷ []) = same-lengths _ _ none in
-      (ap (take 5) same, ap (λ (l : List ℕ). getD l 5 0) same)
+      (ap (take 6) same, ap (λ (l : List ℕ). getD l 6 0) same)
 
   pub given-accepted : judged (givenRows kind f v size) ≡ Passed → Given kind f v size
   unfolding givenRows
@@ -208,6 +209,7 @@ pub as-many-read : (kind : Kind) (f : Figure) (s : List ℕ) → AsMany kind f (
 unfolding valuesRead
 as-many-read kind f s = record {
   angles = length-listed _ _;
+  rounds = length-listed _ _;
   fixed = length-listed _ _;
   logSines = length-listed _ _;
   differences = length-listed _ _;

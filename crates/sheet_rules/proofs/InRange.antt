@@ -9,15 +9,16 @@ use lib.ListN.{length, getD, length-append, List·getD-append}
 use lib.Seq.{getD-append-add}
 use lib.Signed.{mag, _≤ℤ_}
 use Rattle.refusals.specs.Order.{NoneHolds}
-use Rattle.refusals.specs.Ranges.{leastAngle, mostAngle, leastLogSine, mostLogSine, mostDifference}
-use Rattle.refusals.proofs.Nowhere.{limit-within, angles-within, fixed-within, log-sines-within, differences-within}
+use Rattle.refusals.specs.Ranges.{leastAngle, mostAngle, leastLogSine, mostLogSine, mostDifference, leastRounds}
+use Rattle.refusals.proofs.Nowhere.{limit-within, angles-within, rounds-within, fixed-within, log-sines-within, differences-within}
 use Rattle.sheet_layout.specs.declared.Kind.{Kind}
 use Rattle.sheet_rules.specs.Sheet.{Values}
-use Rattle.sheet_rules.specs.Judging.{mostLimitOrTolerance, valueRows}
+use Rattle.sheet_rules.specs.Judging.{mostLimitOrTolerance, mostRoundsOf, valueRows}
 
 pub record InRange (kind : Kind) (v : Values) : Type 0 where
   pub limitOrTolerance : v .limitOrTolerance ≤ mostLimitOrTolerance kind
   pub angles : (i : ℕ) → i < length (v .angles) → (leastAngle ≤ getD (v .angles) i 0) × (getD (v .angles) i 0 ≤ mostAngle)
+  pub rounds : (i : ℕ) → i < length (v .rounds) → (leastRounds ≤ getD (v .rounds) i 0) × (getD (v .rounds) i 0 ≤ mostRoundsOf kind)
   pub fixed : (i : ℕ) → i < length (v .fixed) → (leastAngle ≤ getD (v .fixed) i 0) × (getD (v .fixed) i 0 ≤ mostAngle)
   pub logSines : (i : ℕ) → i < length (v .logSines) → (leastLogSine ≤ getD (v .logSines) i 0) × (getD (v .logSines) i 0 ≤ mostLogSine)
   pub differences : (i : ℕ) → i < length (v .logSines)
@@ -30,14 +31,15 @@ Within log = (leastLogSine ≤ log) × (log ≤ mostLogSine)
 pub in-range : (kind : Kind) (v : Values) → NoneHolds (valueRows kind v) → InRange kind v
 in-range kind v none =
     let entries : List ℕ = v .logSines ++ v .logSides in
-    let each = log-sines-within entries (v .differences) (none .1 .1 .1 .1 .0) in
+    let each = log-sines-within entries (v .differences) (none .1 .1 .1 .1 .1 .0) in
     let both : length entries ≡ length (v .logSines) + length (v .logSides) = length-append (v .logSines) (v .logSides) in
     record {
       limitOrTolerance = limit-within (mostLimitOrTolerance kind) (v .limitOrTolerance) (none .0);
       angles = angles-within (v .angles) (none .1 .0);
-      fixed = fixed-within (v .fixed) (none .1 .1 .0);
+      rounds = rounds-within (mostRoundsOf kind) (v .rounds) (none .1 .1 .0);
+      fixed = fixed-within (v .fixed) (none .1 .1 .1 .0);
       logSines = λ i h. subst Within (List·getD-append (v .logSines) (v .logSides) 0 i h) (each i (omega arith));
-      differences = λ i h. differences-within entries (v .differences) (none .1 .1 .1 .1 .0) i (omega arith);
+      differences = λ i h. differences-within entries (v .differences) (none .1 .1 .1 .1 .1 .0) i (omega arith);
       logSides = λ i h. subst Within (getD-append-add (v .logSines) (v .logSides) i 0) (each (length (v .logSines) + i) (omega arith));
     }
 

@@ -5,7 +5,8 @@ use mathlib.Core.Bool.{Bool, true, false, cond, _&&_}
 use mathlib.Core.List.{List, [], _∷_, map}
 use mathlib.Core.Path.{_≡_, refl, sym, ap, ap₂, _∙_}
 use native.Mathlib.Nat.{le-of-suc-le-suc, not-suc-le-zero}
-use lib.Dec.{T, eqb, leb, ltb, eqb→eq, ltb→lt, lit≤}
+use native.Mathlib.Omega.{arith}
+use lib.Dec.{T, eqb, leb, ltb, eqb→eq, leb→le, ltb→lt, lit≤}
 use lib.ListN.{length, getD, take}
 use Rattle.whole.specs.Lists.{every, everyBelow}
 use Rattle.whole.proofs.Computed.{and-left, and-right, every-at, every-below}
@@ -15,14 +16,14 @@ use Rattle.figures.specs.Figure.{allFigures, angleCount}
 use Rattle.sheet_layout.specs.declared.Kind.{Kind}
 use Rattle.sheet_layout.specs.Kinds.{allKinds}
 use Rattle.sheet_layout.proofs.EachKind.{each}
-use Rattle.sheet_layout.specs.Layout.{Item, theKind, theCode, theN, limit, tolerance, angle, fixedAngle, logSine, difference, logSide, widthOf, head, layout, limitOrToleranceItem, fixedIn, sineEntriesIn, sidesIn, sort, numberOfItem, same, positionOf, held}
+use Rattle.sheet_layout.specs.Layout.{Item, theKind, theCode, theN, limit, tolerance, angle, angleRounds, fixedAngle, logSine, difference, logSide, widthOf, head, layout, limitOrToleranceItem, roundsIn, fixedIn, sineEntriesIn, sidesIn, sort, numberOfItem, same, positionOf, held}
 
 -- ---- items and their indexes
 
 -- an item is told by its sort and its number
 itemFrom : ℕ → ℕ → Item
 itemFrom s i =
-    getD (theKind ∷ theCode ∷ theN ∷ limit ∷ tolerance ∷ angle i ∷ fixedAngle i ∷ logSine i ∷ difference i ∷ logSide i ∷ []) s theKind
+    getD (theKind ∷ theCode ∷ theN ∷ limit ∷ tolerance ∷ angle i ∷ angleRounds i ∷ fixedAngle i ∷ logSine i ∷ difference i ∷ logSide i ∷ []) s theKind
 
 told : (p : Item) → itemFrom (sort p) (numberOfItem p) ≡ p
 unfolding itemFrom sort numberOfItem
@@ -32,6 +33,7 @@ told theN = refl
 told limit = refl
 told tolerance = refl
 told (angle i) = refl
+told (angleRounds i) = refl
 told (fixedAngle i) = refl
 told (logSine i) = refl
 told (difference i) = refl
@@ -86,6 +88,9 @@ stands-once kind f k h =
 abbrev isAmong : ℕ → ℕ → Bool
 isAmong count i = leb 1 i && leb i count
 
+pub none-among : (i : ℕ) → T (isAmong 0 i) → ⊥
+none-among i t = let none : i ≤ 0 = leb→le i 0 (and-right (leb 1 i) (leb i 0) t) in let one : 1 ≤ i = leb→le 1 i (and-left (leb 1 i) (leb i 0) t) in omega arith
+
 abbrev pub counted : Kind → Figure → Item → Bool
 counted kind f theKind = true
 counted kind f theCode = true
@@ -93,6 +98,7 @@ counted kind f theN = true
 counted kind f limit = same limit (limitOrToleranceItem kind)
 counted kind f tolerance = same tolerance (limitOrToleranceItem kind)
 counted kind f (angle i) = isAmong (angleCount f) i
+counted kind f (angleRounds i) = isAmong (roundsIn kind f) i
 counted kind f (fixedAngle i) = isAmong (fixedIn kind f) i
 counted kind f (logSine i) = isAmong (sineEntriesIn kind f) i
 counted kind f (difference i) = isAmong (sineEntriesIn kind f) i
@@ -110,6 +116,7 @@ narrow theN = lit≤ tt
 narrow limit = lit≤ tt
 narrow tolerance = lit≤ tt
 narrow (angle i) = lit≤ tt
+narrow (angleRounds i) = lit≤ tt
 narrow (fixedAngle i) = lit≤ tt
 narrow (logSine i) = lit≤ tt
 narrow (difference i) = lit≤ tt
@@ -151,6 +158,10 @@ module _ (item : ℕ → Item) (count : Kind → Figure → ℕ) where
 pub angle-stands : (kind : Kind) (f : Figure) (i : ℕ) → i < angleCount f → indexOf (angle (suc i)) (layout kind f) < length (layout kind f)
 unfolding layout indexOf same sort numberOfItem allStand stands
 angle-stands = each-stands angle (λ kind f. angleCount f) tt
+
+pub rounds-stand : (kind : Kind) (f : Figure) (i : ℕ) → i < roundsIn kind f → indexOf (angleRounds (suc i)) (layout kind f) < length (layout kind f)
+unfolding layout indexOf same sort numberOfItem allStand stands
+rounds-stand = each-stands angleRounds roundsIn tt
 
 pub fixed-stands : (kind : Kind) (f : Figure) (i : ℕ) → i < fixedIn kind f → indexOf (fixedAngle (suc i)) (layout kind f) < length (layout kind f)
 unfolding layout indexOf same sort numberOfItem allStand stands

@@ -1,6 +1,6 @@
 -- An accepted sheet, written again from the values that are read off it, has the same bytes: for every kind and figure, and sheets of every length.
 use Prim.Native.Nat.{ℕ, zero, suc, _*_, _≤_, _<_}
-use mathlib.Core.Bool.{Bool, _&&_}
+use mathlib.Core.Bool.{Bool, true, false, cond, _&&_}
 use mathlib.Core.List.{List, [], _∷_, map}
 use mathlib.Core.Path.{_≡_, refl, sym, ap, ap₂, subst, _∙_}
 use native.Mathlib.Nat.{le-of-suc-le-suc, not-suc-le-zero}
@@ -24,15 +24,15 @@ use Rattle.figures.specs.declared.Figure.{Figure}
 use Rattle.figures.specs.Figure.{description, angleCount}
 use Rattle.figures.proofs.Naming.{named-exactly}
 use Rattle.sheet_layout.specs.declared.Kind.{Kind}
-use Rattle.sheet_layout.specs.Kinds.{numberOfKind}
-use Rattle.sheet_layout.specs.Layout.{Item, theKind, theCode, theN, limit, tolerance, angle, fixedAngle, logSine, difference, logSide, widthOf, limitOrToleranceItem, layout, fixedIn, sineEntriesIn, sidesIn, bitCount, sheetSize, positionOf, held}
+use Rattle.sheet_layout.specs.Kinds.{numberOfKind, carriesRounds}
+use Rattle.sheet_layout.specs.Layout.{Item, theKind, theCode, theN, limit, tolerance, angle, angleRounds, fixedAngle, logSine, difference, logSide, widthOf, limitOrToleranceItem, layout, roundsIn, fixedIn, sineEntriesIn, sidesIn, bitCount, sheetSize, positionOf, held}
 use Rattle.sheet_layout.specs.Head.{kindNumberIn, codeIn, nIn}
 use Rattle.sheet_layout.proofs.Sizes.{bits-within}
 use Rattle.sheet_layout.proofs.Naming.{kind-exactly, own-head}
 use Rattle.sheet_rules.specs.declared.Reading.the-variants.{Read}
 use Rattle.sheet_rules.specs.Sheet.{Values, numberAt, fieldOf, packedSheet, valuesRead}
 use Rattle.sheet_rules.specs.Judging.{readingOf, writingOf, writtenOf}
-use Rattle.sheet_rules.proofs.Positions.{same-item, position-by-index, stands-once, counted, each-counted, narrow, kind-in-head, code-in-head, n-in-head}
+use Rattle.sheet_rules.proofs.Positions.{same-item, position-by-index, stands-once, none-among, counted, each-counted, narrow, kind-in-head, code-in-head, n-in-head}
 use Rattle.sheet_rules.proofs.Accepted.{Accepted, accepted, writer-found, sheet-written, given-back, as-many-read}
 use Rattle.sheet_rules.proofs.Filling.{no-filling-bit}
 
@@ -42,6 +42,12 @@ counted-value : {A : Type 0} (count : ℕ) (g : ℕ → A) (other : A) (i : ℕ)
 counted-value count g other zero t = absurd t
 counted-value count g other (suc j) t =
     getD-listed count (λ i. g (suc i)) j other (leb→le (suc j) count (and-right (leb 1 (suc j)) (leb (suc j) count) t))
+
+-- and so are the rounds that are counted, where the kind carries them
+counted-rounds : (rounds : Bool) (count : ℕ) (g : ℕ → ℕ) (i : ℕ) → T (leb 1 i && leb i (cond rounds count 0))
+    → numbered (listed count (λ j. cond rounds (g (suc j)) 1)) i 0 ≡ g i
+counted-rounds true count g i t = counted-value count g 0 i t
+counted-rounds false count g i t = absurd (none-among i t)
 
 module _ (kind : Kind) (f : Figure) (s : List ℕ)
     (is-kind : kindNumberIn s ≡ numberOfKind kind) (is-figure : (codeIn s ≡ description f .code) × (nIn s ≡ description f .n)) where
@@ -54,6 +60,7 @@ module _ (kind : Kind) (f : Figure) (s : List ℕ)
   number-held limit t = ap (held (layout kind f) s) (sym (same-item limit (limitOrToleranceItem kind) t))
   number-held tolerance t = ap (held (layout kind f) s) (sym (same-item tolerance (limitOrToleranceItem kind) t))
   number-held (angle i) t = counted-value (angleCount f) (λ i. held (layout kind f) s (angle i)) 0 i t
+  number-held (angleRounds i) t = counted-rounds (carriesRounds kind) (angleCount f) (λ i. held (layout kind f) s (angleRounds i)) i t
   number-held (fixedAngle i) t = counted-value (fixedIn kind f) (λ i. held (layout kind f) s (fixedAngle i)) 0 i t
   number-held (logSine i) t = counted-value (sineEntriesIn kind f) (λ i. held (layout kind f) s (logSine i)) 0 i t
   number-held (difference i) t =

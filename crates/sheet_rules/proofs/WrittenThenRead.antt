@@ -1,6 +1,6 @@
 -- A sheet that the writer has accepted reads back as the same kind, figure, L or e and values: for every kind and figure.
 use Prim.Native.Nat.{ℕ, zero, suc, _≤_, _<_, _^_, zero-le, suc-le-suc}
-use mathlib.Core.Bool.{false, _&&_}
+use mathlib.Core.Bool.{Bool, true, false, cond, _&&_}
 use mathlib.Core.List.{List, [], _∷_, map}
 use mathlib.Core.Path.{_≡_, refl, sym, ap, ap₂, subst, _∙_}
 use native.Mathlib.Nat.{lt-of-le-of-lt}
@@ -24,10 +24,10 @@ use Rattle.figures.specs.Figure.{description, angleCount}
 use Rattle.figures.proofs.Figures.{each-figure}
 use Rattle.figures.proofs.Naming.{named-exactly}
 use Rattle.sheet_layout.specs.declared.Kind.{Kind}
-use Rattle.refusals.specs.Ranges.{mostLimit, mostTolerance}
+use Rattle.refusals.specs.Ranges.{mostLimit, mostTolerance, leastRounds, mostRounds}
 use Rattle.sheet_layout.specs.declared.Pass.{Pass}
-use Rattle.sheet_layout.specs.Kinds.{numberOfKind, passOf, ofPass}
-use Rattle.sheet_layout.specs.Layout.{Item, theKind, theCode, theN, limit, tolerance, angle, fixedAngle, logSine, difference, logSide, widthOf, limitOrToleranceItem, layout, fixedIn, sineEntriesIn, sidesIn, bitCount, sheetSize, positionOf, held}
+use Rattle.sheet_layout.specs.Kinds.{numberOfKind, passOf, carriesRounds, ofPass}
+use Rattle.sheet_layout.specs.Layout.{Item, theKind, theCode, theN, limit, tolerance, angle, angleRounds, fixedAngle, logSine, difference, logSide, widthOf, limitOrToleranceItem, layout, roundsIn, fixedIn, sineEntriesIn, sidesIn, bitCount, sheetSize, positionOf, held}
 use Rattle.sheet_layout.specs.declared.head.Look.the-variants.{Head}
 use Rattle.sheet_layout.specs.Head.{kindNumberIn, codeIn, nIn, headOf}
 use Rattle.sheet_layout.proofs.EachKind.{each-kind, each}
@@ -35,9 +35,9 @@ use Rattle.sheet_layout.proofs.Naming.{kind-exactly}
 use Rattle.sheet_rules.specs.declared.Reading.{Reading}
 use Rattle.sheet_rules.specs.declared.Reading.the-variants.{Read}
 use Rattle.sheet_rules.specs.Sheet.{Values, valuesFrom, numberAt, fieldOf, packedSheet, valuesRead}
-use Rattle.sheet_rules.specs.Judging.{mostLimitOrTolerance, valueRows, ownLengths, lengthsGiven, readingOf, afterReading, writingOf, writtenOf}
+use Rattle.sheet_rules.specs.Judging.{mostLimitOrTolerance, mostRoundsOf, valueRows, ownLengths, lengthsGiven, readingOf, afterReading, writingOf, writtenOf}
 use Rattle.sheet_rules.specs.Promises.{Slices, slicesOf, lengthsLent, readAnswer, readLeft}
-use Rattle.sheet_rules.proofs.Positions.{same-item, indexOf, position-by-index, item-at-index, counted, each-counted, narrow, kind-stands, code-stands, n-stands, limit-stands, angle-stands, fixed-stands, log-sine-stands, difference-stands, log-side-stands, kind-in-head, code-in-head, n-in-head}
+use Rattle.sheet_rules.proofs.Positions.{same-item, indexOf, position-by-index, item-at-index, none-among, counted, each-counted, narrow, kind-stands, code-stands, n-stands, limit-stands, angle-stands, rounds-stand, fixed-stands, log-sine-stands, difference-stands, log-side-stands, kind-in-head, code-in-head, n-in-head}
 use Rattle.sheet_rules.proofs.Accepted.{Accepted, AsMany, own-lengths, accepted-back, writer-accepted, sheet-written}
 use Rattle.sheet_rules.proofs.Filling.{no-filling-bit}
 use Rattle.sheet_rules.proofs.InRange.{InRange, in-range, difference-fits}
@@ -62,6 +62,14 @@ numbered-fits values most w count zero m e h t = absurd t
 numbered-fits values most w count (suc j) m e h t =
     lt-of-le-of-lt (h j (omega (arith, leb→le (suc j) count (and-right (leb 1 (suc j)) (leb (suc j) count) t)))) m
 
+-- no angle has more rounds than fit 8 bits, and there are no more in a sheet than angles
+few-rounds : (kind : Kind) → mostRoundsOf kind ≤ 255
+few-rounds kind = leb→le (mostRoundsOf kind) 255 (each-kind (λ k. leb (mostRoundsOf k) 255) tt kind)
+
+within-angles : (rounds : Bool) (count i : ℕ) → T (leb 1 i && leb i (cond rounds count 0)) → T (leb 1 i && leb i count)
+within-angles true count i t = t
+within-angles false count i t = absurd (none-among i t)
+
 module _ (kind : Kind) (f : Figure) (v : Values) (lengths : AsMany kind f v) (range : InRange kind v) where
   limit-fits : (p : Item) → p ≡ limitOrToleranceItem kind → v .limitOrTolerance < 2 ^ widthOf p
   limit-fits p e = subst (λ (q : Item). v .limitOrTolerance < 2 ^ widthOf q) (sym e) (go (passOf kind) (range .limitOrTolerance))
@@ -77,6 +85,9 @@ module _ (kind : Kind) (f : Figure) (v : Values) (lengths : AsMany kind f v) (ra
   number-fits limit t = limit-fits limit (same-item limit (limitOrToleranceItem kind) t)
   number-fits tolerance t = limit-fits tolerance (same-item tolerance (limitOrToleranceItem kind) t)
   number-fits (angle i) t = numbered-fits (v .angles) 6479999 23 (angleCount f) i (lit< tt) (lengths .angles) (λ j h. range .angles j h .1) t
+  number-fits (angleRounds i) t =
+      numbered-fits (v .rounds) 255 8 (angleCount f) i (lit< tt) (lengths .rounds) (λ j h. omega (arith, range .rounds j h, few-rounds kind))
+      (within-angles (carriesRounds kind) (angleCount f) i t)
   number-fits (fixedAngle i) t = numbered-fits (v .fixed) 6479999 23 (fixedIn kind f) i (lit< tt) (lengths .fixed) (λ j h. range .fixed j h .1) t
   number-fits (logSine i) t = numbered-fits (v .logSines) 100000000 27 (sineEntriesIn kind f) i (lit< tt) (lengths .logSines) (λ j h. range .logSines j h .1) t
   number-fits (difference i) t = twosComplement-lt 15 (numbered (v .differences) i (pos 0))
@@ -120,6 +131,12 @@ listed-back : {A : Type 0} (count : ℕ) (values : List A) (g : ℕ → A) (d : 
 listed-back count values g d e h =
     listed-ext count g (λ i. getD values i d) h ∙ ap (λ (n : ℕ). listed n (λ i. getD values i d)) (sym e) ∙ listed-getD d values
 
+-- of an angle's rounds, what the sheet holds or one
+one-read : (rounds : Bool) (count : ℕ) {held given : ℕ} (i : ℕ) → i < count → (i < cond rounds count 0 → held ≡ given)
+    → (leastRounds ≤ given) × (given ≤ cond rounds mostRounds 1) → cond rounds held 1 ≡ given
+one-read true count i h back range = back h
+one-read false count i h back range = omega (arith, range .0, range .1)
+
 module _ (kind : Kind) (f : Figure) (v : Values) (lengths : AsMany kind f v) (range : InRange kind v) where
   abbrev sheet : List ℕ
   sheet = packedSheet kind f v
@@ -134,6 +151,14 @@ module _ (kind : Kind) (f : Figure) (v : Values) (lengths : AsMany kind f v) (ra
   angles-back =
       listed-back (angleCount f) (v .angles) (λ i. at (angle (suc i))) 0 (lengths .angles)
       (λ i h. held-written kind f v lengths range (angle (suc i)) (angle-stands kind f i h))
+
+  rounds-back : listed (angleCount f) (λ i. cond (carriesRounds kind) (at (angleRounds (suc i))) 1) ≡ v .rounds
+  rounds-back =
+      listed-back (angleCount f) (v .rounds) (λ i. cond (carriesRounds kind) (at (angleRounds (suc i))) 1) 0 (lengths .rounds)
+      (λ i h.
+      one-read (carriesRounds kind) (angleCount f) i h
+      (λ l. held-written kind f v lengths range (angleRounds (suc i)) (rounds-stand kind f i l))
+      (range .rounds i (omega (arith, lengths .rounds))))
 
   fixed-back : listed (fixedIn kind f) (λ i. at (fixedAngle (suc i))) ≡ v .fixed
   fixed-back =
@@ -160,7 +185,7 @@ module _ (kind : Kind) (f : Figure) (v : Values) (lengths : AsMany kind f v) (ra
 
   pub values-back : valuesRead kind f sheet ≡ v
   unfolding valuesRead
-  values-back = rw (limit-back, angles-back, fixed-back, log-sines-back, differences-back, log-sides-back)
+  values-back = rw (limit-back, angles-back, rounds-back, fixed-back, log-sines-back, differences-back, log-sides-back)
 
   -- ---- the sheet is accepted
 

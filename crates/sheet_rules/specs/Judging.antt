@@ -1,19 +1,19 @@
--- How sheets are turned back: document 01, "Numbers given when a sheet is turned back", and document 02, M-101, for number 14. The reader's order and
--- the writer's, each as one list of rows. Both begin with the rows of the head (specs/Head.antt of `sheet_layout`).
+-- How sheets are turned back: document 01, "Numbers given when a sheet is turned back", and document 02, M-101 for number 14 and M-106 for
+-- number 16. The reader's order and the writer's, each as one list of rows. Both begin with the rows of the head (specs/Head.antt of `sheet_layout`).
 use Prim.Native.Nat.{ℕ}
-use mathlib.Core.Bool.{Bool}
+use mathlib.Core.Bool.{Bool, cond}
 use mathlib.Core.List.{List, [], _∷_, _++_}
 use lib.ListN.{length, drop}
 use Rattle.refusals.specs.declared.Verdict.{Verdict}
 use Rattle.refusals.specs.declared.Verdict.the-variants.{Passed, Failed}
 use Rattle.refusals.specs.Numbers.{Told, told, refusalTold}
 use Rattle.refusals.specs.Order.{Row, judged}
-use Rattle.refusals.specs.Ranges.{mostLimit, mostTolerance}
-use Rattle.refusals.specs.Table.{lengthsRow, limitOrToleranceRow, anglesRow, fixedRow, fixedSumRow, sineEntriesRow, sheetSizeRow, fillingRow}
+use Rattle.refusals.specs.Ranges.{mostLimit, mostTolerance, mostRounds}
+use Rattle.refusals.specs.Table.{lengthsRow, limitOrToleranceRow, anglesRow, roundsRow, fixedRow, fixedSumRow, sineEntriesRow, sheetSizeRow, fillingRow}
 use Rattle.figures.specs.declared.Figure.{Figure}
 use Rattle.bits.specs.Bits.{bitsOf}
 use Rattle.sheet_layout.specs.declared.Kind.{Kind}
-use Rattle.sheet_layout.specs.Kinds.{passOf, ofPass}
+use Rattle.sheet_layout.specs.Kinds.{passOf, carriesRounds, ofPass}
 use Rattle.sheet_layout.specs.Layout.{lengthsOf, bitCount, sheetSize}
 use Rattle.sheet_layout.specs.declared.head.Look.{Look}
 use Rattle.sheet_layout.specs.declared.head.Look.the-variants.{Head}
@@ -22,39 +22,45 @@ use Rattle.sheet_rules.specs.declared.Reading.{Reading}
 use Rattle.sheet_rules.specs.declared.Reading.the-variants.{Read}
 use Rattle.sheet_rules.specs.Sheet.{Values, valuesRead, packedSheet}
 
--- ---- the values: 3, 4, 5, 14, 8
+-- ---- the values: 3, 4, 16, 5, 14, 8
 
 -- L for the first pass, e for the second
 abbrev pub mostLimitOrTolerance : Kind → ℕ
 mostLimitOrTolerance kind = ofPass (passOf kind) mostLimit mostTolerance
+
+-- M-106: an older kind has one round for each angle, and "writing one with another count gives 16 too"
+abbrev pub mostRoundsOf : Kind → ℕ
+mostRoundsOf kind = cond (carriesRounds kind) mostRounds 1
 
 -- number 8 asks of the angles' entries, and then of the known log sides, which have the places after them (M-100)
 abbrev pub valueRows : Kind → Values → List Row
 valueRows kind v =
     limitOrToleranceRow (mostLimitOrTolerance kind) (v .limitOrTolerance)
     ∷ anglesRow (v .angles)
+    ∷ roundsRow (mostRoundsOf kind) (v .rounds)
     ∷ fixedRow (v .fixed)
     ∷ fixedSumRow (v .fixed)
     ∷ sineEntriesRow (v .logSines ++ v .logSides) (v .differences)
     ∷ []
 
--- ---- the lengths of slices: angles, fixed angles, log-sines, differences, log sides
+-- ---- the lengths of slices: angles, rounds, fixed angles, log-sines, differences, log sides
 
 abbrev pub ownLengths : Kind → Figure → List ℕ
 ownLengths kind f =
-    lengthsOf kind f .angles ∷ lengthsOf kind f .fixed ∷ lengthsOf kind f .«log_sines» ∷ lengthsOf kind f .differences
-    ∷ lengthsOf kind f .«log_sides» ∷ []
+    lengthsOf kind f .angles ∷ lengthsOf kind f .rounds ∷ lengthsOf kind f .fixed ∷ lengthsOf kind f .«log_sines»
+    ∷ lengthsOf kind f .differences ∷ lengthsOf kind f .«log_sides» ∷ []
 
 abbrev pub lengthsGiven : Values → List ℕ
-lengthsGiven v = length (v .angles) ∷ length (v .fixed) ∷ length (v .logSines) ∷ length (v .differences) ∷ length (v .logSides) ∷ []
+lengthsGiven v =
+    length (v .angles) ∷ length (v .rounds) ∷ length (v .fixed) ∷ length (v .logSines) ∷ length (v .differences) ∷ length (v .logSides) ∷ []
 
--- ---- the reader: 12 if under two bytes, then 11, 1, 12, 2 (slices lent for the values), 13, 3, 4, 5, 14, 8
+-- ---- the reader: 12 if under two bytes, then 11, 1, 12, 2 (slices lent for the values), 13, 3, 4, 16, 5, 14, 8
 
 -- the bits after the last field
 abbrev pub fillingBits : Kind → Figure → (sheet : List ℕ) → List Bool
 fillingBits kind f sheet = drop (bitCount kind f) (bitsOf sheet)
 
--- once kind and figure are known: 12, 2, 13, 3, 4, 5, 14, 8
+-- once kind and figure are known: 12, 2, 13, 3, 4, 16, 5, 14, 8
 unfoldable pub bodyRows : Kind → Figure → (sheet lent : List ℕ) → List Row
 bodyRows kind f sheet lent =
     sheetSizeRow (length sheet) (sheetSize kind f)
@@ -88,9 +94,9 @@ abbrev pub afterReading : {A : Type 0} → Reading → (values : Kind → Figure
 afterReading (Read kind f limitOrTolerance) values before = values kind f
 afterReading (Reading.Refused refusal) values before = before
 
--- ---- the writer: 11, 1, 2, 3, 4, 5, 14, 8
+-- ---- the writer: 11, 1, 2, 3, 4, 16, 5, 14, 8
 
--- once kind and figure are known: 2, 3, 4, 5, 14, 8; `size` is the length of the byte slice that is lent
+-- once kind and figure are known: 2, 3, 4, 16, 5, 14, 8; `size` is the length of the byte slice that is lent
 unfoldable pub givenRows : Kind → Figure → Values → (size : ℕ) → List Row
 givenRows kind f v size =
     lengthsRow (lengthsGiven v ++ (size ∷ [])) (ownLengths kind f ++ (sheetSize kind f ∷ [])) ∷ valueRows kind v

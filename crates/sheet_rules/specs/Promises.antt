@@ -14,21 +14,23 @@ use Rattle.sheet_rules.specs.Judging.{readingOf, afterReading, writingOf
 -- the slices that are lent for the values
 pub record Slices : Type 0 where
   pub angles : List ℕ
+  pub rounds : List ℕ
   pub fixed : List ℕ
   pub logSines : List ℕ
   pub differences : List ℤ
   pub logSides : List ℕ
 
-abbrev pub slices : (angles fixed logSines : List ℕ) → (differences : List ℤ) → (logSides : List ℕ) → Slices
-slices a f l d s = record { angles = a; fixed = f; logSines = l; differences = d; logSides = s }
+abbrev pub slices : (angles rounds fixed logSines : List ℕ) → (differences : List ℤ) → (logSides : List ℕ) → Slices
+slices a r f l d s = record { angles = a; rounds = r; fixed = f; logSines = l; differences = d; logSides = s }
 
 abbrev pub slicesOf : Values → Slices
-slicesOf v = slices (v .angles) (v .fixed) (v .logSines) (v .differences) (v .logSides)
+slicesOf v = slices (v .angles) (v .rounds) (v .fixed) (v .logSines) (v .differences) (v .logSides)
 
 -- their lengths, for number 2
 abbrev pub lengthsLent : Slices → List ℕ
 lengthsLent lent =
-    length (lent .angles) ∷ length (lent .fixed) ∷ length (lent .logSines) ∷ length (lent .differences) ∷ length (lent .logSides) ∷ []
+    length (lent .angles) ∷ length (lent .rounds) ∷ length (lent .fixed) ∷ length (lent .logSines) ∷ length (lent .differences)
+    ∷ length (lent .logSides) ∷ []
 
 abbrev pub readAnswer : (sheet : List ℕ) → Slices → Reading
 readAnswer sheet lent = readingOf sheet (lengthsLent lent)

@@ -3,14 +3,16 @@
 ghost use mathlib.Core.Path.{_≡_};
 ghost use Rattle.refusals.specs.Order.{judged};
 ghost use Rattle.sheet_rules.specs.Sheet.{valuesFrom};
-ghost use Rattle.sheet_rules.specs.Judging.{mostLimitOrTolerance, valueRows};
+ghost use Rattle.sheet_rules.specs.Judging.{mostLimitOrTolerance, mostRoundsOf, valueRows};
 use figures::Figure;
 use judging::angles_verdict;
 use judging::fixed_sum_verdict;
 use judging::fixed_verdict;
 use judging::limit_or_tolerance_verdict;
+use judging::rounds_verdict;
 use judging::sine_entries_verdict;
 use refusals::MOST_LIMIT;
+use refusals::MOST_ROUNDS;
 use refusals::MOST_TOLERANCE;
 use refusals::Refusal;
 use refusals::Verdict;
@@ -18,6 +20,7 @@ use refusals::first_to_fail;
 pub use sheet_layout::Kind;
 pub use sheet_layout::Look;
 pub use sheet_layout::Pass;
+pub use sheet_layout::carries_rounds;
 pub use sheet_layout::default_of;
 pub use sheet_layout::lengths_of;
 pub use sheet_layout::look_at;
@@ -43,24 +46,32 @@ fn most_limit_or_tolerance(kind: Kind) -> u32
     }
 }
 
-// The tests of a sheet's values, 3, 4, 5, 14 and 8, whether they were read or are to be written.
+fn most_rounds(kind: Kind) -> u8
+    ensures { λ most. ⌜ most ≡ mostRoundsOf kind ⌝ }
+{
+    if carries_rounds(kind) { MOST_ROUNDS } else { 1 }
+}
+
+// The tests of a sheet's values, 3, 4, 16, 5, 14 and 8, whether they were read or are to be written.
 pub fn values_verdict(
     kind: Kind,
     limit_or_tolerance: u32,
     angles: &[u32],
+    rounds: &[u8],
     fixed: &[u32],
     log_sines: &[u32],
     differences: &[i32],
     log_sides: &[u32],
 ) -> Verdict
-    ensures { λ verdict. ⌜ verdict ≡ judged (valueRows kind (valuesFrom «limit_or_tolerance»
-        (now (angles .entry)) (now (fixed .entry)) (now («log_sines» .entry)) (now (differences .entry)) (now («log_sides» .entry)))) ⌝ }
+    ensures { λ verdict. ⌜ verdict ≡ judged (valueRows kind (valuesFrom «limit_or_tolerance» (now (angles .entry))
+        (now (rounds .entry)) (now (fixed .entry)) (now («log_sines» .entry)) (now (differences .entry)) (now («log_sides» .entry)))) ⌝ }
 {
     let range = limit_or_tolerance_verdict(limit_or_tolerance, most_limit_or_tolerance(kind));
     let angle = angles_verdict(angles);
+    let round = rounds_verdict(rounds, most_rounds(kind));
     let fixed_angle = fixed_verdict(fixed);
     let fixed_sum = fixed_sum_verdict(fixed);
     let sines = sine_entries_verdict(log_sines, log_sides, differences);
     let others = first_to_fail(fixed_angle, first_to_fail(fixed_sum, sines));
-    first_to_fail(range, first_to_fail(angle, others))
+    first_to_fail(range, first_to_fail(angle, first_to_fail(round, others)))
 }

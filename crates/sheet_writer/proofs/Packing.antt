@@ -1,19 +1,21 @@
 -- Rows of fields packed one after the other, as the loops of the writer do it. Assumes nothing.
 use Prim.Native.Nat.{ℕ, zero, suc, _+_, _*_, _≤_, _<_}
+use mathlib.Core.Bool.{Bool, true, false}
 use mathlib.Core.List.{List, [], _∷_}
 use mathlib.Core.Path.{_≡_, refl, sym, ap, ap₂, subst, _∙_}
 use native.Mathlib.Nat.{add-zero, mul-zero, mul-suc, mul-le-mul-left}
 use native.Mathlib.Numerals.{add-one}
 use native.Mathlib.Omega.{arith}
-use lib.IntN.{ℤ, pos}
+use lib.IntN.{ℤ}
 use lib.ListN.{length}
 use Rattle.refusals.specs.Numbers.{numbered}
 use Rattle.bits.specs.Bits.{Field, widths, totalWidth}
 use Rattle.bits.proofs.Packed.{totalWidth-append, widths-append}
 use Rattle.figures.specs.Rows.{eachOf}
+use Rattle.sheet_layout.specs.Layout.{roundsBits}
 use Rattle.sheet_writer.specs.declared.packer.Packer.{Packer}
 use Rattle.sheet_writer.specs.Packer.{packedCount, WellHeld, HasRoom, Packs}
-use Rattle.sheet_writer.specs.Parts.{fieldFrom, columnFields, rowOf}
+use Rattle.sheet_writer.specs.Parts.{fieldFrom, angleFields, rowOf}
 use Rattle.sheet_writer.proofs.PackerLaws.{packs-none, packs-then, room-after}
 
 -- rows of one width
@@ -29,11 +31,17 @@ pub one-width : (width : ℕ) (values : List ℕ) (i : ℕ) → totalWidth (widt
 unfolding totalWidth widths
 one-width width values i = add-zero width
 
--- and so have an angle, its log-sine and its difference
-pub row-width : (angles log-sines : List ℕ) (differences : List ℤ) (i : ℕ)
-    → totalWidth (widths (rowOf (numbered angles i 0) (numbered log-sines i 0) (numbered differences i (pos 0)))) ≡ 65
+-- and so have an angle and its rounds, and with its log-sine and its difference
+pub angle-width : (carried : Bool) (angle rounds : ℕ) → totalWidth (widths (angleFields carried angle rounds)) ≡ 23 + roundsBits carried
 unfolding totalWidth widths
-row-width angles log-sines differences i = refl
+angle-width true angle rounds = refl
+angle-width false angle rounds = refl
+
+pub row-width : (carried : Bool) (angle rounds log-sine : ℕ) (difference : ℤ)
+    → totalWidth (widths (rowOf carried angle rounds log-sine difference)) ≡ 65 + roundsBits carried
+unfolding totalWidth widths
+row-width true angle rounds log-sine difference = refl
+row-width false angle rounds log-sine difference = refl
 
 -- the invariant of a loop that packs rows: so many are packed
 pub record PackedRows (s : List ℕ) (p : Packer) (row : ℕ → List Field) (count done : ℕ) (sheet : List ℕ) (packer : Packer) : Type 0 where
@@ -69,9 +77,8 @@ module _ (s : List ℕ) (p : Packer) (row : ℕ → List Field) (count : ℕ) {d
       let all : done ≡ count = omega (arith, h .few) in
       subst (λ (n : ℕ). Packs s p (eachOf n row) sheet packer) all (h .rows)
 
--- room for what follows a column
-pub room-after-column : {a b : List ℕ} {p q : Packer} (width : ℕ) (values : List ℕ) (more : ℕ) → Packs a p (columnFields width values) b q
-    → length b ≡ length a → HasRoom a p (width * length values + more) → HasRoom b q more
-room-after-column width values more packs same room =
-    let columns = rows-width (λ i. fieldFrom width (numbered values i 0) ∷ []) width (one-width width values) (length values) in
-    room-after (columnFields width values) more packs same (record { well = room .well; enough = omega (arith, room .enough, columns) })
+-- room for what follows rows of one width
+pub room-after-rows : {a b : List ℕ} {p q : Packer} (row : ℕ → List Field) (w : ℕ) → ((i : ℕ) → totalWidth (widths (row i)) ≡ w) → (count more : ℕ)
+    → Packs a p (eachOf count row) b q → length b ≡ length a → HasRoom a p (w * count + more) → HasRoom b q more
+room-after-rows row w each count more packs same room =
+    room-after (eachOf count row) more packs same (record { well = room .well; enough = omega (arith, room .enough, rows-width row w each count) })

@@ -1,5 +1,6 @@
 -- What the parts of the writer compute, in the words of the whole (specs/Sheet.antt of `sheet_rules`).
 use Prim.Native.Nat.{ℕ, _+_, _*_, _≤_}
+use mathlib.Core.Bool.{Bool, cond}
 use mathlib.Core.List.{List, [], _∷_, _++_}
 use mathlib.Core.Path.{_≡_}
 use lib.IntN.{ℤ, pos}
@@ -14,7 +15,7 @@ use Rattle.figures.specs.declared.Figure.{Figure}
 use Rattle.figures.specs.Rows.{eachOf}
 use Rattle.sheet_layout.specs.declared.Kind.{Kind}
 use Rattle.sheet_layout.specs.declared.Pass.{Pass}
-use Rattle.sheet_layout.specs.Layout.{theKind, theCode, theN, widthOf}
+use Rattle.sheet_layout.specs.Layout.{theKind, theCode, theN, widthOf, roundsBits}
 use Rattle.sheet_rules.specs.Sheet.{Values, packedSheet}
 use Rattle.sheet_rules.specs.Judging.{givenRows, afterWriting}
 use Rattle.sheet_writer.specs.declared.packer.Packer.{Packer}
@@ -23,31 +24,39 @@ use Rattle.sheet_writer.specs.Packer.{HasRoom}
 abbrev pub fieldFrom : (width holds : ℕ) → Field
 fieldFrom w v = record { width = w; holds = v }
 
--- the fields of a sheet, part by part: the head; L or e; angles or fixed angles for the first pass, or log sides for the second; an angle,
--- its log-sine and its difference, angle by angle
+-- the fields of a sheet, part by part: the head; L or e; fixed angles for the first pass, or log sides for the second; an angle and its rounds, where
+-- they are carried, and for the second pass its log-sine and its difference, angle by angle
 abbrev pub headFields : (kind code n : ℕ) → List Field
 headFields kind code n = fieldFrom (widthOf theKind) kind ∷ fieldFrom (widthOf theCode) code ∷ fieldFrom (widthOf theN) n ∷ []
 
 abbrev pub columnFields : (width : ℕ) → List ℕ → List Field
 columnFields width values = eachOf (length values) (λ i. fieldFrom width (numbered values i 0) ∷ [])
 
-abbrev pub rowOf : ℕ → ℕ → ℤ → List Field
-rowOf angle logSine difference = fieldFrom 23 angle ∷ fieldFrom 27 logSine ∷ fieldFrom 15 (twosComplement 15 difference) ∷ []
+abbrev pub angleFields : (carried : Bool) → (angle rounds : ℕ) → List Field
+angleFields carried angle rounds = fieldFrom 23 angle ∷ cond carried (fieldFrom 8 rounds ∷ []) []
 
-abbrev pub rowFields : List ℕ → List ℕ → List ℤ → List Field
-rowFields angles logSines differences =
-    eachOf (length angles) (λ i. rowOf (numbered angles i 0) (numbered logSines i 0) (numbered differences i (pos 0)))
+abbrev pub anglesFields : (carried : Bool) → (angles rounds : List ℕ) → List Field
+anglesFields carried angles rounds = eachOf (length angles) (λ i. angleFields carried (numbered angles i 0) (numbered rounds i 0))
 
-abbrev pub bodyFields : Pass → Values → List Field
-bodyFields Pass.First v = columnFields 23 (v .angles) ++ columnFields 23 (v .fixed)
-bodyFields Pass.Second v = columnFields 27 (v .logSides) ++ rowFields (v .angles) (v .logSines) (v .differences)
+abbrev pub rowOf : (carried : Bool) → (angle rounds logSine : ℕ) → (difference : ℤ) → List Field
+rowOf carried angle rounds logSine difference =
+    angleFields carried angle rounds ++ (fieldFrom 27 logSine ∷ fieldFrom 15 (twosComplement 15 difference) ∷ [])
 
--- there is room for a body, and for the second pass there is a log-sine and a difference for each angle
-abbrev pub BodyFits : (sheet : List ℕ) → Packer → Pass → Values → Type 0
-BodyFits sheet p Pass.First v = HasRoom sheet p (23 * length (v .angles) + 23 * length (v .fixed))
-BodyFits sheet p Pass.Second v =
-    HasRoom sheet p (27 * length (v .logSides) + 65 * length (v .angles))
-    × (length (v .logSines) ≡ length (v .angles)) × (length (v .differences) ≡ length (v .angles))
+abbrev pub rowFields : (carried : Bool) → (angles rounds logSines : List ℕ) → (differences : List ℤ) → List Field
+rowFields carried angles rounds logSines differences =
+    eachOf (length angles) (λ i. rowOf carried (numbered angles i 0) (numbered rounds i 0) (numbered logSines i 0) (numbered differences i (pos 0)))
+
+abbrev pub bodyFields : Pass → (carried : Bool) → Values → List Field
+bodyFields Pass.First carried v = anglesFields carried (v .angles) (v .rounds) ++ columnFields 23 (v .fixed)
+bodyFields Pass.Second carried v = columnFields 27 (v .logSides) ++ rowFields carried (v .angles) (v .rounds) (v .logSines) (v .differences)
+
+-- there is room for a body, and each angle has its rounds, and for the second pass a log-sine and a difference
+abbrev pub BodyFits : (sheet : List ℕ) → Packer → Pass → (carried : Bool) → Values → Type 0
+BodyFits sheet p Pass.First carried v =
+    HasRoom sheet p ((23 + roundsBits carried) * length (v .angles) + 23 * length (v .fixed)) × (length (v .rounds) ≡ length (v .angles))
+BodyFits sheet p Pass.Second carried v =
+    HasRoom sheet p (27 * length (v .logSides) + (65 + roundsBits carried) * length (v .angles))
+    × (length (v .rounds) ≡ length (v .angles)) × (length (v .logSines) ≡ length (v .angles)) × (length (v .differences) ≡ length (v .angles))
 
 -- what the writer promises once kind and figure are known
 abbrev pub GivenPromise : Kind → Figure → Values → (entry : List ℕ) → (answer : Verdict) → (exit : List ℕ) → Type 0

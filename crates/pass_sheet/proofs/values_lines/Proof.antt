@@ -23,7 +23,7 @@ use Rattle.pass_sheet.proofs.values_lines.Tie as tie
 
 module _ (c : tie.After-log-sides) where
   abbrev call : tie.After-lengths-of
-  call = c .before .before .before .before .before
+  call = c .before .before .before .before .before .before
 
   abbrev kind : Kind
   kind = call .before .before .args .kind
@@ -41,6 +41,11 @@ module _ (c : tie.After-log-sides) where
   few-angles =
       subst (λ (l : Lengths). l .angles ≤ length (values .angles)) (sym (call .lengths-of .ensures))
       (rw (call .before .before .pre .angles-full) (angles-few kind figure))
+
+  few-rounds : lengths .angles ≤ length (values .rounds)
+  few-rounds =
+      subst (λ (l : Lengths). l .angles ≤ length (values .rounds)) (sym (call .lengths-of .ensures))
+      (rw (call .before .before .pre .rounds-full) (angles-few kind figure))
 
   few-fixed : lengths .fixed ≤ length (values .fixed)
   few-fixed =
@@ -65,7 +70,7 @@ module _ (c : tie.After-log-sides) where
   -- the sheet worked from what was read, at the lengths that were lent
   abbrev workedAt : Reading → Lengths → WorkedSheet
   workedAt reading l =
-      workedReading reading (take (l .angles) (values .angles)) (take (l .fixed) (values .fixed))
+      workedReading reading (take (l .angles) (values .angles)) (take (l .angles) (values .rounds)) (take (l .fixed) (values .fixed))
       (sineEntries (take (l .«log_sines») (values .«log_sines»)) (take (l .«log_sines») (values .differences))
       (take (l .«log_sides») (values .«log_sides»)))
 
@@ -85,11 +90,11 @@ returns c =
     shown (read .before .before) _ (read .reading .given .1) (c .before .before .refused-lines .ensures)
 
 -- a pass with L or e in force is the kind's own
-by-kind : (kind : Kind) (f : Figure) (value : ℕ) (angles fixed : List ℕ) (e : SineEntries) {pass told : Pass} {default bound : ℕ}
+by-kind : (kind : Kind) (f : Figure) (value : ℕ) (angles rounds fixed : List ℕ) (e : SineEntries) {pass told : Pass} {default bound : ℕ}
     → pass ≡ passOf kind → pass ≡ told → default ≡ defaultOf kind → bound ≡ inForce default value
-    → workedPass told f bound angles fixed e ≡ workedKind kind f value angles fixed e
-by-kind kind f value angles fixed e own is default-is bound-is =
-    ap₂ (λ (p : Pass) (l : ℕ). workedPass p f l angles fixed e) (sym is ∙ own) (bound-is ∙ ap (λ (d : ℕ). inForce d value) default-is)
+    → workedPass told f bound angles rounds fixed e ≡ workedKind kind f value angles rounds fixed e
+by-kind kind f value angles rounds fixed e own is default-is bound-is =
+    ap₂ (λ (p : Pass) (l : ℕ). workedPass p f l angles rounds fixed e) (sym is ∙ own) (bound-is ∙ ap (λ (d : ℕ). inForce d value) default-is)
 
 module _ (c : tie.After-pass-of) where
   abbrev read : tie.After-reading2
@@ -111,6 +116,7 @@ module _ (c : tie.After-pass-of) where
   of-pass : (told : Pass) → c .pass-of .result ≡ told → {start buffer : List ℕ} {end : ℕ}
       → Holds start
       (textOf (workedPass told readFigure (c .before .in-force .result) (take (lengths sides .angles) (values sides .angles))
+      (take (lengths sides .angles) (values sides .rounds))
       (take (lengths sides .fixed) (values sides .fixed))
       (sineEntries (take (lengths sides .«log_sines») (values sides .«log_sines»)) (take (lengths sides .«log_sines») (values sides .differences))
       (take (lengths sides .«log_sides») (values sides .«log_sides»))))) buffer end
@@ -118,17 +124,17 @@ module _ (c : tie.After-pass-of) where
   of-pass told e {start} {buffer} {end} held =
       shown sides (Reading.Read readKind readFigure readValue) (read .reading2 .given .1)
       (subst (λ (s : WorkedSheet). Holds start (textOf s) buffer end)
-      (by-kind readKind readFigure readValue _ _ _ (c .pass-of .ensures) e (c .before .before .default-of .ensures) (c .before .in-force .ensures))
+      (by-kind readKind readFigure readValue _ _ _ _ (c .pass-of .ensures) e (c .before .before .default-of .ensures) (c .before .in-force .ensures))
       held)
 
 returns-2 : tie.Need-returns-2
 returns-2 c =
-    let told = c .before .before .before .before .before .before in
+    let told = c .before .before .before .before .before .before .before in
     of-pass (told .before .before) Pass.First (told .enum-told .given .1) (c .before .before .first-sheet .ensures)
 
 returns-3 : tie.Need-returns-3
 returns-3 c =
-    let told = c .before .before .before .before .before .before .before .before in
+    let told = c .before .before .before .before .before .before .before .before .before in
     of-pass (told .before .before) Pass.Second (told .enum-told2 .given .1) (c .before .before .second-sheet .ensures)
 
 pub values-lines-spec : {M : Type 1} → statement M
@@ -145,18 +151,22 @@ values-lines-spec =
     (λ c. search needs)
     (λ c. few-angles (sides (c .before .before .before)))
     (λ c. sym (length-take-le _ _ (few-angles (sides (c .before .before .before .before)))))
-    (λ c. few-fixed (sides (c .before .before .before .before)))
-    (λ c. sym (length-take-le _ _ (few-fixed (sides (c .before .before .before .before .before)))))
+    (λ c. few-rounds (sides (c .before .before .before .before)))
+    (λ c. sym (length-take-le _ _ (few-rounds (sides (c .before .before .before .before .before)))))
+    (λ c. few-fixed (sides (c .before .before .before .before .before)))
+    (λ c. sym (length-take-le _ _ (few-fixed (sides (c .before .before .before .before .before .before)))))
     (λ c κs. search needs)
     (λ c. search needs)
     (λ c. few-angles (sides (c .before .before .before)))
     (λ c. sym (length-take-le _ _ (few-angles (sides (c .before .before .before .before)))))
-    (λ c. few-log-sines (sides (c .before .before .before .before)))
-    (λ c. sym (length-take-le _ _ (few-log-sines (sides (c .before .before .before .before .before)))))
-    (λ c. few-differences (sides (c .before .before .before .before .before)))
-    (λ c. sym (length-take-le _ _ (few-differences (sides (c .before .before .before .before .before .before)))))
-    (λ c. few-log-sides (sides (c .before .before .before .before .before .before)))
-    (λ c. sym (length-take-le _ _ (few-log-sides (sides (c .before .before .before .before .before .before .before)))))
+    (λ c. few-rounds (sides (c .before .before .before .before)))
+    (λ c. sym (length-take-le _ _ (few-rounds (sides (c .before .before .before .before .before)))))
+    (λ c. few-log-sines (sides (c .before .before .before .before .before)))
+    (λ c. sym (length-take-le _ _ (few-log-sines (sides (c .before .before .before .before .before .before)))))
+    (λ c. few-differences (sides (c .before .before .before .before .before .before)))
+    (λ c. sym (length-take-le _ _ (few-differences (sides (c .before .before .before .before .before .before .before)))))
+    (λ c. few-log-sides (sides (c .before .before .before .before .before .before .before)))
+    (λ c. sym (length-take-le _ _ (few-log-sides (sides (c .before .before .before .before .before .before .before .before)))))
     (λ c κs. search needs)
     (λ c. search needs)
     returns

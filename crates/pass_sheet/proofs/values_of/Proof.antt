@@ -45,16 +45,19 @@ slice-aggregate-read-body : tie.Need-slice-aggregate-read-body
 slice-aggregate-read-body c = sym (length-take-le _ _ (few-angles (c .before)))
 
 slice-aggregate-read-body-2 : tie.Need-slice-aggregate-read-body-2
-slice-aggregate-read-body-2 c = sym (length-take-le _ _ (few-fixed (c .before .before)))
+slice-aggregate-read-body-2 c = sym (length-take-le _ _ (few-angles (c .before .before)))
 
 slice-aggregate-read-body-3 : tie.Need-slice-aggregate-read-body-3
-slice-aggregate-read-body-3 c = sym (length-take-le _ _ (few-log-sines (c .before .before .before)))
+slice-aggregate-read-body-3 c = sym (length-take-le _ _ (few-fixed (c .before .before .before)))
 
 slice-aggregate-read-body-4 : tie.Need-slice-aggregate-read-body-4
 slice-aggregate-read-body-4 c = sym (length-take-le _ _ (few-log-sines (c .before .before .before .before)))
 
 slice-aggregate-read-body-5 : tie.Need-slice-aggregate-read-body-5
-slice-aggregate-read-body-5 c = sym (length-take-le _ _ (few-log-sides (c .before .before .before .before .before)))
+slice-aggregate-read-body-5 c = sym (length-take-le _ _ (few-log-sines (c .before .before .before .before .before)))
+
+slice-aggregate-read-body-6 : tie.Need-slice-aggregate-read-body-6
+slice-aggregate-read-body-6 c = sym (length-take-le _ _ (few-log-sides (c .before .before .before .before .before .before)))
 
 -- what the reader left in a part is what stands at the start of the whole
 at-start : {A : Type 0} (reading : Reading) (values : Kind → Figure → List A) (n : ℕ) (part old rest : List A) {m : ℕ}
@@ -86,8 +89,8 @@ left-of pick kind f sheet lent left reading promise =
 
 returns : tie.Need-returns
 returns c =
-    let call = c .before .before .before .before .before in
-    let called = call .before .before .before .before .before .before in
+    let call = c .before .before .before .before .before .before in
+    let called = call .before .before .before .before .before .before .before in
     let start = called .before .before in
     let same = called .lengths-of .ensures in
     let promise = call .read-body .ensures in
@@ -102,47 +105,52 @@ returns c =
     let m = ap (λ (l : Lengths). l .«log_sines») same in
     let s = ap (λ (l : Lengths). l .«log_sides») same in
     let angles = length-take-le {A = ℕ} (lengths called .angles) (replicate mostAngles 0) (few-angles called) in
+    let rounds = length-take-le {A = ℕ} (lengths called .angles) (replicate mostAngles 0) (few-angles called) in
     let fixed = length-take-le {A = ℕ} (lengths called .fixed) (replicate mostFixed 0) (few-fixed called) in
     let log-sines = length-take-le {A = ℕ} (lengths called .«log_sines») (replicate mostAngles 0) (few-log-sines called) in
     let differences = length-take-le {A = ℤ} (lengths called .«log_sines») (replicate mostAngles (pos 0)) (few-log-sines called) in
     let log-sides = length-take-le {A = ℕ} (lengths called .«log_sides») (replicate mostSides 0) (few-log-sides called) in
     let entry : Slices =
-    slices (take (lengths called .angles) (replicate mostAngles 0)) (take (lengths called .fixed) (replicate mostFixed 0))
+    slices (take (lengths called .angles) (replicate mostAngles 0)) (take (lengths called .angles) (replicate mostAngles 0)) (take (lengths called .fixed) (replicate mostFixed 0))
     (take (lengths called .«log_sines») (replicate mostAngles 0)) (take (lengths called .«log_sines») (replicate mostAngles (pos 0)))
     (take (lengths called .«log_sides») (replicate mostSides 0)) in
     let left : Slices =
-    slices (last .1 .1 .1 .0) (last .1 .1 .1 .1 .0) (last .1 .1 .1 .1 .1 .0) (last .1 .1 .1 .1 .1 .1 .0) (last .1 .1 .1 .1 .1 .1 .1 .0) in
+    slices (last .1 .1 .1 .0) (last .1 .1 .1 .1 .0) (last .1 .1 .1 .1 .1 .0) (last .1 .1 .1 .1 .1 .1 .0) (last .1 .1 .1 .1 .1 .1 .1 .0) (last .1 .1 .1 .1 .1 .1 .1 .1 .0) in
     record {
       full = record {
         angles-full = put-back (lengths called .angles) (last .1 .1 .1 .0) (replicate mostAngles 0) (size .1 .1 .1 .0);
-        fixed-full = put-back (lengths called .fixed) (last .1 .1 .1 .1 .0) (replicate mostFixed 0) (size .1 .1 .1 .1 .0);
+        rounds-full = put-back (lengths called .angles) (last .1 .1 .1 .1 .0) (replicate mostAngles 0) (size .1 .1 .1 .1 .0);
+        fixed-full = put-back (lengths called .fixed) (last .1 .1 .1 .1 .1 .0) (replicate mostFixed 0) (size .1 .1 .1 .1 .1 .0);
         log-sines-full =
-            put-back (lengths called .«log_sines») (last .1 .1 .1 .1 .1 .0) (replicate mostAngles 0) (size .1 .1 .1 .1 .1 .0);
+            put-back (lengths called .«log_sines») (last .1 .1 .1 .1 .1 .1 .0) (replicate mostAngles 0) (size .1 .1 .1 .1 .1 .1 .0);
         differences-full =
-            put-back (lengths called .«log_sines») (last .1 .1 .1 .1 .1 .1 .0) (replicate mostAngles (pos 0)) (size .1 .1 .1 .1 .1 .1 .0);
+            put-back (lengths called .«log_sines») (last .1 .1 .1 .1 .1 .1 .1 .0) (replicate mostAngles (pos 0)) (size .1 .1 .1 .1 .1 .1 .1 .0);
         log-sides-full =
-            put-back (lengths called .«log_sides») (last .1 .1 .1 .1 .1 .1 .1 .0) (replicate mostSides 0) (size .1 .1 .1 .1 .1 .1 .1 .0);
+            put-back (lengths called .«log_sides») (last .1 .1 .1 .1 .1 .1 .1 .1 .0) (replicate mostSides 0) (size .1 .1 .1 .1 .1 .1 .1 .1 .0);
       };
       reading-is =
           promise .answered
           ∙ λ i. readingAfter (judged (bodyRows kind f sheet
-          ((angles ∙ n) i ∷ (fixed ∙ k) i ∷ (log-sines ∙ m) i ∷ (differences ∙ m) i ∷ (log-sides ∙ s) i ∷ []))) kind f sheet;
+          ((angles ∙ n) i ∷ (rounds ∙ n) i ∷ (fixed ∙ k) i ∷ (log-sines ∙ m) i ∷ (differences ∙ m) i ∷ (log-sides ∙ s) i ∷ []))) kind f sheet;
       angles-are =
           at-start reading (λ κ g. valuesRead κ g sheet .angles) (angleCount f) (last .1 .1 .1 .0) (entry .angles) _ n
           (size .1 .1 .1 .0 ∙ angles) (left-of (λ (s : Slices). s .angles) kind f sheet entry left reading promise);
+      rounds-are =
+          at-start reading (λ κ g. valuesRead κ g sheet .rounds) (angleCount f) (last .1 .1 .1 .1 .0) (entry .rounds) _ n
+          (size .1 .1 .1 .1 .0 ∙ rounds) (left-of (λ (s : Slices). s .rounds) kind f sheet entry left reading promise);
       fixed-are =
-          at-start reading (λ κ g. valuesRead κ g sheet .fixed) (fixedIn kind f) (last .1 .1 .1 .1 .0) (entry .fixed) _ k
-          (size .1 .1 .1 .1 .0 ∙ fixed) (left-of (λ (s : Slices). s .fixed) kind f sheet entry left reading promise);
+          at-start reading (λ κ g. valuesRead κ g sheet .fixed) (fixedIn kind f) (last .1 .1 .1 .1 .1 .0) (entry .fixed) _ k
+          (size .1 .1 .1 .1 .1 .0 ∙ fixed) (left-of (λ (s : Slices). s .fixed) kind f sheet entry left reading promise);
       log-sines-are =
-          at-start reading (λ κ g. valuesRead κ g sheet .logSines) (sineEntriesIn kind f) (last .1 .1 .1 .1 .1 .0) (entry .logSines) _ m
-          (size .1 .1 .1 .1 .1 .0 ∙ log-sines) (left-of (λ (s : Slices). s .logSines) kind f sheet entry left reading promise);
+          at-start reading (λ κ g. valuesRead κ g sheet .logSines) (sineEntriesIn kind f) (last .1 .1 .1 .1 .1 .1 .0) (entry .logSines) _ m
+          (size .1 .1 .1 .1 .1 .1 .0 ∙ log-sines) (left-of (λ (s : Slices). s .logSines) kind f sheet entry left reading promise);
       differences-are =
-          at-start reading (λ κ g. valuesRead κ g sheet .differences) (sineEntriesIn kind f) (last .1 .1 .1 .1 .1 .1 .0)
-          (entry .differences) _ m (size .1 .1 .1 .1 .1 .1 .0 ∙ differences)
+          at-start reading (λ κ g. valuesRead κ g sheet .differences) (sineEntriesIn kind f) (last .1 .1 .1 .1 .1 .1 .1 .0)
+          (entry .differences) _ m (size .1 .1 .1 .1 .1 .1 .1 .0 ∙ differences)
           (left-of (λ (s : Slices). s .differences) kind f sheet entry left reading promise);
       log-sides-are =
-          at-start reading (λ κ g. valuesRead κ g sheet .logSides) (sidesIn kind f) (last .1 .1 .1 .1 .1 .1 .1 .0) (entry .logSides) _ s
-          (size .1 .1 .1 .1 .1 .1 .1 .0 ∙ log-sides) (left-of (λ (s : Slices). s .logSides) kind f sheet entry left reading promise);
+          at-start reading (λ κ g. valuesRead κ g sheet .logSides) (sidesIn kind f) (last .1 .1 .1 .1 .1 .1 .1 .1 .0) (entry .logSides) _ s
+          (size .1 .1 .1 .1 .1 .1 .1 .1 .0 ∙ log-sides) (left-of (λ (s : Slices). s .logSides) kind f sheet entry left reading promise);
     }
 
 pub values-of-spec : {M : Type 1} → statement M
@@ -152,13 +160,15 @@ values-of-spec =
     (λ c κs. search needs)
     (λ c. few-angles c)
     slice-aggregate-read-body
-    (λ c. few-fixed (c .before))
+    (λ c. few-angles (c .before))
     slice-aggregate-read-body-2
-    (λ c. few-log-sines (c .before .before))
+    (λ c. few-fixed (c .before .before))
     slice-aggregate-read-body-3
     (λ c. few-log-sines (c .before .before .before))
     slice-aggregate-read-body-4
-    (λ c. few-log-sides (c .before .before .before .before))
+    (λ c. few-log-sines (c .before .before .before .before))
     slice-aggregate-read-body-5
+    (λ c. few-log-sides (c .before .before .before .before .before))
+    slice-aggregate-read-body-6
     (λ c κs. search needs)
     returns)

@@ -28,23 +28,24 @@ use Rattle.pass_sheet.proofs.worked_lines.Statement.{statement}
 use Rattle.pass_sheet.proofs.worked_lines.Tie as tie
 
 -- lists that hold what the reader gives, where it gives it, work as the reader's own
-from-read : (q : Reading) (sheet : List ℕ) (angles fixed logSines : List ℕ) (differences : List ℤ) (logSides : List ℕ)
+from-read : (q : Reading) (sheet : List ℕ) (angles rounds fixed logSines : List ℕ) (differences : List ℤ) (logSides : List ℕ)
     → angles ≡ afterReading q (λ k g. valuesRead k g sheet .angles) angles
+    → rounds ≡ afterReading q (λ k g. valuesRead k g sheet .rounds) rounds
     → fixed ≡ afterReading q (λ k g. valuesRead k g sheet .fixed) fixed
     → logSines ≡ afterReading q (λ k g. valuesRead k g sheet .logSines) logSines
     → differences ≡ afterReading q (λ k g. valuesRead k g sheet .differences) differences
     → logSides ≡ afterReading q (λ k g. valuesRead k g sheet .logSides) logSides
-    → workedReading q angles fixed (sineEntries logSines differences logSides) ≡ workedRead q sheet
-from-read (Reading.Refused r) sheet angles fixed logSines differences logSides a x l d s = refl
-from-read (Read k g e) sheet angles fixed logSines differences logSides a x l d s =
-    λ i. workedKind k g e (a i) (x i) (sineEntries (l i) (d i) (s i))
+    → workedReading q angles rounds fixed (sineEntries logSines differences logSides) ≡ workedRead q sheet
+from-read (Reading.Refused r) sheet angles rounds fixed logSines differences logSides a o x l d s = refl
+from-read (Read k g e) sheet angles rounds fixed logSines differences logSides a o x l d s =
+    λ i. workedKind k g e (a i) (o i) (x i) (sineEntries (l i) (d i) (s i))
 
 read-into : (sheet : List ℕ) (kind : Kind) (f : Figure) (v : SheetValues) → ReadInto sheet kind f v
     → workedFrom kind f v ≡ workedRead (readingAfter (judged (bodyRows kind f sheet (ownLengths kind f))) kind f sheet) sheet
 read-into sheet kind f v into =
-    from-read (v .reading) sheet (take (angleCount f) (v .angles)) (take (fixedIn kind f) (v .fixed))
+    from-read (v .reading) sheet (take (angleCount f) (v .angles)) (take (angleCount f) (v .rounds)) (take (fixedIn kind f) (v .fixed))
     (take (sineEntriesIn kind f) (v .«log_sines»)) (take (sineEntriesIn kind f) (v .differences)) (take (sidesIn kind f) (v .«log_sides»))
-    (into .angles-are) (into .fixed-are) (into .log-sines-are) (into .differences-are) (into .log-sides-are)
+    (into .angles-are) (into .rounds-are) (into .fixed-are) (into .log-sines-are) (into .differences-are) (into .log-sides-are)
     ∙ ap (λ (q : Reading). workedRead q sheet) (into .reading-is)
 
 -- the text goes by the look

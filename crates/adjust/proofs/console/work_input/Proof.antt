@@ -12,13 +12,13 @@ use Rattle.adjust.proofs.console.work_input.Statement.{statement}
 use Rattle.adjust.proofs.console.work_input.Tie as tie
 
 abbrev Inv-loop : tie.InvT-loop
-Inv-loop sheet₀ size₀ more₀ has-failed₀ t6 sheet size more has-failed = (size ≤ 199) × (length sheet ≡ 199)
+Inv-loop sheet₀ size₀ more₀ has-failed₀ t6 sheet size more has-failed = (size ≤ 223) × (length sheet ≡ 223)
 
 abbrev μ-loop : tie.MeasureT-loop
-μ-loop sheet₀ size₀ more₀ has-failed₀ t6 sheet size more has-failed = 2 * (199 - size) + more
+μ-loop sheet₀ size₀ more₀ has-failed₀ t6 sheet size more has-failed = 2 * (223 - size) + more
 
-still-whole : (size : ℕ) (sheet got : List ℕ) → length sheet ≡ 199 → length got ≡ length (midOf size (199 - size) sheet) → length (putMid size (199 - size) sheet got) ≡ 199
-still-whole size sheet got whole kept = same-len-mid size (199 - size) sheet got kept ∙ whole
+still-whole : (size : ℕ) (sheet got : List ℕ) → length sheet ≡ 223 → length got ≡ length (midOf size (223 - size) sheet) → length (putMid size (223 - size) sheet got) ≡ 223
+still-whole size sheet got whole kept = same-len-mid size (223 - size) sheet got kept ∙ whole
 
 part-count-end : tie.Need-part-count-end Inv-loop μ-loop
 part-count-end c =

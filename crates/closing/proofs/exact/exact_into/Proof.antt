@@ -41,26 +41,27 @@ module _ (s : tie.Start) where
   abbrev entry : FirstLent
   entry =
       firstLent (now (s .args .misclosures)) (now (s .args .numerators)) (take n (replicate 24 (pos 0))) (take n (replicate 24 0))
-      (take m (replicate 9 (pos 0)))
+      (take n (replicate 24 0)) (take m (replicate 9 (pos 0)))
 
   lengths : firstResultsLent entry ≡ firstResultLengths (s .args .figure)
   lengths =
       let angles = sym lent-angles ∙ s .pre .1 in
       let naturals = sym lent-naturals ∙ s .pre .1 in
       let conditions = sym lent-conditions ∙ s .pre .0 in
-      λ i. s .pre .0 i ∷ s .pre .1 i ∷ angles i ∷ naturals i ∷ conditions i ∷ []
+      λ i. s .pre .0 i ∷ s .pre .1 i ∷ angles i ∷ naturals i ∷ naturals i ∷ conditions i ∷ []
 
 returns : tie.Need-returns
 returns c =
-    let p = c .before .before .before .before .before in
-    let s = p .before .before .before .before .before .before .before .before in
+    let p = c .before .before .before .before .before .before in
+    let s = p .before .before .before .before .before .before .before .before .before .before in
     let f = s .args .figure in
     let angles = now (s .args .angles) in
+    let rounds = now (s .args .rounds) in
     let fixed = now (s .args .fixed) in (
-      pass-answered f (s .args .limit) angles fixed (entry s) (lengths s) (p .first-pass-of .ensures),
+      pass-answered f (s .args .limit) angles rounds fixed (entry s) (lengths s) (p .first-pass-of .ensures),
       (
-        pass-leaves f (s .args .limit) angles fixed (entry s) (lengths s) (p .first-pass-of .ensures) (λ (l : FirstLent). l .misclosures),
-        pass-leaves f (s .args .limit) angles fixed (entry s) (lengths s) (p .first-pass-of .ensures) (λ (l : FirstLent). l .numerators),
+        pass-leaves f (s .args .limit) angles rounds fixed (entry s) (lengths s) (p .first-pass-of .ensures) (λ (l : FirstLent). l .misclosures),
+        pass-leaves f (s .args .limit) angles rounds fixed (entry s) (lengths s) (p .first-pass-of .ensures) (λ (l : FirstLent). l .numerators),
       ),
     )
 
@@ -68,12 +69,14 @@ pub exact-into-spec : {M : Type 1} → statement M
 exact-into-spec =
     tie.close
     (tie.spec
-    (λ c. few-angles (c .before .before .before .before))
-    (λ c. lent-angles (c .before .before .before .before .before))
     (λ c. few-angles (c .before .before .before .before .before))
-    (λ c. lent-naturals (c .before .before .before .before .before .before))
-    (λ c. few-conditions (c .before .before .before .before .before .before))
-    (λ c. lent-conditions (c .before .before .before .before .before .before .before))
+    (λ c. lent-angles (c .before .before .before .before .before .before))
+    (λ c. few-angles (c .before .before .before .before .before .before))
+    (λ c. lent-naturals (c .before .before .before .before .before .before .before))
+    (λ c. few-angles (c .before .before .before .before .before .before .before))
+    (λ c. lent-naturals (c .before .before .before .before .before .before .before .before))
+    (λ c. few-conditions (c .before .before .before .before .before .before .before .before))
+    (λ c. lent-conditions (c .before .before .before .before .before .before .before .before .before))
     (λ c κs. search needs)
     (λ c. search needs)
     (λ c. search needs)

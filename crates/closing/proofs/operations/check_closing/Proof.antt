@@ -8,17 +8,17 @@ use Rattle.closing.proofs.operations.check_closing.Statement.{statement
 use Rattle.closing.proofs.operations.check_closing.Tie as tie
 
 abbrev given : tie.Start → FirstGiven
-given s = firstGiven (s .args .code) (s .args .n) (s .args .limit) (now (s .args .angles)) (now (s .args .fixed))
+given s = firstGiven (s .args .code) (s .args .n) (s .args .limit) (now (s .args .angles)) (now (s .args .rounds)) (now (s .args .fixed))
 
 returns : tie.Need-returns
 returns c =
-    let s = c .before .before .before .before .before in
+    let s = c .before .before .before .before .before .before in
     check-none-named (given s) (now (s .args .offered)) (sym (c .before .before .figure-of .ensures) ∙ c .enum-told .given .1)
 
 returns-2 : tie.Need-returns-2
 returns-2 c =
     let named = c .before .before in
-    let s = named .before .before .before .before .before in
+    let s = named .before .before .before .before .before .before in
     c .check-of .ensures
     ∙ check-of-figure (given s) (now (s .args .offered)) _ (sym (named .before .before .figure-of .ensures) ∙ named .figure .given .1)
 

@@ -23,7 +23,7 @@ use Rattle.closing.proofs.operations.check_of.Tie as tie
 
 module _ (c : tie.After-counts-of) where
   abbrev start : tie.Start
-  start = c .before .before .before
+  start = c .before .before .before .before
 
   abbrev n : ℕ
   n = c .counts-of .result .angles
@@ -53,7 +53,7 @@ returns : tie.Need-returns
 returns c =
     let k = c .before in
     let s = start k in
-    check-length (s .args .figure) (s .args .limit) (now (s .args .angles)) (now (s .args .fixed)) (now (s .args .offered))
+    check-length (s .args .figure) (s .args .limit) (now (s .args .angles)) (now (s .args .rounds)) (now (s .args .fixed)) (now (s .args .offered))
     (λ same. c .if1 .taken (same ∙ sym (n-is k)))
 
 exact-into-requires : tie.Need-exact-into-requires
@@ -73,16 +73,16 @@ module _ (p : tie.After-exact-into) where
   own = p .before .before .before .if1 .left ∙ n-is counts
 
   abbrev w-part : List ℤ
-  w-part = p .exact-into .last .1 .1 .1 .1 .0
+  w-part = p .exact-into .last .1 .1 .1 .1 .1 .0
 
   abbrev exact-part : List ℤ
-  exact-part = p .exact-into .last .1 .1 .1 .1 .1 .0
+  exact-part = p .exact-into .last .1 .1 .1 .1 .1 .1 .0
 
   w-again : Again (m counts) (replicate 9 (pos 0)) w-part
-  w-again = again (m counts) (replicate 9 (pos 0)) (few-conditions counts) w-part (p .exact-into .kept .1 .1 .1 .1 .0)
+  w-again = again (m counts) (replicate 9 (pos 0)) (few-conditions counts) w-part (p .exact-into .kept .1 .1 .1 .1 .1 .0)
 
   exact-again : Again (n counts) (replicate 24 (pos 0)) exact-part
-  exact-again = again (n counts) (replicate 24 (pos 0)) (few-angles counts) exact-part (p .exact-into .kept .1 .1 .1 .1 .1 .0)
+  exact-again = again (n counts) (replicate 24 (pos 0)) (few-angles counts) exact-part (p .exact-into .kept .1 .1 .1 .1 .1 .1 .0)
 
   abbrev w : List ℤ
   w = take (m counts) (w-part ++ drop (m counts) (replicate 9 (pos 0)))
@@ -94,7 +94,7 @@ returns-2 : tie.Need-returns-2
 returns-2 c =
     let p = c .before .before .before .before in
     let s = first p in
-    check-refused (s .args .figure) (s .args .limit) (now (s .args .angles)) (now (s .args .fixed)) (now (s .args .offered)) (own p) (p .exact-into .result)
+    check-refused (s .args .figure) (s .args .limit) (now (s .args .angles)) (now (s .args .rounds)) (now (s .args .fixed)) (now (s .args .offered)) (own p) (p .exact-into .result)
     (p .exact-into .ensures .0) _ (c .enum-told .given .1)
 
 -- the pass is accepted
@@ -105,14 +105,14 @@ module _ (t : tie.After-enum-told2) where
   abbrev s : tie.Start
   s = first p
 
-  passed : judged (passRows (s .args .figure) (s .args .limit) (now (s .args .angles)) (now (s .args .fixed))) ≡ Passed
+  passed : judged (passRows (s .args .figure) (s .args .limit) (now (s .args .angles)) (now (s .args .rounds)) (now (s .args .fixed))) ≡ Passed
   passed = sym (p .exact-into .ensures .0) ∙ t .enum-told2 .given .1
 
   w-is : w p ≡ misclosuresOf (s .args .figure) (now (s .args .angles)) (now (s .args .fixed))
-  w-is = w-again p .is ∙ misclosures-are (s .args .figure) (s .args .limit) (now (s .args .angles)) (now (s .args .fixed)) passed _ (p .exact-into .ensures .1 .0)
+  w-is = w-again p .is ∙ misclosures-are (s .args .figure) (s .args .limit) (now (s .args .angles)) (now (s .args .rounds)) (now (s .args .fixed)) passed _ (p .exact-into .ensures .1 .0)
 
   exact-is : exact p ≡ numeratorsOf (s .args .figure) (now (s .args .angles)) (now (s .args .fixed))
-  exact-is = exact-again p .is ∙ numerators-are (s .args .figure) (s .args .limit) (now (s .args .angles)) (now (s .args .fixed)) passed _ (p .exact-into .ensures .1 .1)
+  exact-is = exact-again p .is ∙ numerators-are (s .args .figure) (s .args .limit) (now (s .args .angles)) (now (s .args .rounds)) (now (s .args .fixed)) passed _ (p .exact-into .ensures .1 .1)
 
 choice-verdict-requires : tie.Need-choice-verdict-requires
 choice-verdict-requires c κs =
@@ -120,6 +120,7 @@ choice-verdict-requires c κs =
     let q = p t in
     let f = s t .args .figure in
     let angles = now (s t .args .angles) in
+    let rounds = now (s t .args .rounds) in
     let fixed = now (s t .args .fixed) in (
       ap (λ (k : Counts). k .denominator) (counts q .counts-of .ensures),
       (
@@ -129,8 +130,8 @@ choice-verdict-requires c κs =
           (
             own q,
             (
-              λ i. rw (w-is t) (misclosures-small f (s t .args .limit) angles fixed (passed t) i),
-              λ i. rw (exact-is t) (numerators-small f (s t .args .limit) angles fixed (passed t) i),
+              λ i. rw (w-is t) (misclosures-small f (s t .args .limit) angles rounds fixed (passed t) i),
+              λ i. rw (exact-is t) (numerators-small f (s t .args .limit) angles rounds fixed (passed t) i),
             ),
           ),
         ),
@@ -143,11 +144,12 @@ returns-3 c =
     let q = p t in
     let f = s t .args .figure in
     let angles = now (s t .args .angles) in
+    let rounds = now (s t .args .rounds) in
     let fixed = now (s t .args .fixed) in
     let offered = now (s t .args .offered) in
     c .choice-verdict .ensures
     ∙ ap₂ (λ (x y : List ℤ). verdictOf (choiceRow (tenthsUnder f x) (tenthsOver f x) offered (restsLeft f y offered))) (exact-is t) (w-is t)
-    ∙ check-asked f (s t .args .limit) angles fixed offered (own q) (q .exact-into .result) (q .exact-into .ensures .0) (t .enum-told2 .given .1)
+    ∙ check-asked f (s t .args .limit) angles rounds fixed offered (own q) (q .exact-into .result) (q .exact-into .ensures .0) (t .enum-told2 .given .1)
 
 pub check-of-spec : {M : Type 1} → statement M
 check-of-spec =

@@ -8,18 +8,18 @@ use Rattle.closing.proofs.operations.closing_corrections.Statement.{sta
 use Rattle.closing.proofs.operations.closing_corrections.Tie as tie
 
 abbrev given : tie.Start → FirstGiven
-given s = firstGiven (s .args .code) (s .args .n) (s .args .limit) (now (s .args .angles)) (now (s .args .fixed))
+given s = firstGiven (s .args .code) (s .args .n) (s .args .limit) (now (s .args .angles)) (now (s .args .rounds)) (now (s .args .fixed))
 
 returns : tie.Need-returns
 returns c =
-    let s = c .before .before .before .before .before in
+    let s = c .before .before .before .before .before .before in
     none-named (given s) (now (s .args .corrections)) (sym (c .before .before .figure-of .ensures) ∙ c .enum-told .given .1)
 
 returns-2 : tie.Need-returns-2
 returns-2 c =
     let called = c .before in
     let named = called .before .before .before in
-    let s = named .before .before .before .before .before in
+    let s = named .before .before .before .before .before .before in
     of-figure (given s) (now (s .args .corrections)) _ (sym (named .before .before .figure-of .ensures) ∙ named .figure .given .1) (called .closing-of .ensures)
 
 pub closing-corrections-spec : {M : Type 1} → statement M

@@ -19,7 +19,7 @@ use Rattle.closing.proofs.operations.closing_of.Tie as tie
 
 module _ (c : tie.After-counts-of) where
   abbrev start : tie.Start
-  start = c .before .before .before
+  start = c .before .before .before .before
 
   abbrev n : ℕ
   n = c .counts-of .result .angles
@@ -49,7 +49,7 @@ returns : tie.Need-returns
 returns c =
     let k = c .before in
     let s = start k in
-    refused-length (s .args .figure) (s .args .limit) (now (s .args .angles)) (now (s .args .fixed)) (now (s .args .corrections))
+    refused-length (s .args .figure) (s .args .limit) (now (s .args .angles)) (now (s .args .rounds)) (now (s .args .fixed)) (now (s .args .corrections))
     (λ same. c .if1 .taken (same ∙ sym (n-is k)))
 
 exact-into-requires : tie.Need-exact-into-requires
@@ -69,10 +69,10 @@ module _ (p : tie.After-exact-into) where
   own = p .before .before .before .if1 .left ∙ n-is counts
 
   abbrev part : List ℤ
-  part = p .exact-into .last .1 .1 .1 .1 .1 .0
+  part = p .exact-into .last .1 .1 .1 .1 .1 .1 .0
 
   part-again : Again (n counts) (replicate 24 (pos 0)) part
-  part-again = again (n counts) (replicate 24 (pos 0)) (few-angles counts) part (p .exact-into .kept .1 .1 .1 .1 .1 .0)
+  part-again = again (n counts) (replicate 24 (pos 0)) (few-angles counts) part (p .exact-into .kept .1 .1 .1 .1 .1 .1 .0)
 
   abbrev exact : List ℤ
   exact = take (n counts) (part ++ drop (n counts) (replicate 24 (pos 0)))
@@ -88,8 +88,8 @@ choice-into-requires c κs =
         sym (part-again p .size) ∙ n-is (counts p),
         (
           own p,
-          λ i. rw (part-again p .is ∙ numerators-are (s .args .figure) (s .args .limit) (now (s .args .angles)) (now (s .args .fixed)) passed _ (p .exact-into .ensures .1 .1))
-              (numerators-small (s .args .figure) (s .args .limit) (now (s .args .angles)) (now (s .args .fixed)) passed i),
+          λ i. rw (part-again p .is ∙ numerators-are (s .args .figure) (s .args .limit) (now (s .args .angles)) (now (s .args .rounds)) (now (s .args .fixed)) passed _ (p .exact-into .ensures .1 .1))
+              (numerators-small (s .args .figure) (s .args .limit) (now (s .args .angles)) (now (s .args .rounds)) (now (s .args .fixed)) passed i),
         ),
       ),
     )
@@ -99,14 +99,14 @@ returns-2 c =
     let told = c .before .before .before .before .before in
     let p = told .before .before .before .before in
     let s = first p in
-    chosen-by-pass (s .args .figure) (s .args .limit) (now (s .args .angles)) (now (s .args .fixed)) (now (s .args .corrections)) (own p) (p .exact-into .result)
+    chosen-by-pass (s .args .figure) (s .args .limit) (now (s .args .angles)) (now (s .args .rounds)) (now (s .args .fixed)) (now (s .args .corrections)) (own p) (p .exact-into .result)
     (p .exact-into .ensures .0) (told .enum-told .given .1) (exact p) _ (part-again p .is ∙ p .exact-into .ensures .1 .1) (c .before .choice-into .ensures)
 
 returns-3 : tie.Need-returns-3
 returns-3 c =
     let p = c .before .before .before .before in
     let s = first p in
-    refused-by-pass (s .args .figure) (s .args .limit) (now (s .args .angles)) (now (s .args .fixed)) (now (s .args .corrections)) (own p) (p .exact-into .result)
+    refused-by-pass (s .args .figure) (s .args .limit) (now (s .args .angles)) (now (s .args .rounds)) (now (s .args .fixed)) (now (s .args .corrections)) (own p) (p .exact-into .result)
     (p .exact-into .ensures .0) _ (c .enum-told2 .given .1)
 
 pub closing-of-spec : {M : Type 1} → statement M

@@ -20,6 +20,7 @@ module _ (at : tie.After-counts-of) where
   lengths = at .before .lengths-of .result
 
   few : (lengths .angles ≤ 24) × (lengths .fixed ≤ 24) × (lengths .«log_sines» ≤ 24) × (at .counts-of .result .conditions ≤ 24) × (lengths .«log_sides» ≤ 24)
+      × (lengths .rounds ≤ 24)
   few =
       let kind = start .args .kind in
       let f = start .args .figure in
@@ -29,6 +30,7 @@ module _ (at : tie.After-counts-of) where
         omega (arith, ap (λ (l : Lengths). l .«log_sines») own, sines-in-few kind f),
         omega (arith, ap (λ (n : Counts). n .conditions) (at .counts-of .ensures), condition-bound f),
         omega (arith, ap (λ (l : Lengths). l .«log_sides») own, sides-in-few kind f),
+        omega (arith, ap (λ (l : Lengths). l .rounds) own, angle-bound f),
       )
 
 cast-t7 : tie.Need-cast-t7
@@ -46,13 +48,17 @@ cast-t10 c = record { fits = omega (arith, few (c .before .before .before .befor
 cast-t11 : tie.Need-cast-t11
 cast-t11 c = record { fits = omega (arith, few (c .before .before .before .before .before)) }
 
+cast-t12 : tie.Need-cast-t12
+cast-t12 c = record { fits = omega (arith, few (c .before .before .before .before .before .before)) }
+
 abbrev shown : (number : ℕ) → Name → Lengths → Counts → List ℕ
 shown number name lengths counts =
-    number ∷ name .code ∷ name .n ∷ lengths .angles ∷ lengths .fixed ∷ lengths .«log_sines» ∷ counts .conditions ∷ lengths .«log_sides» ∷ []
+    number ∷ name .code ∷ name .n ∷ lengths .angles ∷ lengths .fixed ∷ lengths .«log_sines» ∷ counts .conditions ∷ lengths .«log_sides»
+    ∷ lengths .rounds ∷ []
 
 returns : tie.Need-returns
 returns c =
-    let at = c .before .before .before .before .before in
+    let at = c .before .before .before .before .before .before in
     ap₂ (λ (number : ℕ) (name : Name). shown number name (at .before .lengths-of .result) (at .counts-of .result))
     (at .before .before .before .number-of-kind .ensures) (at .before .before .name-of .ensures)
     ∙ ap₂ (shown _ _) (at .before .lengths-of .ensures) (at .counts-of .ensures)
@@ -70,4 +76,5 @@ head-of-spec =
     cast-t9
     cast-t10
     cast-t11
+    cast-t12
     returns)

@@ -10,34 +10,34 @@ use Rattle.controller.proofs.read.bienguloc_read.Statement.{statement}
 use Rattle.controller.proofs.read.bienguloc_read.Tie as tie
 
 -- the call of the reader, the test before it, and the start
-abbrev called : tie.After-slice-known9 → tie.After-read-sheet
-called c = c .before .before .before .before .before .before .before .before .before
+abbrev called : tie.After-slice-known11 → tie.After-read-sheet
+called c = c .before .before .before .before .before .before .before .before .before .before .before
 
 abbrev tested : tie.After-read-sheet → tie.Else1
-tested c = c .before .before .before .before .before .before
+tested c = c .before .before .before .before .before .before .before
 
 abbrev start : tie.Else1 → tie.Start
-start c = c .before .before .before .before .before .before .before
+start c = c .before .before .before .before .before .before .before .before
 
 -- what is lent
 abbrev lent : tie.Start → ReadLent
-lent s = readLent (now (s .args .head)) (slices (now (s .args .angles)) (now (s .args .fixed)) (now (s .args .log-sines)) (now (s .args .differences)) (now (s .args .log-sides)))
+lent s = readLent (now (s .args .head)) (slices (now (s .args .angles)) (now (s .args .rounds)) (now (s .args .fixed)) (now (s .args .log-sines)) (now (s .args .differences)) (now (s .args .log-sides)))
 
 -- what the reader left
 abbrev left : tie.After-read-sheet → Slices
 left c =
     let z = c .read-sheet .last .1 in
-    slices (z .0) (z .1 .0) (z .1 .1 .0) (z .1 .1 .1 .0) (z .1 .1 .1 .1 .0)
+    slices (z .0) (z .1 .0) (z .1 .1 .0) (z .1 .1 .1 .0) (z .1 .1 .1 .1 .0) (z .1 .1 .1 .1 .1 .0)
 
 refused-requires : tie.Need-refused-requires
 refused-requires c κs =
-    let s = c .before .before .before .before .before .before .before .before in
+    let s = c .before .before .before .before .before .before .before .before .before in
     wrong-head-small (now (s .args .sheet)) (lent s) (c .before .if1 .taken) (c .refusal-of-lengths .result) (c .refusal-of-lengths .ensures)
 
 returns : tie.Need-returns
 returns c =
     let told = c .before in
-    let s = told .before .before .before .before .before .before .before .before in
+    let s = told .before .before .before .before .before .before .before .before .before in
     wrong-head (now (s .args .sheet)) (lent s) (told .before .if1 .taken) (told .refusal-of-lengths .result) (told .refusal-of-lengths .ensures) (c .refused .ensures)
 
 refused-requires-2 : tie.Need-refused-requires-2
@@ -90,6 +90,7 @@ bienguloc-read-spec =
     (λ c. called (c .before .before .before .before) .read-sheet .kept .1 .1 .1 .0)
     (λ c. called (c .before .before .before .before) .read-sheet .kept .1 .1 .1 .1 .0)
     (λ c. called (c .before .before .before .before) .read-sheet .kept .1 .1 .1 .1 .1 .0)
+    (λ c. called (c .before .before .before .before) .read-sheet .kept .1 .1 .1 .1 .1 .1 .0)
     returns-2
     (λ c. search needs)
     (λ c. called (c .before .before .before .before .before .before .before .before .before) .read-sheet .kept .1 .0)
@@ -97,4 +98,5 @@ bienguloc-read-spec =
     (λ c. called (c .before .before .before .before .before .before .before .before .before) .read-sheet .kept .1 .1 .1 .0)
     (λ c. called (c .before .before .before .before .before .before .before .before .before) .read-sheet .kept .1 .1 .1 .1 .0)
     (λ c. called (c .before .before .before .before .before .before .before .before .before) .read-sheet .kept .1 .1 .1 .1 .1 .0)
+    (λ c. called (c .before .before .before .before .before .before .before .before .before) .read-sheet .kept .1 .1 .1 .1 .1 .1 .0)
     returns-3)

@@ -15,10 +15,10 @@ use Rattle.controller.proofs.rounding.bienguloc_check_closing.Statement
 use Rattle.controller.proofs.rounding.bienguloc_check_closing.Tie as tie
 
 abbrev sheet : tie.Start → FirstGiven
-sheet s = firstGiven (s .args .code) (s .args .n) (s .args .limit) (now (s .args .angles)) (now (s .args .fixed))
+sheet s = firstGiven (s .args .code) (s .args .n) (s .args .limit) (now (s .args .angles)) (now (s .args .rounds)) (now (s .args .fixed))
 
 abbrev start : tie.After-check-closing → tie.Start
-start c = c .before .before .before
+start c = c .before .before .before .before
 
 answered-requires : tie.Need-answered-requires
 answered-requires c κs =

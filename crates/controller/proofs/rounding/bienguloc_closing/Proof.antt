@@ -27,13 +27,13 @@ module _ (given : FirstGiven) (entry : List ℤ) {verdict : Verdict} {exit : Lis
   answered e = record { answered = e ∙ ap (λ (w : Verdict). answerNumber (verdictTold w)) (promise .answered); leaves = promise .leaves }
 
 abbrev start : tie.After-closing-corrections → tie.Start
-start c = c .before .before .before .before
+start c = c .before .before .before .before .before
 
 abbrev sheet : tie.Start → FirstGiven
-sheet s = firstGiven (s .args .code) (s .args .n) (s .args .limit) (now (s .args .angles)) (now (s .args .fixed))
+sheet s = firstGiven (s .args .code) (s .args .n) (s .args .limit) (now (s .args .angles)) (now (s .args .rounds)) (now (s .args .fixed))
 
 abbrev left : tie.After-closing-corrections → List ℤ
-left c = c .closing-corrections .last .1 .1 .1 .1 .1 .0
+left c = c .closing-corrections .last .1 .1 .1 .1 .1 .1 .0
 
 answered-requires : tie.Need-answered-requires
 answered-requires c κs =
@@ -51,5 +51,5 @@ bienguloc-closing-spec =
     (tie.spec
     (λ c κs. search needs)
     answered-requires
-    (λ c. c .before .before .closing-corrections .kept .1 .1 .1 .1 .1 .0)
+    (λ c. c .before .before .closing-corrections .kept .1 .1 .1 .1 .1 .1 .0)
     returns)

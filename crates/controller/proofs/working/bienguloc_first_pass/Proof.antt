@@ -21,34 +21,34 @@ module _ (given : FirstGiven) (entry : FirstLent) {verdict : Verdict} {exit : Fi
   small =
       subst (λ (w : Verdict). verdictTold w .place < placeStep) (sym (promise .answered))
       (place-small (firstRowsOf given entry)
-      (first-in-table (given .code) (given .n) (given .limit) (given .angles) (given .fixed) (firstLengthsLent given entry)) (first-within given entry))
+      (first-in-table (given .code) (given .n) (given .limit) (given .angles) (given .rounds) (given .fixed) (firstLengthsLent given entry)) (first-within given entry))
 
   answered : {answer : ℕ} → answer ≡ answerNumber (verdictTold verdict) → FirstPassPromise given entry answer exit
   unfolding firstPassVerdict
   answered e = record { answered = e ∙ ap (λ (w : Verdict). answerNumber (verdictTold w)) (promise .answered); leaves = promise .leaves }
 
 abbrev start : tie.After-first-pass → tie.Start
-start c = c .before .before .before .before .before .before .before .before .before
+start c = c .before .before .before .before .before .before .before .before .before .before .before .before
 
 abbrev sheet : tie.Start → FirstGiven
-sheet s = firstGiven (s .args .code) (s .args .n) (s .args .limit) (now (s .args .angles)) (now (s .args .fixed))
+sheet s = firstGiven (s .args .code) (s .args .n) (s .args .limit) (now (s .args .angles)) (now (s .args .rounds)) (now (s .args .fixed))
 
 abbrev lent : tie.Start → FirstLent
-lent s = firstLent (now (s .args .misclosures)) (now (s .args .numerators)) (now (s .args .rounded)) (now (s .args .corrected)) (now (s .args .rests))
+lent s = firstLent (now (s .args .misclosures)) (now (s .args .numerators)) (now (s .args .rounded)) (now (s .args .corrected)) (now (s .args .corrected-rounds)) (now (s .args .rests))
 
 abbrev left : tie.After-first-pass → FirstLent
 left c =
-    let z = c .first-pass .last .1 .1 .1 .1 .1 in
-    firstLent (z .0) (z .1 .0) (z .1 .1 .0) (z .1 .1 .1 .0) (z .1 .1 .1 .1 .0)
+    let z = c .first-pass .last .1 .1 .1 .1 .1 .1 in
+    firstLent (z .0) (z .1 .0) (z .1 .1 .0) (z .1 .1 .1 .0) (z .1 .1 .1 .1 .0) (z .1 .1 .1 .1 .1 .0)
 
 answered-requires : tie.Need-answered-requires
 answered-requires c κs =
-    let called = c .before .before .before .before .before .before in
+    let called = c .before .before .before .before .before .before .before .before in
     small (sheet (start called)) (lent (start called)) {exit = left called} (called .first-pass .ensures)
 
 returns : tie.Need-returns
 returns c =
-    let called = c .before .before .before .before .before .before .before in
+    let called = c .before .before .before .before .before .before .before .before .before in
     answered (sheet (start called)) (lent (start called)) {exit = left called} (called .first-pass .ensures) (c .answered .ensures)
 
 pub bienguloc-first-pass-spec : {M : Type 1} → statement M
@@ -57,9 +57,10 @@ bienguloc-first-pass-spec =
     (tie.spec
     (λ c κs. search needs)
     answered-requires
-    (λ c. c .before .before .before .before .before .before .before .first-pass .kept .1 .1 .1 .1 .1 .0)
-    (λ c. c .before .before .before .before .before .before .before .first-pass .kept .1 .1 .1 .1 .1 .1 .0)
-    (λ c. c .before .before .before .before .before .before .before .first-pass .kept .1 .1 .1 .1 .1 .1 .1 .0)
-    (λ c. c .before .before .before .before .before .before .before .first-pass .kept .1 .1 .1 .1 .1 .1 .1 .1 .0)
-    (λ c. c .before .before .before .before .before .before .before .first-pass .kept .1 .1 .1 .1 .1 .1 .1 .1 .1 .0)
+    (λ c. c .before .before .before .before .before .before .before .before .before .first-pass .kept .1 .1 .1 .1 .1 .1 .0)
+    (λ c. c .before .before .before .before .before .before .before .before .before .first-pass .kept .1 .1 .1 .1 .1 .1 .1 .0)
+    (λ c. c .before .before .before .before .before .before .before .before .before .first-pass .kept .1 .1 .1 .1 .1 .1 .1 .1 .0)
+    (λ c. c .before .before .before .before .before .before .before .before .before .first-pass .kept .1 .1 .1 .1 .1 .1 .1 .1 .1 .0)
+    (λ c. c .before .before .before .before .before .before .before .before .before .first-pass .kept .1 .1 .1 .1 .1 .1 .1 .1 .1 .1 .0)
+    (λ c. c .before .before .before .before .before .before .before .before .before .first-pass .kept .1 .1 .1 .1 .1 .1 .1 .1 .1 .1 .1 .0)
     returns)

@@ -23,24 +23,24 @@ use Rattle.controller.proofs.working.bienguloc_second_pass.Tie as tie
 
 -- the call of the pass, the test before it, and the start
 abbrev called : tie.After-rests → tie.After-second-pass
-called c = c .before .before .before .before .before .before .before .before .before
+called c = c .before .before .before .before .before .before .before .before .before .before .before
 
 abbrev tested : tie.After-second-pass → tie.Else1
-tested c = c .before .before .before .before .before .before .before .before
+tested c = c .before .before .before .before .before .before .before .before .before
 
 abbrev start : tie.After-have-own-lengths → tie.Start
-start c = c .before .before .before .before .before .before .before
+start c = c .before .before .before .before .before .before .before .before .before
 
 abbrev sheet : tie.Start → SecondGiven
 sheet s =
-    secondGiven (s .args .code) (s .args .n) (s .args .tolerance) (now (s .args .angles))
+    secondGiven (s .args .code) (s .args .n) (s .args .tolerance) (now (s .args .angles)) (now (s .args .rounds))
     (sineEntries (now (s .args .log-sines)) (now (s .args .differences)) (now (s .args .log-sides)))
 
 abbrev lent : tie.Start → SumsLent
 lent s =
     sumsLent (now (s .args .sine-misclosures)) (now (s .args .divisor))
     (secondLent (now (s .args .reduced)) (now (s .args .side-reduced)) (now (s .args .numerators-high)) (now (s .args .numerators-low))
-    (now (s .args .rounded)) (now (s .args .adjusted)) (now (s .args .rests)))
+    (now (s .args .rounded)) (now (s .args .adjusted)) (now (s .args .adjusted-rounds)) (now (s .args .rests)))
 
 wrong : (test : tie.Then1) → ownLengths (sheet (start (test .before))) (lent (start (test .before))) ≡ false
 wrong test = sym (test .before .have-own-lengths .ensures) ∙ not-true _ (test .if1 .taken)
@@ -51,8 +51,9 @@ right test = sym (test .before .have-own-lengths .ensures) ∙ not-false _ (test
 -- what the pass left
 abbrev left : tie.After-second-pass → SecondLent
 left w =
-    let z = w .second-pass .last .1 .1 .1 .1 .1 .1 .1 in
+    let z = w .second-pass .last .1 .1 .1 .1 .1 .1 .1 .1 in
     secondLent (z .0) (z .1 .0) (z .1 .1 .0) (z .1 .1 .1 .0) (z .1 .1 .1 .1 .0) (z .1 .1 .1 .1 .1 .0) (z .1 .1 .1 .1 .1 .1 .0)
+    (z .1 .1 .1 .1 .1 .1 .1 .0)
 
 refused-requires : tie.Need-refused-requires
 refused-requires c κs =
@@ -140,21 +141,23 @@ bienguloc-second-pass-spec =
     store-misclosures-requires
     slice-write-divisor
     slice-write-divisor-2
-    (λ c. called (c .before .before .before .before) .second-pass .kept .1 .1 .1 .1 .1 .1 .1 .0)
     (λ c. called (c .before .before .before .before) .second-pass .kept .1 .1 .1 .1 .1 .1 .1 .1 .0)
     (λ c. called (c .before .before .before .before) .second-pass .kept .1 .1 .1 .1 .1 .1 .1 .1 .1 .0)
     (λ c. called (c .before .before .before .before) .second-pass .kept .1 .1 .1 .1 .1 .1 .1 .1 .1 .1 .0)
     (λ c. called (c .before .before .before .before) .second-pass .kept .1 .1 .1 .1 .1 .1 .1 .1 .1 .1 .1 .0)
     (λ c. called (c .before .before .before .before) .second-pass .kept .1 .1 .1 .1 .1 .1 .1 .1 .1 .1 .1 .1 .0)
     (λ c. called (c .before .before .before .before) .second-pass .kept .1 .1 .1 .1 .1 .1 .1 .1 .1 .1 .1 .1 .1 .0)
+    (λ c. called (c .before .before .before .before) .second-pass .kept .1 .1 .1 .1 .1 .1 .1 .1 .1 .1 .1 .1 .1 .1 .0)
+    (λ c. called (c .before .before .before .before) .second-pass .kept .1 .1 .1 .1 .1 .1 .1 .1 .1 .1 .1 .1 .1 .1 .1 .0)
     returns-2
     (λ c. search needs)
     (λ c. search needs)
-    (λ c. called (c .before .before .before .before .before .before) .second-pass .kept .1 .1 .1 .1 .1 .1 .1 .0)
     (λ c. called (c .before .before .before .before .before .before) .second-pass .kept .1 .1 .1 .1 .1 .1 .1 .1 .0)
     (λ c. called (c .before .before .before .before .before .before) .second-pass .kept .1 .1 .1 .1 .1 .1 .1 .1 .1 .0)
     (λ c. called (c .before .before .before .before .before .before) .second-pass .kept .1 .1 .1 .1 .1 .1 .1 .1 .1 .1 .0)
     (λ c. called (c .before .before .before .before .before .before) .second-pass .kept .1 .1 .1 .1 .1 .1 .1 .1 .1 .1 .1 .0)
     (λ c. called (c .before .before .before .before .before .before) .second-pass .kept .1 .1 .1 .1 .1 .1 .1 .1 .1 .1 .1 .1 .0)
     (λ c. called (c .before .before .before .before .before .before) .second-pass .kept .1 .1 .1 .1 .1 .1 .1 .1 .1 .1 .1 .1 .1 .0)
+    (λ c. called (c .before .before .before .before .before .before) .second-pass .kept .1 .1 .1 .1 .1 .1 .1 .1 .1 .1 .1 .1 .1 .1 .0)
+    (λ c. called (c .before .before .before .before .before .before) .second-pass .kept .1 .1 .1 .1 .1 .1 .1 .1 .1 .1 .1 .1 .1 .1 .1 .0)
     returns-3)

@@ -30,10 +30,10 @@ module _ (kind code n : ℕ) (v : Values) (entry : List ℕ) {verdict : Verdict}
   answered e = record { answered = e ∙ ap (λ (w : Verdict). answerNumber (verdictTold w)) (promise .answered); leaves = promise .leaves }
 
 abbrev start : tie.After-write-sheet → tie.Start
-start c = c .before .before .before .before .before .before .before
+start c = c .before .before .before .before .before .before .before .before
 
 abbrev given : tie.Start → Values
-given s = valuesFrom (s .args .limit-or-tolerance) (now (s .args .angles)) (now (s .args .fixed)) (now (s .args .log-sines)) (now (s .args .differences)) (now (s .args .log-sides))
+given s = valuesFrom (s .args .limit-or-tolerance) (now (s .args .angles)) (now (s .args .rounds)) (now (s .args .fixed)) (now (s .args .log-sines)) (now (s .args .differences)) (now (s .args .log-sides))
 
 answered-requires : tie.Need-answered-requires
 answered-requires c κs =

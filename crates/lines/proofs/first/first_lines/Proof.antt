@@ -7,13 +7,13 @@ use Rattle.lines.proofs.first.first_lines.Statement.{statement}
 use Rattle.lines.proofs.first.first_lines.Tie as tie
 
 few : (c : tie.After-counts-of) → (c .counts-of .result .angles ≤ 24) × (c .counts-of .result .conditions ≤ 24)
-few c = few-lines (c .before .before .before .before .args .figure) (c .counts-of .ensures)
+few c = few-lines (c .before .before .before .before .before .args .figure) (c .counts-of .ensures)
 
 returns : tie.Need-returns
 unfolding firstText firstLines
 returns c =
     let counted = c .before .before .before .before .before .before .before .before .before .before .before .before in
-    let start = counted .before .before .before .before in
+    let start = counted .before .before .before .before .before in
     text-laid (start .args .figure) _ _ _ (counted .counts-of .ensures)
     (c .before .before .before .before .before .before .before .before .before .before .put-figure-line .ensures)
     (c .before .before .before .before .before .before .put-angles .ensures) (c .before .before .put-conditions .ensures)

@@ -9,10 +9,11 @@ use Rattle.lines.proofs.first.put_angles.Statement.{statement}
 use Rattle.lines.proofs.first.put_angles.Tie as tie
 
 abbrev Inv-loop : tie.InvT-loop
-Inv-loop buffer₀ at count given numerators rounded results position₀ i₀ buffer position i = Printing (firstAngle (naturals given) (vector numerators) (vector rounded) (naturals results)) count buffer₀ at buffer position i
+Inv-loop buffer₀ at count given rounds numerators rounded results position₀ i₀ buffer position i =
+    Printing (firstAngle (naturals given) (naturals rounds) (vector numerators) (vector rounded) (naturals results)) count buffer₀ at buffer position i
 
 abbrev μ-loop : tie.MeasureT-loop
-μ-loop buffer₀ at count given numerators rounded results position₀ i₀ buffer position i = count - i
+μ-loop buffer₀ at count given rounds numerators rounded results position₀ i₀ buffer position i = count - i
 
 loop-again : tie.Need-loop-again Inv-loop μ-loop
 loop-again c = printing-more (c .before .before .before .before .before .loop .inv) (omega arith) (search needs) (c .before .before .put-angle .ensures)

@@ -10,7 +10,7 @@ use Rattle.whole.specs.Lists.{listed}
 use Rattle.text.specs.Text.{space, lineFeed, line}
 use Rattle.lines.specs.Lays.{numbersEnded}
 use Rattle.lines.specs.Lines.{conditionWord}
-use Rattle.lines.proofs.Laid.{lays-as, part-line, answered, five-same}
+use Rattle.lines.proofs.Laid.{lays-as, part-line, answered, six-same}
 use Rattle.lines.proofs.first.put_condition.Statement.{statement}
 use Rattle.lines.proofs.first.put_condition.Tie as tie
 
@@ -22,8 +22,8 @@ returns c =
     let rests = called .signed-at2 in
     lays-as
     (ap (λ (values : List ℤ). (conditionWord ++ (space ∷ [])) ++ numbersEnded 3 values lineFeed)
-    (five-same {d = pos 0} {e = pos 0} (toZ-pos w64 (omega arith))
-    (answered (misclosures .ok) (misclosures .ensures)) (answered (rests .ok) (rests .ensures)) refl refl)
+    (six-same {d = pos 0} {e = pos 0} {f = pos 0} (toZ-pos w64 (omega arith))
+    (answered (misclosures .ok) (misclosures .ensures)) (answered (rests .ok) (rests .ensures)) refl refl refl)
     ∙ part-line conditionWord _ _)
     (c .before .before .put-line .ensures)
 

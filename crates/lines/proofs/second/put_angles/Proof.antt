@@ -9,13 +9,13 @@ use Rattle.lines.proofs.second.put_angles.Statement.{statement}
 use Rattle.lines.proofs.second.put_angles.Tie as tie
 
 abbrev Inv-loop : tie.InvT-loop
-Inv-loop buffer₀ at figure count given reduced side-reduced high low rounded results position₀ i₀ buffer position i =
+Inv-loop buffer₀ at figure count given rounds reduced side-reduced high low rounded results position₀ i₀ buffer position i =
     Printing
-    (secondAngle figure (naturals given) (vector reduced) (vector side-reduced) (wideNumbers high low) (vector rounded) (naturals results))
+    (secondAngle figure (naturals given) (naturals rounds) (vector reduced) (vector side-reduced) (wideNumbers high low) (vector rounded) (naturals results))
     count buffer₀ at buffer position i
 
 abbrev μ-loop : tie.MeasureT-loop
-μ-loop buffer₀ at figure count given reduced side-reduced high low rounded results position₀ i₀ buffer position i = count - i
+μ-loop buffer₀ at figure count given rounds reduced side-reduced high low rounded results position₀ i₀ buffer position i = count - i
 
 loop-again : tie.Need-loop-again Inv-loop μ-loop
 loop-again c = printing-more (c .before .before .before .before .before .loop .inv) (omega arith) (search needs) (c .before .before .put-angle .ensures)

@@ -10,7 +10,7 @@ use Rattle.whole.specs.Lists.{listed}
 use Rattle.text.specs.Text.{space, lineFeed, line}
 use Rattle.lines.specs.Lays.{numbersEnded}
 use Rattle.lines.specs.Lines.{conditionWord}
-use Rattle.lines.proofs.Laid.{lays-as, part-line, answered, five-same}
+use Rattle.lines.proofs.Laid.{lays-as, part-line, answered, six-same}
 use Rattle.lines.proofs.second.put_condition.Statement.{statement}
 use Rattle.lines.proofs.second.put_condition.Tie as tie
 
@@ -21,7 +21,7 @@ returns c =
     let rests = called .signed-at in
     lays-as
     (ap (λ (values : List ℤ). (conditionWord ++ (space ∷ [])) ++ numbersEnded 2 values lineFeed)
-    (five-same {c = pos 0} {d = pos 0} {e = pos 0} (toZ-pos w64 (omega arith)) (answered (rests .ok) (rests .ensures)) refl refl refl)
+    (six-same {c = pos 0} {d = pos 0} {e = pos 0} {f = pos 0} (toZ-pos w64 (omega arith)) (answered (rests .ok) (rests .ensures)) refl refl refl refl)
     ∙ part-line conditionWord _ _)
     (c .before .before .put-line .ensures)
 

@@ -16,7 +16,7 @@ use Rattle.whole.specs.Sums.{naturals, vector}
 use Rattle.text.specs.Text.{space, decimal}
 use Rattle.lines.specs.Lays.{lineStart, numbersEnded}
 use Rattle.lines.specs.Lines.{numbers, coefficients}
-use Rattle.lines.proofs.Laid.{lays-as, spaced-start, answered, five-same}
+use Rattle.lines.proofs.Laid.{lays-as, spaced-start, answered, six-same}
 use Rattle.lines.proofs.second.put_reduced.Statement.{statement}
 use Rattle.lines.proofs.second.put_reduced.Tie as tie
 
@@ -50,14 +50,14 @@ module _ (c : tie.After-has-side) where
 
   -- as the array holds them
   values : toZ w64 (start .args .i + 1) ∷ toZ w64 (ofZ w64 (c .before .before .before .natural-at .result))
-      ∷ toZ w64 (ofZ w64 (c .before .before .signed-word-at .result)) ∷ toZ w64 (ofZ w64 (c .before .signed-word-at2 .result)) ∷ pos 0 ∷ []
-      ≡ number ∷ given ∷ reduced ∷ sideReduced ∷ pos 0 ∷ []
+      ∷ toZ w64 (ofZ w64 (c .before .before .signed-word-at .result)) ∷ toZ w64 (ofZ w64 (c .before .signed-word-at2 .result)) ∷ pos 0 ∷ pos 0 ∷ []
+      ≡ number ∷ given ∷ reduced ∷ sideReduced ∷ pos 0 ∷ pos 0 ∷ []
   values =
       let g = c .before .before .before .natural-at in
       let a = c .before .before .signed-word-at in
       let b = c .before .signed-word-at2 in
-      five-same (toZ-pos w64 (omega arith)) (answered (g .ok) (g .ensures)) (answered (a .ok) (a .ensures))
-      (answered (b .ok) (b .ensures)) refl
+      six-same (toZ-pos w64 (omega arith)) (answered (g .ok) (g .ensures)) (answered (a .ok) (a .ensures))
+      (answered (b .ok) (b .ensures)) refl refl
 
 returns : tie.Need-returns
 unfolding listed

@@ -13,7 +13,7 @@ use Rattle.lines.proofs.second.second_lines.Statement.{statement}
 use Rattle.lines.proofs.second.second_lines.Tie as tie
 
 few : (c : tie.After-counts-of) → (c .counts-of .result .angles ≤ 24) × (c .counts-of .result .conditions ≤ 24)
-few c = few-lines (c .before .before .before .before .before .args .figure) (c .counts-of .ensures)
+few c = few-lines (c .before .before .before .before .before .before .args .figure) (c .counts-of .ensures)
 
 returns : tie.Need-returns
 unfolding secondText secondLines
@@ -22,7 +22,7 @@ returns c =
     let angles = conditions .before .before .before .before in
     let first = angles .before .before .before .before in
     let counted = first .before .before in
-    let start = counted .before .before .before .before .before in
+    let start = counted .before .before .before .before .before .before in
     let a = start .args in
     let divisor = joined (pos (a .divisor-high)) (a .divisor-low) in
     text-laid (a .figure) _ _ _ (counted .counts-of .ensures)

@@ -14,14 +14,12 @@ use Rattle.refusals.specs.Order.{verdictOf, judged}
 use Rattle.refusals.specs.Table.{lengthsRow, resultsRow}
 use Rattle.judging.specs.Searches.{resultsOf}
 use Rattle.figures.proofs.Figures.{angle-bound}
-use Rattle.pass_rules.specs.FirstPass.{firstResultLengths}
-use Rattle.pass_rules.specs.Promises.{firstLent, firstResultsLent}
 use Rattle.pass_steps.specs.Premises.{mostSummed}
 use Rattle.pass_steps.specs.Steps.{numeratorsFrom, resultsRows, resultsFrom}
 use Rattle.pass_steps.proofs.Judged.{lengths-pass, first-passes, kept, written, taken}
 use Rattle.pass_steps.proofs.Lending.{lent-length, part-again, still-few, again-length}
 use Rattle.pass_steps.proofs.StepLaws.{length-of}
-use Rattle.pass_first.specs.Steps.{tenthsOf, restsFrom, firstFrom}
+use Rattle.pass_first.specs.Steps.{tenthsOf, restsFrom, firstWork, workLent, workLengths, firstFrom}
 use Rattle.pass_first.proofs.FirstSteps.{tenths-within}
 use Rattle.pass_first.proofs.corrections.first_corrected.Statement.{statement}
 use Rattle.pass_first.proofs.corrections.first_corrected.Tie as tie
@@ -34,8 +32,8 @@ lent s = lent-length _ (replicate 24 (pos 0)) (few s)
 
 -- the slices for the results, by their places in the list of lengths
 room : (s : tie.Start) (k : ℕ)
-    → getD (firstResultsLent (firstLent (now (s .args .misclosures)) (now (s .args .numerators)) (now (s .args .rounded)) (now (s .args .corrected)) (now (s .args .rests)))) k 0
-    ≡ getD (firstResultLengths (s .args .figure)) k 0
+    → getD (workLent (firstWork (now (s .args .misclosures)) (now (s .args .numerators)) (now (s .args .rounded)) (now (s .args .corrected)) (now (s .args .rests)))) k 0
+    ≡ getD (workLengths (s .args .figure)) k 0
 room s k = ap (λ (l : List ℕ). getD l k 0) (s .pre .1 .1 .0)
 
 corrections-into-requires : tie.Need-corrections-into-requires
@@ -139,7 +137,7 @@ returns c =
     let rests = held .rests-are ∙ ap (restsFrom f (w k)) (tenths k) in
     record {
       answered = answered;
-      leaves = written (verdict k) (firstFrom f (now (s .args .angles)) (w k)) _ passed (λ i. firstLent (misclosures i) (numerators i) (rounded i) (corrected i) (rests i));
+      leaves = written (verdict k) (firstFrom f (now (s .args .angles)) (w k)) _ passed (λ i. firstWork (misclosures i) (numerators i) (rounded i) (corrected i) (rests i));
     }
 
 returns-2 : tie.Need-returns-2
@@ -153,7 +151,7 @@ returns-2 c =
     record {
       answered = answered;
       leaves =
-          (λ i. firstLent (now (s .args .misclosures)) (now (s .args .numerators)) (now (s .args .rounded)) (untouched i) (now (s .args .rests)))
+          (λ i. firstWork (now (s .args .misclosures)) (now (s .args .numerators)) (now (s .args .rounded)) (untouched i) (now (s .args .rests)))
           ∙ kept (verdict k) (firstFrom (s .args .figure) (now (s .args .angles)) (w k)) _ _ failed;
     }
 

@@ -13,30 +13,31 @@ use Rattle.refusals.specs.Order.{verdictOf, judged}
 use Rattle.refusals.specs.Table.{misclosuresRow}
 use Rattle.figures.specs.Figure.{conditionCount}
 use Rattle.figures.proofs.Figures.{condition-bound}
-use Rattle.pass_rules.specs.FirstPass.{limitOf, givenRows, misclosuresOf, firstResultLengths}
-use Rattle.pass_rules.specs.Promises.{FirstLent, firstLent, firstResultsLent, firstSlices}
-use Rattle.pass_first.proofs.FirstPromised.{refused-before, length-at, small-angles, small-fixed, refused-misclosure, small-misclosures, by-results}
+use Rattle.pass_rules.specs.FirstPass.{limitOf, givenRows, misclosuresOf}
+use Rattle.pass_rules.specs.Promises.{FirstLent, firstLent, firstSlices}
+use Rattle.pass_first.specs.Steps.{workLent, workLengths}
+use Rattle.pass_first.proofs.FirstPromised.{workOf, refused-before, length-at, small-angles, small-fixed, refused-misclosure, small-misclosures, by-results}
 use Rattle.pass_steps.proofs.Lending.{lent-length, part-again, still-few, again-length}
 use Rattle.pass_first.proofs.first.first_pass_of.Statement.{statement}
 use Rattle.pass_first.proofs.first.first_pass_of.Tie as tie
 
 abbrev entry : tie.Start → FirstLent
-entry s = firstLent (now (s .args .misclosures)) (now (s .args .numerators)) (now (s .args .rounded)) (now (s .args .corrected)) (now (s .args .rests))
+entry s = firstLent (now (s .args .misclosures)) (now (s .args .numerators)) (now (s .args .rounded)) (now (s .args .corrected)) (now (s .args .corrected-rounds)) (now (s .args .rests))
 
 returns : tie.Need-returns
 returns c =
-    let s = c .before .before .before .before .before .before in
-    refused-before (s .args .figure) (s .args .limit) (now (s .args .angles)) (now (s .args .fixed)) (entry s)
+    let s = c .before .before .before .before .before .before .before .before in
+    refused-before (s .args .figure) (s .args .limit) (now (s .args .angles)) (now (s .args .rounds)) (now (s .args .fixed)) (entry s)
     (c .before .before .first-given-verdict .result) _ (c .before .before .first-given-verdict .ensures) (c .enum-told .given .1)
 
 -- ---- the rows before the work have passed
 
 module _ (t : tie.After-enum-told2) where
   abbrev start : tie.Start
-  start = t .before .before .before .before .before .before
+  start = t .before .before .before .before .before .before .before .before
 
-  passed : judged (givenRows (start .args .figure) (start .args .limit) (now (start .args .angles)) (now (start .args .fixed))
-      (firstSlices (now (start .args .angles)) (now (start .args .fixed)) (entry start))) ≡ Passed
+  passed : judged (givenRows (start .args .figure) (start .args .limit) (now (start .args .angles)) (now (start .args .rounds)) (now (start .args .fixed))
+      (firstSlices (now (start .args .angles)) (now (start .args .rounds)) (now (start .args .fixed)) (entry start))) ≡ Passed
   passed = sym (t .before .before .first-given-verdict .ensures) ∙ t .enum-told2 .given .1
 
   -- the length of a slice, by its place in the list
@@ -44,7 +45,7 @@ module _ (t : tie.After-enum-told2) where
   m = length (now (start .args .misclosures))
 
   conditions : m ≡ conditionCount (start .args .figure)
-  conditions = length-at (start .args .figure) (start .args .limit) (now (start .args .angles)) (now (start .args .fixed)) (entry start) passed 2
+  conditions = length-at (start .args .figure) (start .args .limit) (now (start .args .angles)) (now (start .args .rounds)) (now (start .args .fixed)) (entry start) passed 3
 
   few : m ≤ 9
   few = omega (arith, conditions, condition-bound (start .args .figure))
@@ -56,15 +57,15 @@ misclosures-into-requires : tie.Need-misclosures-into-requires
 misclosures-into-requires c κs =
     let t = c .before in
     let s = start t in
-    let at = length-at (s .args .figure) (s .args .limit) (now (s .args .angles)) (now (s .args .fixed)) (entry s) (passed t) in (
+    let at = length-at (s .args .figure) (s .args .limit) (now (s .args .angles)) (now (s .args .rounds)) (now (s .args .fixed)) (entry s) (passed t) in (
       at 0,
       (
-        at 1,
+        at 2,
         (
           sym (lent t) ∙ conditions t,
           (
-            small-angles (s .args .figure) (s .args .limit) (now (s .args .angles)) (now (s .args .fixed)) (entry s) (passed t),
-            small-fixed (s .args .figure) (s .args .limit) (now (s .args .angles)) (now (s .args .fixed)) (entry s) (passed t),
+            small-angles (s .args .figure) (s .args .limit) (now (s .args .angles)) (now (s .args .rounds)) (now (s .args .fixed)) (entry s) (passed t),
+            small-fixed (s .args .figure) (s .args .limit) (now (s .args .angles)) (now (s .args .rounds)) (now (s .args .fixed)) (entry s) (passed t),
           ),
         ),
       ),
@@ -104,7 +105,7 @@ returns-2 c =
     let t = told k in
     let s = start t in
     let v = c .before .before in
-    refused-misclosure (s .args .figure) (s .args .limit) (now (s .args .angles)) (now (s .args .fixed)) (entry s) (passed t)
+    refused-misclosure (s .args .figure) (s .args .limit) (now (s .args .angles)) (now (s .args .rounds)) (now (s .args .fixed)) (entry s) (passed t)
     (v .misclosures-verdict .result) _ (asked k _ _ (v .misclosures-verdict .ensures) (v .before .limit-in-force .ensures)) (c .enum-told3 .given .1)
 
 -- number 6 has passed
@@ -119,9 +120,9 @@ first-corrected-requires c κs =
     let k = c .before .before .before .before .before .before .before .before .before .before .before .before in
     let t = told k in
     let s = start t in
-    let at = length-at (s .args .figure) (s .args .limit) (now (s .args .angles)) (now (s .args .fixed)) (entry s) (passed t) in
-    let small = small-misclosures (s .args .figure) (s .args .limit) (now (s .args .angles)) (now (s .args .fixed)) (entry s) (passed t) (within (c .before .before .before .before .before .before)) in
-    let lengths : firstResultsLent (entry s) ≡ firstResultLengths (s .args .figure) = λ i. at 2 i ∷ at 3 i ∷ at 4 i ∷ at 5 i ∷ at 6 i ∷ [] in (
+    let at = length-at (s .args .figure) (s .args .limit) (now (s .args .angles)) (now (s .args .rounds)) (now (s .args .fixed)) (entry s) (passed t) in
+    let small = small-misclosures (s .args .figure) (s .args .limit) (now (s .args .angles)) (now (s .args .rounds)) (now (s .args .fixed)) (entry s) (passed t) (within (c .before .before .before .before .before .before)) in
+    let lengths : workLent (workOf (entry s)) ≡ workLengths (s .args .figure) = λ i. at 3 i ∷ at 4 i ∷ at 5 i ∷ at 6 i ∷ at 8 i ∷ [] in (
       at 0,
       (
         sym (aggregate k) ∙ conditions t,
@@ -131,11 +132,13 @@ first-corrected-requires c κs =
 
 returns-3 : tie.Need-returns-3
 returns-3 c =
-    let k = c .before .before .before .before .before .before .before .before .before .before .before .before .before .before .before .before .before .before .before in
+    let worked = c .before .before .before .before .before .before .before .before .before .before in
+    let within-limit = worked .before .before .before .before .before .before .before in
+    let k = within-limit .before .before .before .before .before .before in
     let t = told k in
     let s = start t in
-    by-results (s .args .figure) (s .args .limit) (now (s .args .angles)) (now (s .args .fixed)) (entry s) (passed t) (within (c .before .before .before .before .before .before .before .before .before .before .before .before .before))
-    (again k) (are k) (c .before .before .before .before .before .before .first-corrected .ensures)
+    by-results (s .args .figure) (s .args .limit) (now (s .args .angles)) (now (s .args .rounds)) (now (s .args .fixed)) (entry s) (passed t) (within within-limit)
+    (again k) (are k) (worked .first-corrected .ensures) (c .before .before .store-rounds .ensures)
 
 pub first-pass-of-spec : {M : Type 1} → statement M
 first-pass-of-spec =
@@ -158,6 +161,8 @@ first-pass-of-spec =
     (λ c. share (c .before .before .before .before .before .before))
     (λ c. aggregate (c .before .before .before .before .before .before .before))
     first-corrected-requires
+    (λ c κs. search needs)
+    (λ c. search needs)
     (λ c. search needs)
     (λ c. search needs)
     (λ c. search needs)

@@ -7,7 +7,7 @@ use Rattle.pass_rules.proofs.first.first_result_lengths.Statement.{stat
 use Rattle.pass_rules.proofs.first.first_result_lengths.Tie as tie
 
 returns : tie.Need-returns
-returns c = ap (λ (n : Counts). n .conditions ∷ n .angles ∷ n .angles ∷ n .angles ∷ n .conditions ∷ []) (c .counts-of .ensures)
+returns c = ap (λ (n : Counts). n .conditions ∷ n .angles ∷ n .angles ∷ n .angles ∷ n .angles ∷ n .conditions ∷ []) (c .counts-of .ensures)
 
 pub first-result-lengths-spec : {M : Type 1} → statement M
 first-result-lengths-spec = tie.close (tie.spec (λ c κs. search needs) returns)

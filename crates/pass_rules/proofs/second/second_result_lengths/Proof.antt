@@ -14,7 +14,7 @@ returns : tie.Need-returns
 returns c =
     let counted = c .before .counts-of .ensures in
     let side = c .side-reduced-count .ensures ∙ ap (λ (n : Counts). cond (eqb (n .sides) 0) 0 (n .angles)) counted ∙ side-reduced-count (c .before .before .args .figure) in
-    ap₂ (λ (n : Counts) (s : ℕ). n .angles ∷ s ∷ n .angles ∷ n .angles ∷ n .angles ∷ n .angles ∷ n .conditions ∷ []) counted side
+    ap₂ (λ (n : Counts) (s : ℕ). n .angles ∷ s ∷ n .angles ∷ n .angles ∷ n .angles ∷ n .angles ∷ n .angles ∷ n .conditions ∷ []) counted side
 
 pub second-result-lengths-spec : {M : Type 1} → statement M
 second-result-lengths-spec = tie.close (tie.spec (λ c κs. search needs) (λ c κs. search needs) returns)

@@ -21,20 +21,18 @@ use Rattle.figures.specs.declared.Figure.{Figure}
 use Rattle.figures.specs.Figure.{denominator, angleCount, conditionCount, hasSide, sideCount}
 use Rattle.figures.specs.Numerators.{conditionSum}
 use Rattle.figures.proofs.Figures.{angle-bound, side-some}
-use Rattle.pass_rules.specs.SecondPass.{secondResultLengths}
-use Rattle.pass_rules.specs.Promises.{SecondLent, secondLent, secondResultsLent}
 use Rattle.pass_steps.specs.Steps.{resultsRows, resultsFrom}
 use Rattle.pass_steps.proofs.Judged.{lengths-pass, first-passes, kept, written, taken}
 use Rattle.pass_steps.proofs.Lending.{lent-length, part-again, still-few, again-length}
-use Rattle.pass_second.specs.Steps.{highsFrom, lowsFrom, tenthsFrom, secondFrom}
+use Rattle.pass_second.specs.Steps.{highsFrom, lowsFrom, tenthsFrom, SecondWork, secondWork, workLent, workLengths, secondFrom}
 use Rattle.pass_second.proofs.Passed.{passed-small}
 use Rattle.pass_second.proofs.SineBounds.{denominator-bound}
 use Rattle.pass_second.proofs.corrections.second_corrected.Statement.{statement}
 use Rattle.pass_second.proofs.corrections.second_corrected.Tie as tie
 
-abbrev entry : tie.Start → SecondLent
+abbrev entry : tie.Start → SecondWork
 entry s =
-    secondLent (now (s .args .reduced)) (now (s .args .side-reduced)) (now (s .args .numerators-high)) (now (s .args .numerators-low))
+    secondWork (now (s .args .reduced)) (now (s .args .side-reduced)) (now (s .args .numerators-high)) (now (s .args .numerators-low))
     (now (s .args .rounded)) (now (s .args .adjusted)) (now (s .args .rests))
 
 -- an array of words
@@ -45,7 +43,7 @@ few : (s : tie.Start) → length (now (s .args .angles)) ≤ 24
 few s = omega (arith, s .pre .1 .0, angle-bound (s .args .figure))
 
 -- the slices for the results, by their places in the list of lengths
-room : (s : tie.Start) (k : ℕ) → getD (secondResultsLent (entry s)) k 0 ≡ getD (secondResultLengths (s .args .figure)) k 0
+room : (s : tie.Start) (k : ℕ) → getD (workLent (entry s)) k 0 ≡ getD (workLengths (s .args .figure)) k 0
 room s k = ap (λ (l : List ℕ). getD l k 0) (s .pre .1 .1 .1 .1 .0)
 
 corrections-into-requires : tie.Need-corrections-into-requires
@@ -141,7 +139,7 @@ module _ (k : tie.After-corrections-into) where
       part-again n (replicate 24 (pos 0)) (few start) tenthsPart tenths-kept ∙ k .corrections-into .ensures .1 .1
       ∙ ap (λ (d : ℕ). tenthsFrom d (start .args .sides) (start .args .pair) a b) whole
 
-  abbrev new : SecondLent
+  abbrev new : SecondWork
   new = secondFrom f (now (start .args .angles)) (start .args .sides) (start .args .pair) a b
 
   abbrev verdict : Verdict
@@ -214,7 +212,7 @@ returns c =
       answered = answered asked;
       leaves =
           written (verdict k) (new k) _ passed
-          (λ i. secondLent (held .reduced-are i) (held .side-reduced-are i) (high i) (low i) (tenth i) (adjusted i) (rests i));
+          (λ i. secondWork (held .reduced-are i) (held .side-reduced-are i) (high i) (low i) (tenth i) (adjusted i) (rests i));
     }
 
 returns-2 : tie.Need-returns-2
@@ -227,7 +225,7 @@ returns-2 c =
     record {
       answered = answered asked;
       leaves =
-          (λ i. secondLent (now (s .args .reduced)) (now (s .args .side-reduced)) (now (s .args .numerators-high)) (now (s .args .numerators-low))
+          (λ i. secondWork (now (s .args .reduced)) (now (s .args .side-reduced)) (now (s .args .numerators-high)) (now (s .args .numerators-low))
           (now (s .args .rounded)) (untouched i) (now (s .args .rests)))
           ∙ kept (verdict k) (new k) _ _ failed;
     }

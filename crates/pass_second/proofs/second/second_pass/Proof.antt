@@ -10,25 +10,25 @@ use Rattle.pass_second.proofs.second.second_pass.Tie as tie
 
 abbrev given : tie.Start → SecondGiven
 given s =
-    secondGiven (s .args .code) (s .args .n) (s .args .tolerance) (now (s .args .angles))
+    secondGiven (s .args .code) (s .args .n) (s .args .tolerance) (now (s .args .angles)) (now (s .args .rounds))
     (sineEntries (now (s .args .log-sines)) (now (s .args .differences)) (now (s .args .log-sides)))
 
 abbrev entry : tie.Start → SecondLent
 entry s =
     secondLent (now (s .args .reduced)) (now (s .args .side-reduced)) (now (s .args .numerators-high)) (now (s .args .numerators-low))
-    (now (s .args .rounded)) (now (s .args .adjusted)) (now (s .args .rests))
+    (now (s .args .rounded)) (now (s .args .adjusted)) (now (s .args .adjusted-rounds)) (now (s .args .rests))
 
 returns : tie.Need-returns
 returns c =
-    let s = c .before .before .before .before .before .before .before .before in
+    let s = c .before .before .before .before .before .before .before .before .before .before in
     none-named (given s) (entry s) (sym (c .before .before .figure-of .ensures) ∙ c .enum-told .given .1)
 
 returns-2 : tie.Need-returns-2
 returns-2 c =
-    let called = c .before .before .before .before .before .before .before .before .before in
-    let named = called .before .before .before .before .before .before .before .before .before in
+    let called = c .before .before .before .before .before .before .before .before .before .before .before in
+    let named = called .before .before .before .before .before .before .before .before .before .before in
     let found = named .before .before in
-    let s = found .before .before .before .before .before .before in
+    let s = found .before .before .before .before .before .before .before .before in
     of-figure (given s) (entry s) _ (sym (found .figure-of .ensures) ∙ named .figure .given .1) (called .second-pass-of .ensures)
 
 pub second-pass-spec : {M : Type 1} → statement M
@@ -40,6 +40,7 @@ second-pass-spec =
     (λ c. search needs)
     returns
     (λ c κs. search needs)
+    (λ c. search needs)
     (λ c. search needs)
     (λ c. search needs)
     (λ c. search needs)

@@ -19,12 +19,12 @@ use Rattle.figures.specs.declared.Figure.{Figure}
 use Rattle.figures.specs.Figure.{angleCount, hasSide, sideCount, pole, side}
 use Rattle.figures.proofs.Figures.{angle-bound}
 use Rattle.pass_pair.specs.declared.Pair.{Pair}
-use Rattle.pass_rules.specs.SecondPass.{SineEntries, sineEntries, reducedOf, sideReducedOf, sideReducedCount, secondResultLengths, entryRows, sineRowsOf}
-use Rattle.pass_rules.specs.Promises.{SecondLent, secondLent, secondResultsLent, secondSlices}
+use Rattle.pass_rules.specs.SecondPass.{SineEntries, sineEntries, reducedOf, sideReducedOf, sideReducedCount, entryRows, sineRowsOf}
+use Rattle.pass_rules.specs.Promises.{SecondLent, secondLent, secondSlices}
 use Rattle.pass_steps.proofs.Lending.{lent-length, part-again, still-few, again-length}
 use Rattle.pass_second.specs.declared.sums.Sums.{Sums}
 use Rattle.pass_second.specs.Sines.{pairOf, sumsOf}
-use Rattle.pass_second.specs.Steps.{SmallPair, divisorFrom, answerBy}
+use Rattle.pass_second.specs.Steps.{SmallPair, divisorFrom, workLent, workLengths, answerBy}
 use Rattle.pass_second.proofs.SecondPromised as promised
 use Rattle.pass_second.proofs.SecondSteps.{divisor-from-natural}
 use Rattle.pass_second.proofs.second.second_pass_of.Statement.{statement}
@@ -33,15 +33,15 @@ use Rattle.pass_second.proofs.second.second_pass_of.Tie as tie
 abbrev entry : tie.Start → SecondLent
 entry s =
     secondLent (now (s .args .reduced)) (now (s .args .side-reduced)) (now (s .args .numerators-high)) (now (s .args .numerators-low))
-    (now (s .args .rounded)) (now (s .args .adjusted)) (now (s .args .rests))
+    (now (s .args .rounded)) (now (s .args .adjusted)) (now (s .args .adjusted-rounds)) (now (s .args .rests))
 
 abbrev entries : tie.Start → SineEntries
 entries s = sineEntries (now (s .args .log-sines)) (now (s .args .differences)) (now (s .args .log-sides))
 
 returns : tie.Need-returns
 returns c =
-    let s = c .before .before .before .before .before .before .before .before .before in
-    promised.refused-before (s .args .figure) (s .args .tolerance) (now (s .args .angles)) (entries s) (entry s) _
+    let s = c .before .before .before .before .before .before .before .before .before .before .before in
+    promised.refused-before (s .args .figure) (s .args .tolerance) (now (s .args .angles)) (now (s .args .rounds)) (entries s) (entry s) _
     (sym (c .before .before .before .second-given-verdict .ensures) ∙ c .before .before2 .given .1)
 
 -- no more coefficients of the side condition than angles
@@ -56,7 +56,7 @@ side-bound f = go (hasSide f)
 
 module _ (t : tie.After-enum-told) where
   abbrev start : tie.Start
-  start = t .before .before .before .before .before .before .before .before
+  start = t .before .before .before .before .before .before .before .before .before .before
 
   abbrev f : Figure
   f = start .args .figure
@@ -67,10 +67,13 @@ module _ (t : tie.After-enum-told) where
   abbrev angles : List ℕ
   angles = now (start .args .angles)
 
+  abbrev rounds : List ℕ
+  rounds = now (start .args .rounds)
+
   abbrev e : SineEntries
   e = entries start
 
-  passed : judged (entryRows f tolerance angles e (secondSlices angles e (entry start))) ≡ Passed
+  passed : judged (entryRows f tolerance angles rounds e (secondSlices angles rounds e (entry start))) ≡ Passed
   passed = sym (t .before .before .second-given-verdict .ensures) ∙ t .enum-told .given .1
 
   abbrev n : ℕ
@@ -80,13 +83,13 @@ module _ (t : tie.After-enum-told) where
   m = length (now (start .args .side-reduced))
 
   count : n ≡ angleCount f
-  count = promised.length-at f tolerance angles e (entry start) passed 0
+  count = promised.length-at f tolerance angles rounds e (entry start) passed 0
 
   side-many : m ≡ sideReducedCount f
-  side-many = promised.length-at f tolerance angles e (entry start) passed 5
+  side-many = promised.length-at f tolerance angles rounds e (entry start) passed 6
 
   sides : length (now (start .args .log-sides)) ≡ sideCount f
-  sides = promised.length-at f tolerance angles e (entry start) passed 3
+  sides = promised.length-at f tolerance angles rounds e (entry start) passed 4
 
   few : n ≤ 24
   few = omega (arith, count, angle-bound f)
@@ -97,21 +100,21 @@ module _ (t : tie.After-enum-told) where
 sums-into-requires : tie.Need-sums-into-requires
 sums-into-requires c κs =
     let t = c .before .before in
-    let at = promised.length-at (f t) (tolerance t) (angles t) (e t) (entry (start t)) (passed t) in (
-      at 1,
+    let at = promised.length-at (f t) (tolerance t) (angles t) (rounds t) (e t) (entry (start t)) (passed t) in (
+      at 2,
       (
-        at 2,
+        at 3,
         (
-          at 3,
+          at 4,
           (
             sym (lent-length (n t) (replicate 24 (pos 0)) (few t)) ∙ count t,
             (
               sym (lent-length (m t) (replicate 24 (pos 0)) (side-few t)) ∙ side-many t,
               (
-                promised.small-log-sines (f t) (tolerance t) (angles t) (e t) (entry (start t)) (passed t),
+                promised.small-log-sines (f t) (tolerance t) (angles t) (rounds t) (e t) (entry (start t)) (passed t),
                 (
-                  promised.small-log-sides (f t) (tolerance t) (angles t) (e t) (entry (start t)) (passed t),
-                  promised.small-differences (f t) (tolerance t) (angles t) (e t) (entry (start t)) (passed t),
+                  promised.small-log-sides (f t) (tolerance t) (angles t) (rounds t) (e t) (entry (start t)) (passed t),
+                  promised.small-differences (f t) (tolerance t) (angles t) (rounds t) (e t) (entry (start t)) (passed t),
                 ),
               ),
             ),
@@ -171,16 +174,16 @@ sine-verdict-requires : tie.Need-sine-verdict-requires
 sine-verdict-requires c κs =
     let k = c .before .before .before .before in
     let t = told k in (
-      subst (λ (s : Sums). natAbs (s .pair .wa) < 2 ^ 32) (sym (sums-are k)) (promised.small-pole-misclosure (f t) (tolerance t) (angles t) (e t) (entry (start t)) (passed t)),
+      subst (λ (s : Sums). natAbs (s .pair .wa) < 2 ^ 32) (sym (sums-are k)) (promised.small-pole-misclosure (f t) (tolerance t) (angles t) (rounds t) (e t) (entry (start t)) (passed t)),
       (
-        subst (λ (s : Sums). natAbs (s .pair .wb) < 2 ^ 32) (sym (sums-are k)) (promised.small-side-misclosure (f t) (tolerance t) (angles t) (e t) (entry (start t)) (passed t)),
+        subst (λ (s : Sums). natAbs (s .pair .wb) < 2 ^ 32) (sym (sums-are k)) (promised.small-side-misclosure (f t) (tolerance t) (angles t) (rounds t) (e t) (entry (start t)) (passed t)),
         (
-          promised.small-tolerance (f t) (tolerance t) (angles t) (e t) (entry (start t)) (passed t),
+          promised.small-tolerance (f t) (tolerance t) (angles t) (rounds t) (e t) (entry (start t)) (passed t),
           (
             subst (λ (s : Sums). (pos 0 ≤ℤ s .«difference_squares») × (natAbs (s .«difference_squares») < 2 ^ 32)) (sym (sums-are k))
-                (promised.small-pole-squares (f t) (tolerance t) (angles t) (e t) (entry (start t)) (passed t)),
+                (promised.small-pole-squares (f t) (tolerance t) (angles t) (rounds t) (e t) (entry (start t)) (passed t)),
             subst (λ (s : Sums). (pos 0 ≤ℤ s .«side_difference_squares») × (natAbs (s .«side_difference_squares») < 2 ^ 32)) (sym (sums-are k))
-                (promised.small-side-squares (f t) (tolerance t) (angles t) (e t) (entry (start t)) (passed t)),
+                (promised.small-side-squares (f t) (tolerance t) (angles t) (rounds t) (e t) (entry (start t)) (passed t)),
           ),
         ),
       ),
@@ -203,14 +206,14 @@ module _ (v : tie.After-sine-verdict) where
   asked : v .sine-verdict .result ≡ judged (sineRowsOf (f whole) (tolerance whole) (e whole))
   asked =
       v .sine-verdict .ensures
-      ∙ promised.sines-judged (f whole) (tolerance whole) (angles whole) (e whole) (entry (start whole)) (length (now (start whole .args .log-sides))) (sums known) d
+      ∙ promised.sines-judged (f whole) (tolerance whole) (angles whole) (rounds whole) (e whole) (entry (start whole)) (length (now (start whole .args .log-sides))) (sums known) d
       (sides whole) (sums-are known) d-is
 
 returns-2 : tie.Need-returns-2
 returns-2 c =
     let v = c .before .before .before in
     let t = whole v in
-    promised.refused-sines (f t) (tolerance t) (angles t) (e t) (entry (start t)) (passed t) _ (sym (asked v) ∙ c .before .beyond .given .1)
+    promised.refused-sines (f t) (tolerance t) (angles t) (rounds t) (e t) (entry (start t)) (passed t) _ (sym (asked v) ∙ c .before .beyond .given .1)
 
 -- ---- they have passed
 
@@ -229,12 +232,12 @@ second-corrected-requires c κs =
     let u = c .before .before .before .before .before .before .before .before .before in
     let k = known (verdict u) in
     let t = first u in
-    let at = promised.length-at (f t) (tolerance t) (angles t) (e t) (entry (start t)) (passed t) in
-    let lengths : secondResultsLent (entry (start t)) ≡ secondResultLengths (f t) =
-    λ i. at 4 i ∷ at 5 i ∷ at 6 i ∷ at 7 i ∷ at 8 i ∷ at 9 i ∷ at 10 i ∷ [] in
-    let reduced = promised.small-reduced (f t) (tolerance t) (angles t) (e t) (entry (start t)) (passed t) in
-    let side-reduced = promised.small-side-reduced (f t) (tolerance t) (angles t) (e t) (entry (start t)) (passed t) in (
-      at 3,
+    let at = promised.length-at (f t) (tolerance t) (angles t) (rounds t) (e t) (entry (start t)) (passed t) in
+    let lengths : workLent (promised.workOf (entry (start t))) ≡ workLengths (f t) =
+    λ i. at 5 i ∷ at 6 i ∷ at 7 i ∷ at 8 i ∷ at 9 i ∷ at 10 i ∷ at 12 i ∷ [] in
+    let reduced = promised.small-reduced (f t) (tolerance t) (angles t) (rounds t) (e t) (entry (start t)) (passed t) in
+    let side-reduced = promised.small-side-reduced (f t) (tolerance t) (angles t) (rounds t) (e t) (entry (start t)) (passed t) in (
+      at 4,
       (
         at 0,
         (
@@ -244,9 +247,9 @@ second-corrected-requires c κs =
             (
               lengths,
               (
-                promised.small-angles (f t) (tolerance t) (angles t) (e t) (entry (start t)) (passed t),
+                promised.small-angles (f t) (tolerance t) (angles t) (rounds t) (e t) (entry (start t)) (passed t),
                 (
-                  subst SmallPair (sym (pair-is k)) (promised.small-pair (f t) (tolerance t) (angles t) (e t) (entry (start t)) (passed t) (within u)),
+                  subst SmallPair (sym (pair-is k)) (promised.small-pair (f t) (tolerance t) (angles t) (rounds t) (e t) (entry (start t)) (passed t) (within u)),
                   (d-is (verdict u), (λ i. rw (a-are k) (reduced i), λ i. rw (b-are k) (side-reduced i))),
                 ),
               ),
@@ -258,7 +261,7 @@ second-corrected-requires c κs =
 
 returns-3 : tie.Need-returns-3
 returns-3 c =
-    let p = c .before .before .before .before .before .before .before .before .before .before .before .before in
+    let p = c .before .before .before .before .before .before .before .before .before .before .before .before .before .before .before .before in
     let u = p .before .before .before .before .before .before .before .before .before .before in
     let v = verdict u in
     let k = known v in
@@ -267,8 +270,9 @@ returns-3 c =
     let wa = toZ-ofZ w64 (pair .wa) (record { sfits = c .before .before .struct-told .given .1 .1 .1 .0 .1 }) in
     let wb = toZ-ofZ w64 (pair .wb) (record { sfits = c .before .before .struct-told .given .1 .1 .1 .1 .0 .1 }) in
     let kept =
-    promised.by-results (f t) (tolerance t) (angles t) (e t) (entry (start t)) (passed t) (within u) (length (now (start t .args .log-sides))) pair (a k) (b k)
-    (sides t) (pair-is k) (a-are k) (b-are k) (d v) (omega (arith, v .before .divisor-of .ok)) (d-is v) (p .second-corrected .ensures) (p .second-corrected .result) refl in
+    promised.by-results (f t) (tolerance t) (angles t) (rounds t) (e t) (entry (start t)) (passed t) (within u) (length (now (start t .args .log-sides))) pair (a k) (b k)
+    (sides t) (pair-is k) (a-are k) (b-are k) (d v) (omega (arith, v .before .divisor-of .ok)) (d-is v) (p .second-corrected .ensures) (c .before .before .before .before .before .store-rounds .ensures)
+    (p .second-corrected .result) refl in
     record {
       answered = c .answer-of .ensures ∙ (λ i. answerBy (p .second-corrected .result) (wa i) (wb i) (d v .high) (d v .low)) ∙ kept .answered;
       leaves = kept .leaves;
@@ -298,6 +302,8 @@ second-pass-of-spec =
     (λ c. let k = known (verdict (c .before .before)) in let t = told k in again-length (m t) (replicate 24 (pos 0)) (side-few t) (bPart k) (b-kept k))
     second-corrected-requires
     (λ c κs. search needs)
+    (λ c κs. search needs)
+    (λ c. search needs)
     (λ c. search needs)
     (λ c. search needs)
     (λ c. search needs)

@@ -1,4 +1,4 @@
--- `sheet_layout::head::kind_of` meets its contract: at 1, 2 and 3 the definition computes, and any other number passes every test of it.
+-- `sheet_layout::head::kind_of` meets its contract: at 1 to 5 the definition computes, and any other number passes every test of it.
 use mathlib.Core.Path.{sym, ap}
 use borrow.Author.Tests.{ne-eqb}
 use Rattle.sheet_layout.specs.Head.{kindOf}
@@ -15,7 +15,15 @@ returns-3 : tie.Need-returns-3
 returns-3 c = sym (ap kindOf (c .match .keys3))
 
 returns-4 : tie.Need-returns-4
-returns-4 c = simp (ne-eqb _ 1 (c .match .rest .0 .0 .1), ne-eqb _ 2 (c .match .rest .0 .1), ne-eqb _ 3 (c .match .rest .1))
+returns-4 c = sym (ap kindOf (c .match .keys4))
+
+returns-5 : tie.Need-returns-5
+returns-5 c = sym (ap kindOf (c .match .keys5))
+
+returns-6 : tie.Need-returns-6
+returns-6 c =
+    let others = c .match .rest in
+    simp (ne-eqb _ 1 (others .0 .0 .0 .0 .1), ne-eqb _ 2 (others .0 .0 .0 .1), ne-eqb _ 3 (others .0 .0 .1), ne-eqb _ 4 (others .0 .1), ne-eqb _ 5 (others .1))
 
 pub kind-of-spec : {M : Type 1} → statement M
-kind-of-spec = tie.close (tie.spec returns returns-2 returns-3 returns-4)
+kind-of-spec = tie.close (tie.spec returns returns-2 returns-3 returns-4 returns-5 returns-6)

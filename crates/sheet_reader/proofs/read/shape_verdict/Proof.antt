@@ -26,13 +26,13 @@ module _ (kind : Kind) (f : Figure) (s lent : List ℕ) where
 
   -- where the size is right the other two decide
   right-size : {lengths filling verdict : Verdict} {own : Lengths} → length s ≡ sheetSize kind f → own ≡ lengthsOf kind f
-      → lengths ≡ verdictOf (lengthsRow lent (own .angles ∷ own .fixed ∷ own .«log_sines» ∷ own .differences ∷ own .«log_sides» ∷ []))
+      → lengths ≡ verdictOf (lengthsRow lent (own .angles ∷ own .rounds ∷ own .fixed ∷ own .«log_sines» ∷ own .differences ∷ own .«log_sides» ∷ []))
       → filling ≡ verdictOf (fillingRow (fillingBits kind f s)) → verdict ≡ answerOf (lengths ∷ filling ∷ []) → verdict ≡ judged (shapeRows kind f s lent)
   unfolding answerOf
   right-size size is a b e =
       rw (eq-eqb (length s) (sheetSize kind f) size)
       (e ∙ ap₂ (λ (x y : Verdict). answerOf (x ∷ y ∷ []))
-      (a ∙ ap (λ (l : Lengths). verdictOf (lengthsRow lent (l .angles ∷ l .fixed ∷ l .«log_sines» ∷ l .differences ∷ l .«log_sides» ∷ []))) is) b)
+      (a ∙ ap (λ (l : Lengths). verdictOf (lengthsRow lent (l .angles ∷ l .rounds ∷ l .fixed ∷ l .«log_sines» ∷ l .differences ∷ l .«log_sides» ∷ []))) is) b)
 
 sheet-size-requires : tie.Need-sheet-size-requires
 sheet-size-requires c κs = search needs

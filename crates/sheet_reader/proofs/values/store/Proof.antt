@@ -8,8 +8,8 @@ use Rattle.sheet_rules.specs.Promises.{slices}
 use Rattle.sheet_reader.proofs.values.store.Statement.{statement}
 use Rattle.sheet_reader.proofs.values.store.Tie as tie
 
-same-slices : {a b c d e f g h : List ℕ} {x y : List ℤ} → a ≡ b → c ≡ d → e ≡ f → x ≡ y → g ≡ h → slices a c e x g ≡ slices b d f y h
-same-slices p q r s t = rw (p, q, r, s, t)
+same-slices : {a b c d e f g h i j : List ℕ} {x y : List ℤ} → a ≡ b → i ≡ j → c ≡ d → e ≡ f → x ≡ y → g ≡ h → slices a i c e x g ≡ slices b j d f y h
+same-slices p n q r s t = rw (p, n, q, r, s, t)
 
 returns : tie.Need-returns
 returns c =
@@ -17,8 +17,10 @@ returns c =
     let differences = log-sides .before .before .before in
     let log-sines = differences .before .before .before .before in
     let fixed = log-sines .before .before .before .before in
-    let angles = fixed .before .before .before .before in
-    same-slices (angles .copy .ensures) (fixed .copy2 .ensures) (log-sines .copy3 .ensures) (differences .copy-signed .ensures) (log-sides .copy4 .ensures)
+    let rounds = fixed .before .before .before .before in
+    let angles = rounds .before .before .before .before in
+    same-slices (angles .copy .ensures) (rounds .copy-bytes .ensures) (fixed .copy2 .ensures) (log-sines .copy3 .ensures) (differences .copy-signed .ensures)
+    (log-sides .copy4 .ensures)
 
 pub store-spec : {M : Type 1} → statement M
 store-spec =
@@ -29,7 +31,9 @@ store-spec =
     (λ c κs. search needs)
     (λ c κs. search needs)
     (λ c κs. search needs)
-    (λ c. c .before .before .before .before .before .before .before .before .before .before .before .before .before .before .before .before .before .copy .kept .1 .0)
+    (λ c κs. search needs)
+    (λ c. c .before .before .before .before .before .before .before .before .before .before .before .before .before .before .before .before .before .before .before .before .before .copy .kept .1 .0)
+    (λ c. c .before .before .before .before .before .before .before .before .before .before .before .before .before .before .before .before .before .copy-bytes .kept .1 .0)
     (λ c. c .before .before .before .before .before .before .before .before .before .before .before .before .before .copy2 .kept .1 .0)
     (λ c. c .before .before .before .before .before .before .before .before .before .copy3 .kept .1 .0)
     (λ c. c .before .before .before .before .before .copy-signed .kept .1 .0)

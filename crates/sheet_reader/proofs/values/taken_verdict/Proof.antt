@@ -21,39 +21,45 @@ array-share-prefix-angles c = let a = c .before .args in omega (arith, few-of-ea
 slice-aggregate-values-verdict : tie.Need-slice-aggregate-values-verdict
 slice-aggregate-values-verdict c = sym (length-take-le _ _ (array-share-prefix-angles (c .before)))
 
-array-share-prefix-fixed : tie.Need-array-share-prefix-fixed
-array-share-prefix-fixed c = let a = c .before .before .args in omega (arith, few-of-each (a .kind) (a .figure) (c .before .lengths-of .ensures))
+array-share-prefix-rounds : tie.Need-array-share-prefix-rounds
+array-share-prefix-rounds c = let a = c .before .before .args in omega (arith, few-of-each (a .kind) (a .figure) (c .before .lengths-of .ensures))
 
 slice-aggregate-values-verdict-2 : tie.Need-slice-aggregate-values-verdict-2
-slice-aggregate-values-verdict-2 c = sym (length-take-le _ _ (array-share-prefix-fixed (c .before)))
+slice-aggregate-values-verdict-2 c = sym (length-take-le _ _ (array-share-prefix-rounds (c .before)))
 
-array-share-prefix-log-sines : tie.Need-array-share-prefix-log-sines
-array-share-prefix-log-sines c = let a = c .before .before .before .args in omega (arith, few-of-each (a .kind) (a .figure) (c .before .before .lengths-of .ensures))
+array-share-prefix-fixed : tie.Need-array-share-prefix-fixed
+array-share-prefix-fixed c = let a = c .before .before .before .args in omega (arith, few-of-each (a .kind) (a .figure) (c .before .before .lengths-of .ensures))
 
 slice-aggregate-values-verdict-3 : tie.Need-slice-aggregate-values-verdict-3
-slice-aggregate-values-verdict-3 c = sym (length-take-le _ _ (array-share-prefix-log-sines (c .before)))
+slice-aggregate-values-verdict-3 c = sym (length-take-le _ _ (array-share-prefix-fixed (c .before)))
 
-array-share-prefix-differences : tie.Need-array-share-prefix-differences
-array-share-prefix-differences c = let a = c .before .before .before .before .args in omega (arith, few-of-each (a .kind) (a .figure) (c .before .before .before .lengths-of .ensures))
+array-share-prefix-log-sines : tie.Need-array-share-prefix-log-sines
+array-share-prefix-log-sines c = let a = c .before .before .before .before .args in omega (arith, few-of-each (a .kind) (a .figure) (c .before .before .before .lengths-of .ensures))
 
 slice-aggregate-values-verdict-4 : tie.Need-slice-aggregate-values-verdict-4
-slice-aggregate-values-verdict-4 c = sym (length-take-le _ _ (array-share-prefix-differences (c .before)))
+slice-aggregate-values-verdict-4 c = sym (length-take-le _ _ (array-share-prefix-log-sines (c .before)))
 
-array-share-prefix-log-sides : tie.Need-array-share-prefix-log-sides
-array-share-prefix-log-sides c = let a = c .before .before .before .before .before .args in omega (arith, few-of-each (a .kind) (a .figure) (c .before .before .before .before .lengths-of .ensures))
+array-share-prefix-differences : tie.Need-array-share-prefix-differences
+array-share-prefix-differences c = let a = c .before .before .before .before .before .args in omega (arith, few-of-each (a .kind) (a .figure) (c .before .before .before .before .lengths-of .ensures))
 
 slice-aggregate-values-verdict-5 : tie.Need-slice-aggregate-values-verdict-5
-slice-aggregate-values-verdict-5 c = sym (length-take-le _ _ (array-share-prefix-log-sides (c .before)))
+slice-aggregate-values-verdict-5 c = sym (length-take-le _ _ (array-share-prefix-differences (c .before)))
+
+array-share-prefix-log-sides : tie.Need-array-share-prefix-log-sides
+array-share-prefix-log-sides c = let a = c .before .before .before .before .before .before .args in omega (arith, few-of-each (a .kind) (a .figure) (c .before .before .before .before .before .lengths-of .ensures))
+
+slice-aggregate-values-verdict-6 : tie.Need-slice-aggregate-values-verdict-6
+slice-aggregate-values-verdict-6 c = sym (length-take-le _ _ (array-share-prefix-log-sides (c .before)))
 
 values-verdict-requires : tie.Need-values-verdict-requires
 values-verdict-requires c κs = search needs
 
 returns : tie.Need-returns
 returns c =
-    let at = c .before .before .before .before .before .before in
+    let at = c .before .before .before .before .before .before .before in
     let a = at .before .args in
     c .values-verdict .ensures
-    ∙ ap (λ (l : Lengths). judged (valueRows (a .kind) (valuesFrom (a .limit-or-tolerance) (take (l .angles) (a .t4)) (take (l .fixed) (a .t5)) (take (l .«log_sines») (a .t6)) (take (l .differences) (a .t7)) (take (l .«log_sides») (a .t8)))))
+    ∙ ap (λ (l : Lengths). judged (valueRows (a .kind) (valuesFrom (a .limit-or-tolerance) (take (l .angles) (a .t4)) (take (l .rounds) (a .t5)) (take (l .fixed) (a .t6)) (take (l .«log_sines») (a .t7)) (take (l .differences) (a .t8)) (take (l .«log_sides») (a .t9)))))
     (at .lengths-of .ensures)
 
 pub taken-verdict-spec : {M : Type 1} → statement M
@@ -63,13 +69,15 @@ taken-verdict-spec =
     lengths-of-requires
     array-share-prefix-angles
     slice-aggregate-values-verdict
-    array-share-prefix-fixed
+    array-share-prefix-rounds
     slice-aggregate-values-verdict-2
-    array-share-prefix-log-sines
+    array-share-prefix-fixed
     slice-aggregate-values-verdict-3
-    array-share-prefix-differences
+    array-share-prefix-log-sines
     slice-aggregate-values-verdict-4
-    array-share-prefix-log-sides
+    array-share-prefix-differences
     slice-aggregate-values-verdict-5
+    array-share-prefix-log-sides
+    slice-aggregate-values-verdict-6
     values-verdict-requires
     returns)

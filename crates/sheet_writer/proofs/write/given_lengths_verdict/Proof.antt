@@ -25,7 +25,7 @@ returns : tie.Need-returns
 returns c =
     let given = c .before .before .before .before .before .args .given .now in
     c .lengths-verdict .ensures
-    ∙ ap₂ (λ (l : Lengths) (size : ℕ). verdictOf (lengthsRow given (l .angles ∷ l .fixed ∷ l .«log_sines» ∷ l .differences ∷ l .«log_sides» ∷ size ∷ [])))
+    ∙ ap₂ (λ (l : Lengths) (size : ℕ). verdictOf (lengthsRow given (l .angles ∷ l .rounds ∷ l .fixed ∷ l .«log_sines» ∷ l .differences ∷ l .«log_sides» ∷ size ∷ [])))
     (c .before .before .before .lengths-of .ensures) (c .before .before .sheet-size .ensures)
 
 pub given-lengths-verdict-spec : {M : Type 1} → statement M

@@ -20,8 +20,8 @@ enum-told c = search needs
 returns : tie.Need-returns
 returns c =
     let judged = c .before .before in
-    let a = judged .before .before .before .before .before .before .before .before .args in
-    lengths-refused (a .kind) (a .figure) (valuesFrom (a .bound) (a .angles .now) (a .fixed .now) (a .log-sines .now) (a .differences .now) (a .log-sides .now)) (a .sheet .now) (judged .before .given-lengths-verdict .ensures) _ (c .enum-told .given .1)
+    let a = judged .before .before .before .before .before .before .before .before .before .args in
+    lengths-refused (a .kind) (a .figure) (valuesFrom (a .bound) (a .angles .now) (a .rounds .now) (a .fixed .now) (a .log-sines .now) (a .differences .now) (a .log-sides .now)) (a .sheet .now) (judged .before .given-lengths-verdict .ensures) _ (c .enum-told .given .1)
 
 enum-told-2 : tie.Need-enum-told-2
 enum-told-2 c = search needs
@@ -33,8 +33,8 @@ pack-requires : tie.Need-pack-requires
 pack-requires c κs =
     let told = c .before .before .before in
     let judged = told .before .before in
-    let a = judged .before .before .before .before .before .before .before .before .args in
-    right (a .kind) (a .figure) (valuesFrom (a .bound) (a .angles .now) (a .fixed .now) (a .log-sines .now) (a .differences .now) (a .log-sides .now)) (a .sheet .now) (judged .before .given-lengths-verdict .ensures) (told .enum-told2 .given .1)
+    let a = judged .before .before .before .before .before .before .before .before .before .args in
+    right (a .kind) (a .figure) (valuesFrom (a .bound) (a .angles .now) (a .rounds .now) (a .fixed .now) (a .log-sines .now) (a .differences .now) (a .log-sides .now)) (a .sheet .now) (judged .before .given-lengths-verdict .ensures) (told .enum-told2 .given .1)
 
 enum-told-4 : tie.Need-enum-told-4
 enum-told-4 c = search needs
@@ -48,16 +48,16 @@ returns-2 c =
     let passed = packed .before .before in
     let told = passed .before .before in
     let judged = told .before .before in
-    let a = judged .before .before .before .before .before .before .before .before .args in
-    values-written (a .kind) (a .figure) (valuesFrom (a .bound) (a .angles .now) (a .fixed .now) (a .log-sines .now) (a .differences .now) (a .log-sides .now)) (a .sheet .now) (judged .before .given-lengths-verdict .ensures) (told .enum-told2 .given .1)
+    let a = judged .before .before .before .before .before .before .before .before .before .args in
+    values-written (a .kind) (a .figure) (valuesFrom (a .bound) (a .angles .now) (a .rounds .now) (a .fixed .now) (a .log-sines .now) (a .differences .now) (a .log-sides .now)) (a .sheet .now) (judged .before .given-lengths-verdict .ensures) (told .enum-told2 .given .1)
     (judged .values-verdict .ensures) (passed .enum-told3 .given .1) (packed .pack .ensures)
 
 returns-3 : tie.Need-returns-3
 returns-3 c =
     let told = c .before .before in
     let judged = told .before .before in
-    let a = judged .before .before .before .before .before .before .before .before .args in
-    values-refused (a .kind) (a .figure) (valuesFrom (a .bound) (a .angles .now) (a .fixed .now) (a .log-sines .now) (a .differences .now) (a .log-sides .now)) (a .sheet .now) (judged .before .given-lengths-verdict .ensures) (told .enum-told2 .given .1)
+    let a = judged .before .before .before .before .before .before .before .before .before .args in
+    values-refused (a .kind) (a .figure) (valuesFrom (a .bound) (a .angles .now) (a .rounds .now) (a .fixed .now) (a .log-sines .now) (a .differences .now) (a .log-sides .now)) (a .sheet .now) (judged .before .given-lengths-verdict .ensures) (told .enum-told2 .given .1)
     (judged .values-verdict .ensures) _ (c .enum-told4 .given .1)
 
 pub write-given-spec : {M : Type 1} → statement M

@@ -20,8 +20,8 @@ write-given-requires c κs = search needs
 returns : tie.Need-returns
 returns c =
     let found = c .before .before .before in
-    let a = found .before .before .before .before .before .before .args in
-    head-refuses (a .kind) (a .code) (a .n) (valuesFrom (a .limit-or-tolerance) (a .angles .now) (a .fixed .now) (a .log-sines .now) (a .differences .now) (a .log-sides .now)) (a .sheet .now) (found .named-head .ensures) _ (c .before .refusal .given .1)
+    let a = found .before .before .before .before .before .before .before .args in
+    head-refuses (a .kind) (a .code) (a .n) (valuesFrom (a .limit-or-tolerance) (a .angles .now) (a .rounds .now) (a .fixed .now) (a .log-sines .now) (a .differences .now) (a .log-sides .now)) (a .sheet .now) (found .named-head .ensures) _ (c .before .refusal .given .1)
 
 same-length : tie.Need-same-length
 same-length c = search needs
@@ -31,8 +31,8 @@ returns-2 c =
     let given = c .before .before in
     let named = given .before .before .before in
     let found = named .before .before in
-    let a = found .before .before .before .before .before .before .args in
-    given-writes (a .kind) (a .code) (a .n) (valuesFrom (a .limit-or-tolerance) (a .angles .now) (a .fixed .now) (a .log-sines .now) (a .differences .now) (a .log-sides .now)) (a .sheet .now) (found .named-head .ensures) _ _ (named .named .given .1) (given .write-given .ensures)
+    let a = found .before .before .before .before .before .before .before .args in
+    given-writes (a .kind) (a .code) (a .n) (valuesFrom (a .limit-or-tolerance) (a .angles .now) (a .rounds .now) (a .fixed .now) (a .log-sines .now) (a .differences .now) (a .log-sides .now)) (a .sheet .now) (found .named-head .ensures) _ _ (named .named .given .1) (given .write-given .ensures)
 
 pub write-sheet-spec : {M : Type 1} → statement M
 write-sheet-spec =

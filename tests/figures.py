@@ -200,16 +200,22 @@ def condition_rows(figure):
     return [[int(angle in condition) for angle in range(1, figure.angle_count + 1)] for condition in figure.conditions]
 
 
-def second_corrections(figure, signed_differences, sine_misclosures):
-    """The corrections, as fractions of tenths, that change no linear condition, cancel every linearised sine misclosure, and
-    have the least sum of squares, by the normal equations of all conditions together: for each sine condition the sum of its
-    d times the correction is -100 W. None where the conditions depend on each other."""
+def corrections_of_all(figure, signed_differences, sums, sine_sums):
+    """The corrections, as fractions of tenths, that have the least sum of squares of all that change each linear condition and
+    each linearised sine condition by so much (whole numbers), by the normal equations of all conditions together. None where the
+    conditions depend on each other."""
     rows = condition_rows(figure) + [list(differences) for differences in signed_differences]
-    wanted = [0] * len(figure.conditions) + [-100 * misclosure for misclosure in sine_misclosures]
     normal = [[product_sum(one, another) for another in rows] for one in rows]
-    correlates = eliminated(normal, [[value] for value in wanted])
+    correlates = eliminated(normal, [[value] for value in (*sums, *sine_sums)])
     if correlates is None:
         return None
     common = lcm(*(k.denominator for (k,) in correlates))
     whole = [int(k * common) for (k,) in correlates]
     return [Fraction(product_sum(whole, column), common) for column in zip(*rows)]
+
+
+def second_corrections(figure, signed_differences, sine_misclosures):
+    """Of the second pass: no linear condition changes, and every linearised sine misclosure is cancelled, for each sine condition
+    the sum of its d times the correction is -100 W."""
+    unchanged = [0] * len(figure.conditions)
+    return corrections_of_all(figure, signed_differences, unchanged, [-100 * misclosure for misclosure in sine_misclosures])

@@ -1,5 +1,5 @@
 #!/usr/bin/env python3
-"""The independent computation held against document 01's worked cases, document 02's M-100 to M-106 and the published examples.
+"""The independent computation held against document 01's worked cases, document 02's M-100 to M-107 and the published examples.
 
 The program is not run here: this says that what it is compared with is right.
 """
@@ -26,6 +26,7 @@ from figures import (
     FIGURES,
     Figure,
     condition_sums,
+    corrections_of_all,
     figure_of,
     first_numerators,
     least_squares_corrections,
@@ -37,7 +38,9 @@ from made_choices import choice_sheets, offers
 from made_sheets import EVERY_SORT, halves, halves_of_the_first_pass, halves_of_two, sorts_of_halves
 from packed import KINDS, Bits, Refused, Sheet, is_first, packed_values, read_sheet, read_values, sheet_size, used_bits, write_sheet
 
-SHEETS = Path(__file__).resolve().parent.parent / "sheets"
+ROOT = Path(__file__).resolve().parent.parent
+SHEETS = ROOT / "sheets"
+DOCS = ROOT / "docs"
 sys.path.insert(0, str(SHEETS))
 
 from values import BOOKS, DOCUMENT_TEXT, EACH_FIGURE, KIND_3, KIND_4, KIND_5, ROUNDS, Second  # noqa: E402
@@ -565,6 +568,73 @@ class OfferedChoices(unittest.TestCase):
         for place, beyond in DefaultLimit().opened(3, 91):
             self.assertEqual(answer_of(check_closing, beyond, [9] * beyond.figure.angle_count), (6, place))
             self.assertEqual(answer_of(closing_corrections, beyond), (6, place))
+
+
+class BothPasses(unittest.TestCase):
+    """Document 02, M-107, and the numbers of docs/TOGETHER.md."""
+
+    EXAMPLE = "book-000-example-2"
+    STEP = (1, -4, 3, 0, -2, -1, 1, 2)  # changes no condition and no sine sum of the example
+
+    def setUp(self):
+        self.figure, self.signed, self.first, self.second = self.exact(self.EXAMPLE)
+        self.both = [one + two for one, two in zip(self.first, self.second)]
+
+    def exact(self, name):
+        """The figure, the signed differences of each sine condition, and the exact corrections of both passes."""
+        first, second = (read_sheet(sample(f"{name}-{part}")) for part in ("first", "second"))
+        one, two = worked(first), worked(second)
+        signed = [signed_values(sine.signs, second.differences) for sine in second.figure.sines]
+        over_d = [Fraction(numerator, first.figure.denominator) for numerator in one.numerators]
+        return first.figure, signed, over_d, [Fraction(numerator, two.divisor) for numerator in two.numerators]
+
+    def sums(self, corrections):
+        return condition_sums(self.figure, corrections), product_sum(self.signed[0], corrections)
+
+    def test_one_adjustment(self):
+        """In every figure: the sum, in whole numbers over one denominator, is what the normal equations of all conditions at once give."""
+        names = [name.removesuffix("-first") for name in EACH_FIGURE if name.endswith("-first")]
+        for name in [*names, "book-000-example-1", self.EXAMPLE, "book-001-example-8-1", "book-004-example-1"]:
+            figure, signed, first, second = self.exact(name)
+            common = math.lcm(*(correction.denominator for correction in first + second))
+            both = [int(common * (one + two)) for one, two in zip(first, second)]
+            sine_sums = [product_sum(d, both) for d in signed]
+            self.assertEqual(corrections_of_all(figure, signed, condition_sums(figure, both), sine_sums), both, name)
+
+    def test_what_the_sum_changes(self):
+        """It cancels the misclosures 16, 19, -18, and the sine sum changes by what the first did less 100 W."""
+        self.assertEqual(self.sums(self.first), ([-16, -19, 18], Fraction(-825, 2)))
+        self.assertEqual(self.sums(self.second), ([0, 0, 0], -12_600))
+        self.assertEqual(self.sums(self.both), ([-16, -19, 18], Fraction(-825, 2) - 100 * 126))
+
+    def test_sums_of_squares(self):
+        ours = product_sum(self.both, self.both)
+        self.assertEqual(product_sum(self.first, self.first), 345)
+        self.assertEqual(product_sum(self.second, self.second), Fraction(7_056_000, 37_567))
+        self.assertEqual(ours, 345 + Fraction(7_056_000, 37_567))
+
+    def test_third_set_is_larger(self):
+        third = [correction + step for correction, step in zip(self.both, self.STEP)]
+        self.assertEqual(self.sums(third), self.sums(self.both))
+        self.assertEqual(product_sum(third, third), product_sum(self.both, self.both) + 36)
+
+    def test_without_the_sine_sum_it_is_false(self):
+        """The first corrections cancel the misclosures with fewer squares; it is the sine sum that they leave."""
+        self.assertEqual(self.sums(self.first)[0], self.sums(self.both)[0])
+        self.assertNotEqual(self.sums(self.first)[1], self.sums(self.both)[1])
+        self.assertLess(product_sum(self.first, self.first), product_sum(self.both, self.both))
+
+    def test_page(self):
+        """Its table has these numbers, to three decimals, and the sums."""
+        third = [correction + step for correction, step in zip(self.both, self.STEP)]
+        lines = (DOCS / "TOGETHER.md").read_text(encoding="utf-8").replace("−", "-").splitlines()
+        table = [[cell.strip() for cell in line.split("|")[1:-1]] for line in lines if line.startswith("|")]
+        columns = [[f"{value:.3f}" for value in map(float, column)] for column in (self.first, self.second, self.both, third)]
+        squares = [f"{float(product_sum(column, column)):.3f}" for column in (self.first, self.second, self.both, third)]
+        sines = [f"{float(product_sum(self.signed[0], column)):.1f}" for column in (self.first, self.second, self.both, third)]
+        rows = [[str(i + 1), str(self.signed[0][i]), *(column[i] for column in columns)] for i in range(8)]
+        self.assertEqual(table[2:10], rows)
+        self.assertEqual([row[2:] for row in table[-2:]], [sines, squares])
 
 
 class BookFour(unittest.TestCase):

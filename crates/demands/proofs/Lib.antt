@@ -1,5 +1,6 @@
 -- The demands proved, each statement of specs/ under its name. `ByTheTable`, `BothSines`, `Closing`, `Pages` and `WorkedValues` have the
 -- laws that they share.
+pub mod BothPasses
 mod BothSines
 mod ByTheTable
 mod Closing

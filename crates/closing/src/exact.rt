@@ -24,9 +24,11 @@ pub(crate) fn exact_into(
     requires { ⌜ length (now misclosures) ≡ conditionCount figure ⌝ }
     requires { ⌜ length (now numerators) ≡ angleCount figure ⌝ }
     ensures { λ answer. ⌜ answer ≡ judged (passRows figure limit (now (angles .entry)) (now (rounds .entry)) (now (fixed .entry))) ⌝ }
-    ensures { λ _. ⌜ now (misclosures .exit) ≡ stored (judged (passRows figure limit (now (angles .entry)) (now (rounds .entry)) (now (fixed .entry))))
+    ensures { λ _. ⌜ now (misclosures .exit) ≡ stored
+        (judged (passRows figure limit (now (angles .entry)) (now (rounds .entry)) (now (fixed .entry))))
         (misclosuresOf figure (now (angles .entry)) (now (fixed .entry))) (now (misclosures .entry)) ⌝ }
-    ensures { λ _. ⌜ now (numerators .exit) ≡ stored (judged (passRows figure limit (now (angles .entry)) (now (rounds .entry)) (now (fixed .entry))))
+    ensures { λ _. ⌜ now (numerators .exit) ≡ stored
+        (judged (passRows figure limit (now (angles .entry)) (now (rounds .entry)) (now (fixed .entry))))
         (numeratorsOf figure (now (angles .entry)) (now (fixed .entry))) (now (numerators .entry)) ⌝ }
 {
     let m = misclosures.len();

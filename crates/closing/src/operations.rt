@@ -95,7 +95,8 @@ fn check_of(
     fixed: &[u32],
     offered: &[i32],
 ) -> Verdict
-    ensures { λ answer. ⌜ answer ≡ checkAnswerOf figure limit (now (angles .entry)) (now (rounds .entry)) (now (fixed .entry)) (now (offered .entry)) ⌝ }
+    ensures { λ answer. ⌜ answer
+        ≡ checkAnswerOf figure limit (now (angles .entry)) (now (rounds .entry)) (now (fixed .entry)) (now (offered .entry)) ⌝ }
 {
     let counts = figure_tables::counts_of(figure);
     let n = counts.angles;

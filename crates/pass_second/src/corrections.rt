@@ -53,7 +53,8 @@ pub(crate) fn second_corrected(
     requires { ⌜ Within mostReduced (now a) ⌝ }
     requires { ⌜ Within mostReduced (now b) ⌝ }
     ensures { λ answer. ⌜ StoredIf
-        (verdictOf (resultsRow (resultsOf (now (angles .entry)) (tenthsFrom (denominator figure) sides pair (now (a .entry)) (now (b .entry))))))
+        (verdictOf (resultsRow (resultsOf (now (angles .entry))
+        (tenthsFrom (denominator figure) sides pair (now (a .entry)) (now (b .entry))))))
         (secondFrom figure (now (angles .entry)) sides pair (now (a .entry)) (now (b .entry)))
         (secondWork (now (reduced .entry)) (now («side_reduced» .entry)) (now («numerators_high» .entry)) (now («numerators_low» .entry))
         (now (rounded .entry)) (now (adjusted .entry)) (now (rests .entry))) answer
@@ -119,8 +120,8 @@ fn store_second(
     requires { ⌜ length (now rounded) ≡ angleCount figure ⌝ }
     requires { ⌜ length (now rests) ≡ conditionCount figure ⌝ }
     requires { ⌜ Within mostSummed (now tenths) ⌝ }
-    ensures { λ _. ⌜ Stored (now (reduced .exit)) (now («side_reduced» .exit)) (now («numerators_high» .exit)) (now («numerators_low» .exit))
-        (now (rounded .exit)) (now (rests .exit))
+    ensures { λ _. ⌜ Stored (now (reduced .exit)) (now («side_reduced» .exit))
+        (now («numerators_high» .exit)) (now («numerators_low» .exit)) (now (rounded .exit)) (now (rests .exit))
         (now (a .entry)) (now (b .entry)) (now (high .entry)) (now (low .entry)) (now (tenths .entry))
         (listed (conditionCount figure) (conditionSum figure (vector (now (tenths .entry))))) ⌝ }
 {

@@ -83,7 +83,8 @@ fn put_head(sheet: &mut [u8], kind: Kind, figure: Figure) -> Packer
 
 fn put_limit_or_tolerance(sheet: &mut [u8], packer: Packer, pass: Pass, value: u32) -> Packer
     requires { ⌜ HasRoom (now sheet) packer (widthOf (ofPass pass limit tolerance)) ⌝ }
-    ensures { λ after. ⌜ Packs (now (sheet .entry)) packer (fieldFrom (widthOf (ofPass pass limit tolerance)) value ∷ []) (now (sheet .exit)) after ⌝ }
+    ensures { λ after. ⌜ Packs (now (sheet .entry)) packer (fieldFrom (widthOf (ofPass pass limit tolerance)) value ∷ [])
+        (now (sheet .exit)) after ⌝ }
 {
     match pass {
         Pass::First => put(sheet, packer, LIMIT_WIDTH, value),

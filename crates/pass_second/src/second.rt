@@ -39,10 +39,12 @@ pub fn second_pass(
     ensures { λ answer. ⌜ SecondPromise
         (secondGiven code n tolerance (now (angles .entry)) (now (rounds .entry))
         (sineEntries (now («log_sines» .entry)) (now (differences .entry)) (now («log_sides» .entry))))
-        (secondLent (now (reduced .entry)) (now («side_reduced» .entry)) (now («numerators_high» .entry)) (now («numerators_low» .entry))
-        (now (rounded .entry)) (now (adjusted .entry)) (now («adjusted_rounds» .entry)) (now (rests .entry))) answer
-        (secondLent (now (reduced .exit)) (now («side_reduced» .exit)) (now («numerators_high» .exit)) (now («numerators_low» .exit))
-        (now (rounded .exit)) (now (adjusted .exit)) (now («adjusted_rounds» .exit)) (now (rests .exit))) ⌝ }
+        (secondLent (now (reduced .entry)) (now («side_reduced» .entry)) (now («numerators_high» .entry))
+        (now («numerators_low» .entry)) (now (rounded .entry)) (now (adjusted .entry))
+        (now («adjusted_rounds» .entry)) (now (rests .entry))) answer
+        (secondLent (now (reduced .exit)) (now («side_reduced» .exit)) (now («numerators_high» .exit))
+        (now («numerators_low» .exit)) (now (rounded .exit)) (now (adjusted .exit))
+        (now («adjusted_rounds» .exit)) (now (rests .exit))) ⌝ }
 {
     let Named::As(figure) = figures::figure_of(code, n) else {
         return SecondAnswer::Refused(Refusal::NoSuchFigure);
@@ -86,10 +88,12 @@ pub fn second_pass_of(
 ) -> SecondAnswer
     ensures { λ answer. ⌜ SecondPromiseOf figure tolerance (now (angles .entry)) (now (rounds .entry))
         (sineEntries (now («log_sines» .entry)) (now (differences .entry)) (now («log_sides» .entry)))
-        (secondLent (now (reduced .entry)) (now («side_reduced» .entry)) (now («numerators_high» .entry)) (now («numerators_low» .entry))
-        (now (rounded .entry)) (now (adjusted .entry)) (now («adjusted_rounds» .entry)) (now (rests .entry))) answer
-        (secondLent (now (reduced .exit)) (now («side_reduced» .exit)) (now («numerators_high» .exit)) (now («numerators_low» .exit))
-        (now (rounded .exit)) (now (adjusted .exit)) (now («adjusted_rounds» .exit)) (now (rests .exit))) ⌝ }
+        (secondLent (now (reduced .entry)) (now («side_reduced» .entry)) (now («numerators_high» .entry))
+        (now («numerators_low» .entry)) (now (rounded .entry)) (now (adjusted .entry))
+        (now («adjusted_rounds» .entry)) (now (rests .entry))) answer
+        (secondLent (now (reduced .exit)) (now («side_reduced» .exit)) (now («numerators_high» .exit))
+        (now («numerators_low» .exit)) (now (rounded .exit)) (now (adjusted .exit))
+        (now («adjusted_rounds» .exit)) (now (rests .exit))) ⌝ }
 {
     let results = [
         reduced.len(),

@@ -199,10 +199,6 @@ fn values_lines(buffer: &mut [u8], kind: Kind, figure: Figure, values: SheetValu
     ensures { λ next. ⌜ Holds (now (buffer .entry)) (textOf (workedFrom kind figure values)) (now (buffer .exit)) next ⌝ }
 {
     let lengths = sheet_rules::lengths_of(kind, figure);
-    let n = lengths.angles;
-    let k = lengths.fixed;
-    let m = lengths.log_sines;
-    let s = lengths.log_sides;
     let angles = values.angles;
     let rounds = values.rounds;
     let fixed = values.fixed;
@@ -223,19 +219,19 @@ fn values_lines(buffer: &mut [u8], kind: Kind, figure: Figure, values: SheetValu
                     buffer,
                     f,
                     bound,
-                    &angles[..n],
-                    &rounds[..n],
-                    &fixed[..k],
+                    &angles[..lengths.angles],
+                    &rounds[..lengths.angles],
+                    &fixed[..lengths.fixed],
                 ),
                 Pass::Second => second_sheet(
                     buffer,
                     f,
                     bound,
-                    &angles[..n],
-                    &rounds[..n],
-                    &log_sines[..m],
-                    &differences[..m],
-                    &log_sides[..s],
+                    &angles[..lengths.angles],
+                    &rounds[..lengths.angles],
+                    &log_sines[..lengths.log_sines],
+                    &differences[..lengths.log_sines],
+                    &log_sides[..lengths.log_sides],
                 ),
             }
         }

@@ -1,7 +1,8 @@
 -- The steps that both passes share meet their contracts; and for the passes: how large sums and numerators are, what a step gives where what is lent fits,
--- and arrays that are lent in part.
+-- the counts of a figure, and arrays that are lent in part.
 pub mod Again
 pub mod Bounds
+pub mod Counted
 pub mod Fitting
 pub mod Held
 pub mod Judged

@@ -1,5 +1,6 @@
-// Packed sheets: document 01, "Packed sheets". The values of a sheet and its bytes are defined in specs/Sheet.antt; what is turned back, and
-// in which order, stands in specs/Judging.antt. The code here is what the reader (`sheet_reader`) and the writer (`sheet_writer`) share.
+// Packed sheets: document 01, "Packed sheets". The values of a sheet and its bytes are defined in specs/Sheet.antt; what is turned back,
+// and in which order, stands in specs/Judging.antt. The code here is what the reader (`sheet_reader`) and the writer (`sheet_writer`)
+// share.
 ghost use mathlib.Core.Path.{_≡_};
 ghost use Rattle.refusals.specs.Order.{judged};
 ghost use Rattle.sheet_rules.specs.Sheet.{valuesFrom};
@@ -64,7 +65,8 @@ pub fn values_verdict(
     log_sides: &[u32],
 ) -> Verdict
     ensures { λ verdict. ⌜ verdict ≡ judged (valueRows kind (valuesFrom «limit_or_tolerance» (now (angles .entry))
-        (now (rounds .entry)) (now (fixed .entry)) (now («log_sines» .entry)) (now (differences .entry)) (now («log_sides» .entry)))) ⌝ }
+        (now (rounds .entry)) (now (fixed .entry)) (now («log_sines» .entry)) (now (differences .entry))
+        (now («log_sides» .entry)))) ⌝ }
 {
     let range = limit_or_tolerance_verdict(limit_or_tolerance, most_limit_or_tolerance(kind));
     let angle = angles_verdict(angles);

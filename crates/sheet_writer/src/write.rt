@@ -152,7 +152,8 @@ fn put_row(
     difference: i32,
 ) -> Packer
     requires { ⌜ HasRoom (now sheet) start (65 + roundsBits carried) ⌝ }
-    ensures { λ after. ⌜ Packs (now (sheet .entry)) start (rowOf carried angle rounds «log_sine» difference) (now (sheet .exit)) after ⌝ }
+    ensures { λ after. ⌜ Packs (now (sheet .entry)) start (rowOf carried angle rounds «log_sine» difference)
+        (now (sheet .exit)) after ⌝ }
 {
     let with_angle = put_angle(sheet, start, carried, angle, rounds);
     let with_log_sine = put(sheet, with_angle, LOG_SINE_WIDTH, log_sine);
@@ -247,7 +248,8 @@ fn pack(
         (now «log_sides»)) ≡ ownLengths kind figure ⌝ }
     requires { ⌜ length (now sheet) ≡ sheetSize kind figure ⌝ }
     ensures { λ _. ⌜ now (sheet .exit) ≡ packedSheet kind figure (valuesFrom bound (now (angles .entry))
-        (now (rounds .entry)) (now (fixed .entry)) (now («log_sines» .entry)) (now (differences .entry)) (now («log_sides» .entry))) ⌝ }
+        (now (rounds .entry)) (now (fixed .entry)) (now («log_sines» .entry)) (now (differences .entry))
+        (now («log_sides» .entry))) ⌝ }
 {
     let pass = pass_of(kind);
     let carried = carries_rounds(kind);

@@ -1,8 +1,7 @@
 -- `pass_sheet::first_sheet` meets its contract: the lines of what the pass left, or its refusal.
 use mathlib.Core.Path.{_≡_, sym, ap, _∙_, subst}
 use mathlib.Core.List.{List, [], _∷_, _++_}
-use Prim.Native.Nat.{ℕ, _≤_}
-use native.Mathlib.Omega.{arith}
+use Prim.Native.Nat.{ℕ}
 use borrow.Author.Needs.{needs}
 use denote.Ref.{now}
 use lib.IntN.{ℤ, pos}
@@ -10,12 +9,10 @@ use lib.ListN.{length, take, drop, replicate}
 use Rattle.whole.specs.Sums.{vector, naturals}
 use Rattle.text.specs.Holds.{Holds}
 use Rattle.lines.specs.Lines.{firstText}
-use Rattle.figures.specs.declared.Counts.{Counts}
-use Rattle.figures.specs.Figure.{angleCount, conditionCount}
-use Rattle.figures.proofs.Figures.{angle-bound, condition-bound}
 use Rattle.pass_rules.specs.FirstPass.{firstResultLengths}
 use Rattle.pass_rules.specs.Promises.{FirstLent, firstLent, firstResultsLent}
 use Rattle.pass_steps.proofs.Again.{Again, again}
+use Rattle.pass_steps.proofs.Counted.{Counted, counted}
 use Rattle.pass_steps.proofs.Lending.{lent-length}
 use Rattle.pass_sheet.proofs.Sheets.{first-refused, first-worked}
 use Rattle.pass_sheet.proofs.first_sheet.Statement.{statement}
@@ -28,17 +25,8 @@ module _ (c : tie.After-counts-of) where
   abbrev m : ℕ
   m = c .counts-of .result .conditions
 
-  n-is : n ≡ angleCount (c .before .before .before .before .before .args .figure)
-  n-is = ap (λ (k : Counts). k .angles) (c .counts-of .ensures)
-
-  m-is : m ≡ conditionCount (c .before .before .before .before .before .args .figure)
-  m-is = ap (λ (k : Counts). k .conditions) (c .counts-of .ensures)
-
-  few-angles : n ≤ 24
-  few-angles = omega (arith, n-is, angle-bound (c .before .before .before .before .before .args .figure))
-
-  few-conditions : m ≤ 9
-  few-conditions = omega (arith, m-is, condition-bound (c .before .before .before .before .before .args .figure))
+  sizes : Counted (c .before .before .before .before .before .args .figure) (c .counts-of .result)
+  sizes = counted (c .before .before .before .before .before .args .figure) (c .counts-of .result) (c .counts-of .ensures)
 
 -- what the pass left, each at the start of its array
 module _ (p : tie.After-first-pass-of) where
@@ -67,10 +55,10 @@ module _ (p : tie.After-first-pass-of) where
   rests = p .first-pass-of .last .1 .1 .1 .1 .1 .1 .1 .1 .1 .1 .0
 
   by-angle : {A : Type 0} (zero : A) (part : List A) → length part ≡ length (take (n counts) (replicate 24 zero)) → Again (n counts) (replicate 24 zero) part
-  by-angle zero part kept = again (n counts) (replicate 24 zero) (few-angles counts) part kept
+  by-angle zero part kept = again (n counts) (replicate 24 zero) (sizes counts .few-angles) part kept
 
   by-condition : (part : List ℤ) → length part ≡ length (take (m counts) (replicate 9 (pos 0))) → Again (m counts) (replicate 9 (pos 0)) part
-  by-condition part kept = again (m counts) (replicate 9 (pos 0)) (few-conditions counts) part kept
+  by-condition part kept = again (m counts) (replicate 9 (pos 0)) (sizes counts .few-conditions) part kept
 
   misclosures-again : Again (m counts) (replicate 9 (pos 0)) misclosures
   misclosures-again = by-condition misclosures (p .first-pass-of .kept .1 .1 .1 .1 .1 .0)
@@ -97,9 +85,9 @@ module _ (p : tie.After-first-pass-of) where
 
   lengths : firstResultsLent entry ≡ firstResultLengths (start .args .figure)
   lengths =
-      let angles = sym (lent-length (n counts) (replicate 24 (pos 0)) (few-angles counts)) ∙ n-is counts in
-      let naturals = sym (lent-length {A = ℕ} (n counts) (replicate 24 0) (few-angles counts)) ∙ n-is counts in
-      let conditions = sym (lent-length (m counts) (replicate 9 (pos 0)) (few-conditions counts)) ∙ m-is counts in
+      let angles = sym (sizes counts .lent-angles) ∙ sizes counts .own-angles in
+      let naturals = sym (lent-length {A = ℕ} (n counts) (replicate 24 0) (sizes counts .few-angles)) ∙ sizes counts .own-angles in
+      let conditions = sym (sizes counts .lent-conditions) ∙ sizes counts .own-conditions in
       λ i. conditions i ∷ angles i ∷ angles i ∷ naturals i ∷ naturals i ∷ conditions i ∷ []
 
 returns : tie.Need-returns
@@ -135,18 +123,18 @@ first-sheet-spec =
     tie.close
     (tie.spec
     (λ c κs. search needs)
-    (λ c. few-conditions c)
-    (λ c. lent-length (m (c .before)) (replicate 9 (pos 0)) (few-conditions (c .before)))
-    (λ c. few-angles (c .before))
-    (λ c. lent-length (n (c .before .before)) (replicate 24 (pos 0)) (few-angles (c .before .before)))
-    (λ c. few-angles (c .before .before))
-    (λ c. lent-length (n (c .before .before .before)) (replicate 24 (pos 0)) (few-angles (c .before .before .before)))
-    (λ c. few-angles (c .before .before .before))
-    (λ c. lent-length (n (c .before .before .before .before)) (replicate 24 0) (few-angles (c .before .before .before .before)))
-    (λ c. few-angles (c .before .before .before .before))
-    (λ c. lent-length (n (c .before .before .before .before .before)) (replicate 24 0) (few-angles (c .before .before .before .before .before)))
-    (λ c. few-conditions (c .before .before .before .before .before))
-    (λ c. lent-length (m (c .before .before .before .before .before .before)) (replicate 9 (pos 0)) (few-conditions (c .before .before .before .before .before .before)))
+    (λ c. sizes c .few-conditions)
+    (λ c. sizes (c .before) .lent-conditions)
+    (λ c. sizes (c .before) .few-angles)
+    (λ c. sizes (c .before .before) .lent-angles)
+    (λ c. sizes (c .before .before) .few-angles)
+    (λ c. sizes (c .before .before .before) .lent-angles)
+    (λ c. sizes (c .before .before .before) .few-angles)
+    (λ c. lent-length (n (c .before .before .before .before)) (replicate 24 0) (sizes (c .before .before .before .before) .few-angles))
+    (λ c. sizes (c .before .before .before .before) .few-angles)
+    (λ c. lent-length (n (c .before .before .before .before .before)) (replicate 24 0) (sizes (c .before .before .before .before .before) .few-angles))
+    (λ c. sizes (c .before .before .before .before .before) .few-conditions)
+    (λ c. sizes (c .before .before .before .before .before .before) .lent-conditions)
     (λ c κs. search needs)
     (λ c. search needs)
     (λ c κs. search needs)

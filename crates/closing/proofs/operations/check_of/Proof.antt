@@ -1,8 +1,7 @@
 -- `closing::operations::check_of` meets its contract: the rows in their order, the first pass's before number 15.
-use Prim.Native.Nat.{ℕ, _≤_}
+use Prim.Native.Nat.{ℕ}
 use mathlib.Core.List.{List, _++_}
 use mathlib.Core.Path.{_≡_, sym, ap, ap₂, _∙_}
-use native.Mathlib.Omega.{arith}
 use borrow.Author.Needs.{needs}
 use denote.Ref.{now}
 use lib.IntN.{ℤ, pos}
@@ -11,11 +10,10 @@ use Rattle.refusals.specs.declared.Verdict.the-variants.{Passed}
 use Rattle.refusals.specs.Order.{verdictOf, judged}
 use Rattle.refusals.specs.Table.{choiceRow}
 use Rattle.figures.specs.declared.Counts.{Counts}
-use Rattle.figures.specs.Figure.{angleCount, conditionCount}
-use Rattle.figures.proofs.Figures.{angle-bound, condition-bound}
+use Rattle.figures.specs.Figure.{angleCount}
 use Rattle.pass_rules.specs.FirstPass.{misclosuresOf, numeratorsOf}
 use Rattle.pass_steps.proofs.Again.{Again, again}
-use Rattle.pass_steps.proofs.Lending.{lent-length}
+use Rattle.pass_steps.proofs.Counted.{Counted, counted}
 use Rattle.closing.specs.Rules.{passRows, tenthsUnder, tenthsOver, restsLeft}
 use Rattle.closing.proofs.Promised.{check-length, check-refused, check-asked, misclosures-are, misclosures-small, numerators-are, numerators-small}
 use Rattle.closing.proofs.operations.check_of.Statement.{statement}
@@ -31,35 +29,20 @@ module _ (c : tie.After-counts-of) where
   abbrev m : ℕ
   m = c .counts-of .result .conditions
 
-  n-is : n ≡ angleCount (start .args .figure)
-  n-is = ap (λ (k : Counts). k .angles) (c .counts-of .ensures)
-
-  m-is : m ≡ conditionCount (start .args .figure)
-  m-is = ap (λ (k : Counts). k .conditions) (c .counts-of .ensures)
-
-  few-angles : n ≤ 24
-  few-angles = omega (arith, n-is, angle-bound (start .args .figure))
-
-  few-conditions : m ≤ 9
-  few-conditions = omega (arith, m-is, condition-bound (start .args .figure))
-
-  lent-angles : n ≡ length (take n (replicate 24 (pos 0)))
-  lent-angles = lent-length n (replicate 24 (pos 0)) few-angles
-
-  lent-conditions : m ≡ length (take m (replicate 9 (pos 0)))
-  lent-conditions = lent-length m (replicate 9 (pos 0)) few-conditions
+  sizes : Counted (start .args .figure) (c .counts-of .result)
+  sizes = counted (start .args .figure) (c .counts-of .result) (c .counts-of .ensures)
 
 returns : tie.Need-returns
 returns c =
     let k = c .before in
     let s = start k in
     check-length (s .args .figure) (s .args .limit) (now (s .args .angles)) (now (s .args .rounds)) (now (s .args .fixed)) (now (s .args .offered))
-    (λ same. c .if1 .taken (same ∙ sym (n-is k)))
+    (λ same. c .if1 .taken (same ∙ sym (sizes k .own-angles)))
 
 exact-into-requires : tie.Need-exact-into-requires
 exact-into-requires c κs =
     let k = c .before .before .before in
-    (sym (lent-conditions k) ∙ m-is k, sym (lent-angles k) ∙ n-is k)
+    (sym (sizes k .lent-conditions) ∙ sizes k .own-conditions, sym (sizes k .lent-angles) ∙ sizes k .own-angles)
 
 -- what the pass left
 module _ (p : tie.After-exact-into) where
@@ -70,7 +53,7 @@ module _ (p : tie.After-exact-into) where
   first = start counts
 
   own : length (now (first .args .offered)) ≡ angleCount (first .args .figure)
-  own = p .before .before .before .if1 .left ∙ n-is counts
+  own = p .before .before .before .if1 .left ∙ sizes counts .own-angles
 
   abbrev w-part : List ℤ
   w-part = p .exact-into .last .1 .1 .1 .1 .1 .0
@@ -79,10 +62,10 @@ module _ (p : tie.After-exact-into) where
   exact-part = p .exact-into .last .1 .1 .1 .1 .1 .1 .0
 
   w-again : Again (m counts) (replicate 9 (pos 0)) w-part
-  w-again = again (m counts) (replicate 9 (pos 0)) (few-conditions counts) w-part (p .exact-into .kept .1 .1 .1 .1 .1 .0)
+  w-again = again (m counts) (replicate 9 (pos 0)) (sizes counts .few-conditions) w-part (p .exact-into .kept .1 .1 .1 .1 .1 .0)
 
   exact-again : Again (n counts) (replicate 24 (pos 0)) exact-part
-  exact-again = again (n counts) (replicate 24 (pos 0)) (few-angles counts) exact-part (p .exact-into .kept .1 .1 .1 .1 .1 .1 .0)
+  exact-again = again (n counts) (replicate 24 (pos 0)) (sizes counts .few-angles) exact-part (p .exact-into .kept .1 .1 .1 .1 .1 .1 .0)
 
   abbrev w : List ℤ
   w = take (m counts) (w-part ++ drop (m counts) (replicate 9 (pos 0)))
@@ -124,9 +107,9 @@ choice-verdict-requires c κs =
     let fixed = now (s t .args .fixed) in (
       ap (λ (k : Counts). k .denominator) (counts q .counts-of .ensures),
       (
-        sym (w-again q .size) ∙ m-is (counts q),
+        sym (w-again q .size) ∙ sizes (counts q) .own-conditions,
         (
-          sym (exact-again q .size) ∙ n-is (counts q),
+          sym (exact-again q .size) ∙ sizes (counts q) .own-angles,
           (
             own q,
             (
@@ -157,10 +140,10 @@ check-of-spec =
     (tie.spec
     (λ c κs. search needs)
     returns
-    (λ c. few-conditions (c .before))
-    (λ c. lent-conditions (c .before .before))
-    (λ c. few-angles (c .before .before))
-    (λ c. lent-angles (c .before .before .before))
+    (λ c. sizes (c .before) .few-conditions)
+    (λ c. sizes (c .before .before) .lent-conditions)
+    (λ c. sizes (c .before .before) .few-angles)
+    (λ c. sizes (c .before .before .before) .lent-angles)
     exact-into-requires
     (λ c. search needs)
     returns-2

@@ -1,18 +1,16 @@
 -- `closing::operations::closing_of` meets its contract: the rows in their order, and the choice from the numerators that the first pass left.
-use Prim.Native.Nat.{ℕ, _≤_}
+use Prim.Native.Nat.{ℕ}
 use mathlib.Core.List.{List, _++_}
 use mathlib.Core.Path.{_≡_, sym, ap, _∙_}
-use native.Mathlib.Omega.{arith}
 use borrow.Author.Needs.{needs}
 use denote.Ref.{now}
 use lib.IntN.{ℤ, pos}
 use lib.ListN.{length, take, drop, replicate}
 use Rattle.figures.specs.declared.Counts.{Counts}
-use Rattle.figures.specs.Figure.{angleCount, conditionCount}
-use Rattle.figures.proofs.Figures.{angle-bound, condition-bound}
+use Rattle.figures.specs.Figure.{angleCount}
 use Rattle.pass_rules.specs.FirstPass.{numeratorsOf}
 use Rattle.pass_steps.proofs.Again.{Again, again}
-use Rattle.pass_steps.proofs.Lending.{lent-length}
+use Rattle.pass_steps.proofs.Counted.{Counted, counted}
 use Rattle.closing.proofs.Promised.{refused-length, refused-by-pass, chosen-by-pass, numerators-are, numerators-small}
 use Rattle.closing.proofs.operations.closing_of.Statement.{statement}
 use Rattle.closing.proofs.operations.closing_of.Tie as tie
@@ -24,38 +22,20 @@ module _ (c : tie.After-counts-of) where
   abbrev n : ℕ
   n = c .counts-of .result .angles
 
-  abbrev m : ℕ
-  m = c .counts-of .result .conditions
-
-  n-is : n ≡ angleCount (start .args .figure)
-  n-is = ap (λ (k : Counts). k .angles) (c .counts-of .ensures)
-
-  m-is : m ≡ conditionCount (start .args .figure)
-  m-is = ap (λ (k : Counts). k .conditions) (c .counts-of .ensures)
-
-  few-angles : n ≤ 24
-  few-angles = omega (arith, n-is, angle-bound (start .args .figure))
-
-  few-conditions : m ≤ 9
-  few-conditions = omega (arith, m-is, condition-bound (start .args .figure))
-
-  lent-angles : n ≡ length (take n (replicate 24 (pos 0)))
-  lent-angles = lent-length n (replicate 24 (pos 0)) few-angles
-
-  lent-conditions : m ≡ length (take m (replicate 9 (pos 0)))
-  lent-conditions = lent-length m (replicate 9 (pos 0)) few-conditions
+  sizes : Counted (start .args .figure) (c .counts-of .result)
+  sizes = counted (start .args .figure) (c .counts-of .result) (c .counts-of .ensures)
 
 returns : tie.Need-returns
 returns c =
     let k = c .before in
     let s = start k in
     refused-length (s .args .figure) (s .args .limit) (now (s .args .angles)) (now (s .args .rounds)) (now (s .args .fixed)) (now (s .args .corrections))
-    (λ same. c .if1 .taken (same ∙ sym (n-is k)))
+    (λ same. c .if1 .taken (same ∙ sym (sizes k .own-angles)))
 
 exact-into-requires : tie.Need-exact-into-requires
 exact-into-requires c κs =
     let k = c .before .before .before in
-    (sym (lent-conditions k) ∙ m-is k, sym (lent-angles k) ∙ n-is k)
+    (sym (sizes k .lent-conditions) ∙ sizes k .own-conditions, sym (sizes k .lent-angles) ∙ sizes k .own-angles)
 
 -- what the pass left
 module _ (p : tie.After-exact-into) where
@@ -66,13 +46,13 @@ module _ (p : tie.After-exact-into) where
   first = start counts
 
   own : length (now (first .args .corrections)) ≡ angleCount (first .args .figure)
-  own = p .before .before .before .if1 .left ∙ n-is counts
+  own = p .before .before .before .if1 .left ∙ sizes counts .own-angles
 
   abbrev part : List ℤ
   part = p .exact-into .last .1 .1 .1 .1 .1 .1 .0
 
   part-again : Again (n counts) (replicate 24 (pos 0)) part
-  part-again = again (n counts) (replicate 24 (pos 0)) (few-angles counts) part (p .exact-into .kept .1 .1 .1 .1 .1 .1 .0)
+  part-again = again (n counts) (replicate 24 (pos 0)) (sizes counts .few-angles) part (p .exact-into .kept .1 .1 .1 .1 .1 .1 .0)
 
   abbrev exact : List ℤ
   exact = take (n counts) (part ++ drop (n counts) (replicate 24 (pos 0)))
@@ -85,7 +65,7 @@ choice-into-requires c κs =
     let passed = sym (p .exact-into .ensures .0) ∙ told .enum-told .given .1 in (
       ap (λ (k : Counts). k .denominator) (counts p .counts-of .ensures),
       (
-        sym (part-again p .size) ∙ n-is (counts p),
+        sym (part-again p .size) ∙ sizes (counts p) .own-angles,
         (
           own p,
           λ i. rw (part-again p .is ∙ numerators-are (s .args .figure) (s .args .limit) (now (s .args .angles)) (now (s .args .rounds)) (now (s .args .fixed)) passed _ (p .exact-into .ensures .1 .1))
@@ -115,10 +95,10 @@ closing-of-spec =
     (tie.spec
     (λ c κs. search needs)
     returns
-    (λ c. few-conditions (c .before))
-    (λ c. lent-conditions (c .before .before))
-    (λ c. few-angles (c .before .before))
-    (λ c. lent-angles (c .before .before .before))
+    (λ c. sizes (c .before) .few-conditions)
+    (λ c. sizes (c .before .before) .lent-conditions)
+    (λ c. sizes (c .before .before) .few-angles)
+    (λ c. sizes (c .before .before .before) .lent-angles)
     exact-into-requires
     (λ c. search needs)
     (λ c. search needs)

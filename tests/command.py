@@ -16,6 +16,8 @@ import tempfile
 import time
 from pathlib import Path
 
+import kit
+
 ROOT = Path(__file__).resolve().parent.parent
 ADJUST = ROOT / "bin" / "adjust"
 WORKED = ROOT / "sheets" / "document-01-first.sheet"
@@ -66,10 +68,6 @@ def closed(descriptor):
 
 def limited(size):
     return lambda: resource.setrlimit(resource.RLIMIT_FSIZE, (size, size))
-
-
-def kit():
-    return Path(os.environ.get("RATTLE_HOME") or Path(shutil.which("rt")).resolve().parent.parent)
 
 
 def try_sheets(folder):
@@ -176,7 +174,7 @@ class Made:
         shutil.copytree(ROOT / "bin", self.root / "bin")
         (self.kit / "bin").mkdir(parents=True)
         (self.kit / "KIT-ID").write_text("a kit\n", encoding="ascii")
-        (self.kit / "on").symlink_to(kit() / "on")
+        (self.kit / "on").symlink_to(kit.home() / "on")
         stand_in = self.kit / "bin" / "rt"
         stand_in.write_text(STAND_IN.format(program=ROOT / "target" / "command" / "adjust"), encoding="ascii")
         stand_in.chmod(0o755)
@@ -287,7 +285,7 @@ def try_without_rt(folder):
 
 def try_program(folder):
     """The program by itself, which has no status."""
-    tools = kit() / "on" / os.uname().machine / "toolchain"
+    tools = kit.of_this_machine() / "toolchain"
     words = [tools / "lib" / "ld-linux-x86-64.so.2", "--library-path", tools / "lib", ROOT / "target" / "command" / "adjust"]
     if (tools / "bin" / "qemu-x86_64").exists():
         words.insert(0, tools / "bin" / "qemu-x86_64")
@@ -313,6 +311,26 @@ def try_scripts(folder):
     status, text, _ = call([made.root / ".ci" / "run"], env=made.path)
     expect("an install that fails", (status, text.splitlines()), (2, ["the package python3 could not be installed", "0 passed, 1 failed"]))
     expect("it starts nothing", (made.root / "calls").exists(), False)
+
+
+def try_wrong_programs(folder):
+    """In a repository of one crate: an edit that changes nothing but a comment is told, and so is one that does not fit."""
+    crate, proved = Path("crates") / "refusals", Path("target") / "rlib" / "refusals.rlib"
+    for part in (Path("tests"), crate, proved):
+        shutil.copytree(ROOT / part, folder / part)
+    (folder / "crates.txt").write_text("refusals:\n", encoding="ascii")
+    for edit in (folder / crate / "must-fail").iterdir():
+        edit.unlink()
+    for name, old in (("a comment", "// What a test says."), ("no such text", "// What no test says.")):
+        text = f"file: src/lib.rt\nold: {old}\nnew: // Another.\n"
+        (folder / crate / "must-fail" / f"{name}.edit").write_text(text, encoding="ascii")
+    words = ["python3", folder / "tests" / "must_fail.py"]
+    status, text, _ = call(words)
+    told = [line.partition("refusals/")[2].partition(" (")[0] for line in text.splitlines()[:-1]]
+    right = ["a comment: NOT REFUSED", "no such text: BAD EDIT: '// What no test says.' does not stand once in src/lib.rt"]
+    expect("wrong programs that are not", (status, told, text.splitlines()[-1]), (1, right, "0 passed, 2 failed"))
+    status, text, message = call([*words, "nosuch"])
+    expect("wrong programs of no crate", (status, text, message.startswith("usage: tests/must_fail.py ")), (2, "", True))
 
 
 def try_giving_up(folder):
@@ -341,7 +359,8 @@ def started_by(process):
 
 def main():
     call([ADJUST], input=b"")
-    tries = [try_sheets, try_lost_bytes, try_no_sheet, try_options, try_links, try_building, try_at_once, try_without_rt, try_program, try_scripts, try_giving_up]
+    tries = [try_sheets, try_lost_bytes, try_no_sheet, try_options, try_links, try_building, try_at_once, try_without_rt, try_program]
+    tries += [try_scripts, try_wrong_programs, try_giving_up]
     for attempt in tries:
         with tempfile.TemporaryDirectory() as folder:
             attempt(Path(folder))

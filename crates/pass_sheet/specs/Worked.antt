@@ -1,16 +1,14 @@
 -- A sheet worked through.
 use Prim.Native.Nat.{ℕ}
-use mathlib.Core.Path.{_≡_}
 use mathlib.Core.List.{List, [], _∷_, _++_}
 use lib.IntN.{ℤ}
-use lib.ListN.{length, take}
+use lib.ListN.{length}
 use Rattle.refusals.specs.declared.Refusal.{Refusal}
 use Rattle.refusals.specs.declared.Verdict.{Verdict}
 use Rattle.refusals.specs.declared.Verdict.the-variants.{Passed, Failed}
 use Rattle.refusals.specs.Numbers.{Told, told, refusalTold}
 use Rattle.refusals.specs.Order.{Row, judged}
 use Rattle.whole.specs.Lists.{listed}
-use Rattle.figures.specs.Numerators.{mostAngles, mostSides}
 use Rattle.figures.specs.declared.Figure.{Figure}
 use Rattle.figures.specs.Figure.{angleCount}
 use Rattle.sheet_layout.specs.declared.Kind.{Kind}
@@ -19,12 +17,10 @@ use Rattle.sheet_layout.specs.declared.head.Look.{Look}
 use Rattle.sheet_layout.specs.declared.head.Look.the-variants.{Head}
 use Rattle.sheet_layout.specs.Head.{headRows, lookOf, ofHead}
 use Rattle.sheet_layout.specs.Kinds.{passOf, defaultOf}
-use Rattle.sheet_layout.specs.Layout.{fixedIn, sineEntriesIn, sidesIn}
 use Rattle.sheet_rules.specs.declared.Reading.{Reading}
 use Rattle.sheet_rules.specs.declared.Reading.the-variants.{Read}
-use Rattle.sheet_rules.specs.Judging.{ownLengths, bodyRows, readingOf, readingAfter, afterReading}
+use Rattle.sheet_rules.specs.Judging.{ownLengths, bodyRows, readingOf, readingAfter}
 use Rattle.sheet_rules.specs.Sheet.{Values, valuesRead}
-use Rattle.pass_sheet.specs.declared.SheetValues.{SheetValues}
 use Rattle.pass_rules.specs.Pass.{inForce}
 use Rattle.pass_rules.specs.FirstPass.{firstResultLengths, firstRows, misclosuresOf, numeratorsOf, roundedOf, correctedOf, restsOf}
 use Rattle.pass_rules.specs.SecondPass.{SineEntries, sineEntries, sineMisclosure, sideMisclosure, divisor, secondNumerator, secondResultLengths, secondRows, reducedOf, sideReducedOf, secondRoundedOf, adjustedOf, secondRestsOf}
@@ -32,27 +28,6 @@ use Rattle.pass_rules.specs.SecondPass.{SineEntries, sineEntries, sineMisclosur
 -- no figure has more fixed angles
 abbrev pub mostFixed : ℕ
 mostFixed = 4
-
--- the arrays have their whole length
-pub record FullArrays (r : SheetValues) : Type 0 where
-  pub angles-full : length (r .angles) ≡ mostAngles
-  pub rounds-full : length (r .rounds) ≡ mostAngles
-  pub fixed-full : length (r .fixed) ≡ mostFixed
-  pub log-sines-full : length (r .«log_sines») ≡ mostAngles
-  pub differences-full : length (r .differences) ≡ mostAngles
-  pub log-sides-full : length (r .«log_sides») ≡ mostSides
-
--- the reader's answer, and its values at the start of each array
-pub record ReadInto (sheet : List ℕ) (kind : Kind) (f : Figure) (r : SheetValues) : Type 0 where
-  pub full : FullArrays r
-  pub reading-is : r .reading ≡ readingAfter (judged (bodyRows kind f sheet (ownLengths kind f))) kind f sheet
-  pub angles-are : take (angleCount f) (r .angles) ≡ afterReading (r .reading) (λ k g. valuesRead k g sheet .angles) (take (angleCount f) (r .angles))
-  pub rounds-are : take (angleCount f) (r .rounds) ≡ afterReading (r .reading) (λ k g. valuesRead k g sheet .rounds) (take (angleCount f) (r .rounds))
-  pub fixed-are : take (fixedIn kind f) (r .fixed) ≡ afterReading (r .reading) (λ k g. valuesRead k g sheet .fixed) (take (fixedIn kind f) (r .fixed))
-  pub log-sines-are : take (sineEntriesIn kind f) (r .«log_sines») ≡ afterReading (r .reading) (λ k g. valuesRead k g sheet .logSines) (take (sineEntriesIn kind f) (r .«log_sines»))
-  pub differences-are :
-      take (sineEntriesIn kind f) (r .differences) ≡ afterReading (r .reading) (λ k g. valuesRead k g sheet .differences) (take (sineEntriesIn kind f) (r .differences))
-  pub log-sides-are : take (sidesIn kind f) (r .«log_sides») ≡ afterReading (r .reading) (λ k g. valuesRead k g sheet .logSides) (take (sidesIn kind f) (r .«log_sides»))
 
 -- ---- what is shown of a sheet
 
@@ -156,17 +131,16 @@ abbrev pub workedReading : Reading → (angles rounds fixed : List ℕ) → Sine
 workedReading (Reading.Refused r) angles rounds fixed e = refusedSheet r
 workedReading (Read kind f limitOrTolerance) angles rounds fixed e = workedKind kind f limitOrTolerance angles rounds fixed e
 
-abbrev pub workedFrom : Kind → Figure → SheetValues → WorkedSheet
-workedFrom kind f v =
-    workedReading (v .reading) (take (angleCount f) (v .angles)) (take (angleCount f) (v .rounds)) (take (fixedIn kind f) (v .fixed))
-    (sineEntries (take (sineEntriesIn kind f) (v .«log_sines»)) (take (sineEntriesIn kind f) (v .differences)) (take (sidesIn kind f) (v .«log_sides»)))
-
 -- the values that the reader gives, where it gives them
 abbrev pub workedRead : Reading → List ℕ → WorkedSheet
 workedRead (Reading.Refused r) sheet = refusedSheet r
 workedRead (Read kind f limitOrTolerance) sheet =
     workedKind kind f limitOrTolerance (valuesRead kind f sheet .angles) (valuesRead kind f sheet .rounds) (valuesRead kind f sheet .fixed)
     (entriesOf (valuesRead kind f sheet))
+
+-- and of a sheet whose head is known
+abbrev pub workedBody : Kind → Figure → List ℕ → WorkedSheet
+workedBody kind f sheet = workedRead (readingAfter (judged (bodyRows kind f sheet (ownLengths kind f))) kind f sheet) sheet
 
 abbrev pub workedLook : Look → List ℕ → WorkedSheet
 workedLook (Look.Refused r) sheet = refusedSheet r

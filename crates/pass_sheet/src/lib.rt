@@ -1,10 +1,9 @@
 // A sheet worked through, straight to its lines: document 01, "Sheets worked through". Looked at and read once, then worked by the pass of
 // its kind, and its lines laid from what was read and worked.
-ghost use mathlib.Core.Path.{_≡_};
 ghost use Rattle.text.specs.Holds.{Holds};
 ghost use Rattle.pass_rules.specs.SecondPass.{sineEntries};
 ghost use Rattle.pass_sheet.specs.Texts.{textOf, workedText};
-ghost use Rattle.pass_sheet.specs.Worked.{ReadInto, FullArrays, firstSheet, secondSheet, workedFrom};
+ghost use Rattle.pass_sheet.specs.Worked.{firstSheet, secondSheet, workedReading, workedBody};
 use figures::Figure;
 use figures::MOST_ANGLES;
 use figures::MOST_CONDITIONS;
@@ -27,53 +26,6 @@ use sheet_rules::pass_of;
 
 // No figure has more fixed angles.
 const MOST_FIXED: usize = 4;
-
-// What the reader answered, and the values that it stored from the start of each array.
-struct SheetValues {
-    reading: Reading,
-    angles: [u32; MOST_ANGLES],
-    rounds: [u8; MOST_ANGLES],
-    fixed: [u32; MOST_FIXED],
-    log_sines: [u32; MOST_ANGLES],
-    differences: [i32; MOST_ANGLES],
-    log_sides: [u32; MOST_SIDES],
-}
-
-fn values_of(sheet: &[u8], kind: Kind, figure: Figure) -> SheetValues
-    ensures { λ values. ⌜ ReadInto (now (sheet .entry)) kind figure values ⌝ }
-{
-    let lengths = sheet_rules::lengths_of(kind, figure);
-    let n = lengths.angles;
-    let k = lengths.fixed;
-    let m = lengths.log_sines;
-    let s = lengths.log_sides;
-    let mut angles = [0u32; MOST_ANGLES];
-    let mut rounds = [0u8; MOST_ANGLES];
-    let mut fixed = [0u32; MOST_FIXED];
-    let mut log_sines = [0u32; MOST_ANGLES];
-    let mut differences = [0i32; MOST_ANGLES];
-    let mut log_sides = [0u32; MOST_SIDES];
-    let reading = sheet_reader::read_body(
-        sheet,
-        kind,
-        figure,
-        &mut angles[..n],
-        &mut rounds[..n],
-        &mut fixed[..k],
-        &mut log_sines[..m],
-        &mut differences[..m],
-        &mut log_sides[..s],
-    );
-    SheetValues {
-        reading,
-        angles,
-        rounds,
-        fixed,
-        log_sines,
-        differences,
-        log_sides,
-    }
-}
 
 // A sheet for the first pass.
 fn first_sheet(
@@ -193,49 +145,83 @@ fn second_sheet(
     }
 }
 
-// What the reader stored, worked by the pass of the kind that it read, with the kind's default where the sheet has 0.
-fn values_lines(buffer: &mut [u8], kind: Kind, figure: Figure, values: SheetValues) -> usize
-    requires { ⌜ FullArrays values ⌝ }
-    ensures { λ next. ⌜ Holds (now (buffer .entry)) (textOf (workedFrom kind figure values)) (now (buffer .exit)) next ⌝ }
+// What the reader answered, worked by the pass of the kind that it read, with the kind's default where the sheet has 0.
+fn reading_lines(
+    buffer: &mut [u8],
+    reading: Reading,
+    angles: &[u32],
+    rounds: &[u8],
+    fixed: &[u32],
+    log_sines: &[u32],
+    differences: &[i32],
+    log_sides: &[u32],
+) -> usize
+    ensures { λ next. ⌜ Holds (now (buffer .entry))
+        (textOf (workedReading reading (now (angles .entry)) (now (rounds .entry)) (now (fixed .entry))
+        (sineEntries (now («log_sines» .entry)) (now (differences .entry)) (now («log_sides» .entry)))))
+        (now (buffer .exit)) next ⌝ }
 {
-    let lengths = sheet_rules::lengths_of(kind, figure);
-    let angles = values.angles;
-    let rounds = values.rounds;
-    let fixed = values.fixed;
-    let log_sines = values.log_sines;
-    let differences = values.differences;
-    let log_sides = values.log_sides;
-    let reading = values.reading;
     match reading {
         Reading::Refused(refusal) => refused_lines(buffer, refusal),
         Reading::Read {
-            kind: read,
-            figure: f,
+            kind,
+            figure,
             limit_or_tolerance,
         } => {
-            let bound = in_force(limit_or_tolerance, default_of(read));
-            match pass_of(read) {
-                Pass::First => first_sheet(
-                    buffer,
-                    f,
-                    bound,
-                    &angles[..lengths.angles],
-                    &rounds[..lengths.angles],
-                    &fixed[..lengths.fixed],
-                ),
+            let bound = in_force(limit_or_tolerance, default_of(kind));
+            match pass_of(kind) {
+                Pass::First => first_sheet(buffer, figure, bound, angles, rounds, fixed),
                 Pass::Second => second_sheet(
                     buffer,
-                    f,
+                    figure,
                     bound,
-                    &angles[..lengths.angles],
-                    &rounds[..lengths.angles],
-                    &log_sines[..lengths.log_sines],
-                    &differences[..lengths.log_sines],
-                    &log_sides[..lengths.log_sides],
+                    angles,
+                    rounds,
+                    log_sines,
+                    differences,
+                    log_sides,
                 ),
             }
         }
     }
+}
+
+// A sheet whose head is known, read into arrays of the largest counts, of which the reader is lent the kind's and the figure's own.
+fn body_lines(buffer: &mut [u8], sheet: &[u8], kind: Kind, figure: Figure) -> usize
+    ensures { λ next. ⌜ Holds (now (buffer .entry)) (textOf (workedBody kind figure (now (sheet .entry)))) (now (buffer .exit)) next ⌝ }
+{
+    let lengths = sheet_rules::lengths_of(kind, figure);
+    let n = lengths.angles;
+    let k = lengths.fixed;
+    let m = lengths.log_sines;
+    let s = lengths.log_sides;
+    let mut angles = [0u32; MOST_ANGLES];
+    let mut rounds = [0u8; MOST_ANGLES];
+    let mut fixed = [0u32; MOST_FIXED];
+    let mut log_sines = [0u32; MOST_ANGLES];
+    let mut differences = [0i32; MOST_ANGLES];
+    let mut log_sides = [0u32; MOST_SIDES];
+    let reading = sheet_reader::read_body(
+        sheet,
+        kind,
+        figure,
+        &mut angles[..n],
+        &mut rounds[..n],
+        &mut fixed[..k],
+        &mut log_sines[..m],
+        &mut differences[..m],
+        &mut log_sides[..s],
+    );
+    reading_lines(
+        buffer,
+        reading,
+        &angles[..n],
+        &rounds[..n],
+        &fixed[..k],
+        &log_sines[..m],
+        &differences[..m],
+        &log_sides[..s],
+    )
 }
 
 // The text of any bytes, from the start of a lent slice: the reader's refusal, the pass's refusal, or the lines of the worked figure. It
@@ -245,8 +231,6 @@ pub fn worked_lines(buffer: &mut [u8], sheet: &[u8]) -> usize
 {
     match sheet_rules::look_at(sheet) {
         Look::Refused(refusal) => refused_lines(buffer, refusal),
-        Look::Head(kind, figure) => {
-            values_lines(buffer, kind, figure, values_of(sheet, kind, figure))
-        }
+        Look::Head(kind, figure) => body_lines(buffer, sheet, kind, figure),
     }
 }

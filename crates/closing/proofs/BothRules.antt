@@ -3,16 +3,14 @@ use Prim.Native.Nat.{ℕ, zero, suc, _≤_, _<_, zero-le, suc-le-suc}
 use mathlib.Core.Bool.{Bool, true, false}
 use mathlib.Core.List.{List}
 use mathlib.Core.Logic.{_↔_, _⊎_, inl, inr, ⊎-elim}
-use mathlib.Core.Path.{_≡_, refl, sym, ap, ap₂, subst, _∙_}
+use mathlib.Core.Path.{_≡_, refl, sym, ap, subst, _∙_}
 use native.Mathlib.Omega.{arith}
 use lib.IntN.{ℤ, pos, negsuc, natAbs, _+ℤ_, _*ℤ_}
 use lib.ListN.{length}
 use lib.Signed.{_≤ℤ_, _<ℤ_, ≤ℤ-refl, clashℤ}
-use Rattle.whole.specs.Lists.{listed}
 use Rattle.whole.specs.Sums.{vector}
 use Rattle.whole.proofs.Lists.{length-listed}
 use Rattle.refusals.specs.declared.Refusal.{Refusal}
-use Rattle.refusals.specs.declared.Verdict.{Verdict}
 use Rattle.refusals.specs.declared.Verdict.the-variants.{Passed, Failed}
 use Rattle.refusals.specs.Numbers.{numbered}
 use Rattle.refusals.specs.Order.{failsIf, verdictOf}
@@ -29,7 +27,7 @@ use Rattle.pass_steps.proofs.StepLaws.{listed-at}
 use Rattle.closing.specs.Choice.{choice}
 use Rattle.closing.specs.Floor.{floorQuotient, ceilingQuotient}
 use Rattle.closing.specs.Promises.{rulesRow}
-use Rattle.closing.specs.Rules.{BelowOrAbove, Closed, BothRules, restWith, choiceOf, tenthsUnder, tenthsOver, restsLeft}
+use Rattle.closing.specs.Rules.{BelowOrAbove, BothRules, restWith, choiceOf, tenthsUnder, tenthsOver, restsLeft}
 use Rattle.closing.proofs.Closes.{rest-zero, choice-low, choice-high}
 use Rattle.closing.proofs.FloorLaws.{one-of-both, floor-under, floor-of-whole, ceiling-of-whole}
 

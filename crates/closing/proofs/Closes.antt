@@ -3,8 +3,7 @@
 use Prim.Native.Nat.{ℕ, zero, suc, _+_, _-_, _<_}
 use mathlib.Core.Bool.{Bool, true, false, _&&_}
 use mathlib.Core.List.{List, [], _∷_}
-use mathlib.Core.Logic.{_⊎_, inl, inr}
-use mathlib.Core.Path.{_≡_, refl, sym, ap, ap₂, subst, _∙_}
+use mathlib.Core.Path.{_≡_, refl, sym, ap, ap₂, _∙_}
 use lib.Dec.{T, eqb, eqb→eq}
 use lib.IntN.{ℤ, pos, negℤ, _+ℤ_, _-ℤ_, _*ℤ_, +ℤ-idr}
 use lib.Signed.{_≤ℤ_}
@@ -20,7 +19,7 @@ use Rattle.figures.proofs.Figures.{none, each-figure, denominator-positive}
 use Rattle.figures.proofs.Theorem.{numerators-cancel}
 use Rattle.closing.specs.Choice.{startOf, endOf, before, chosen, choice}
 use Rattle.closing.specs.Floor.{floorQuotient, ceilingQuotient, floorRemainder}
-use Rattle.closing.proofs.FloorLaws.{remainder-below, divided, remainder-shifted, multiple, same-multiple, not-under, not-over, one-of-both, floor-of-whole, ceiling-of-whole}
+use Rattle.closing.proofs.FloorLaws.{remainder-below, divided, remainder-shifted, multiple, same-multiple, not-under, not-over}
 
 -- ---- sums over a list of angles
 

@@ -1,7 +1,7 @@
 -- From what the steps promise to what the two operations do. Assumes nothing.
-use Prim.Native.Nat.{ℕ, zero, suc, _≤_, _<_, zero-le}
+use Prim.Native.Nat.{ℕ, _≤_, _<_, zero-le}
 use mathlib.Core.Bool.{Bool, true, false, not, _&&_, _||_, true≢false}
-use mathlib.Core.List.{List, [], _∷_, _++_}
+use mathlib.Core.List.{List, [], _∷_}
 use mathlib.Core.Path.{_≡_, refl, sym, ap, ap₂, subst, _∙_}
 use native.Mathlib.Decide.{decLt}
 use native.Mathlib.Nat.{le-trans}
@@ -39,7 +39,7 @@ use Rattle.pass_first.proofs.FirstBounds.{misclosure-small, first-numerator-sma
 use Rattle.pass_steps.specs.Premises.{Within, mostSummed}
 use Rattle.pass_steps.proofs.Judged.{lengths-pass, kept, written}
 use Rattle.pass_steps.proofs.StepLaws.{listed-at, listed-within}
-use Rattle.closing.specs.Choice.{startOf, endOf, chosen, choice}
+use Rattle.closing.specs.Choice.{startOf, chosen, choice}
 use Rattle.closing.specs.Floor.{floorQuotient, ceilingQuotient}
 use Rattle.closing.specs.Premises.{mostNumerator}
 use Rattle.closing.specs.Promises.{closingRowsFor, closingAnswer, ClosingPromise, closingAnswerOf, ClosingPromiseOf, rulesRow, checkRowsFor, checkAnswer, checkAnswerOf}

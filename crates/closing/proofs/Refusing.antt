@@ -15,7 +15,6 @@ use Rattle.whole.specs.Lists.{every}
 use Rattle.whole.proofs.Computed.{and-left, and-right}
 use Rattle.whole.proofs.Lists.{length-listed}
 use Rattle.refusals.specs.declared.Refusal.{Refusal}
-use Rattle.refusals.specs.declared.Verdict.{Verdict}
 use Rattle.refusals.specs.declared.Verdict.the-variants.{Passed, Failed}
 use Rattle.refusals.specs.Numbers.{told, verdictTold}
 use Rattle.refusals.specs.Order.{Row, number, Stands, allInTable, verdictOf, judged}

@@ -1,8 +1,7 @@
 // Directions: where each angle starts, with the numerators laid off one from another, and division downwards and upwards. Angles by their
 // indices, counted from 0, but for `starts_at`, which answers the number of an angle.
 ghost use mathlib.Core.Path.{_≡_};
-ghost use Prim.Native.Nat.{_<_, _≤_};
-ghost use lib.IntN.{natAbs};
+ghost use Prim.Native.Nat.{_<_};
 ghost use lib.ListN.{length, getD};
 ghost use Rattle.whole.specs.Sums.{vector};
 ghost use Rattle.figures.specs.Figure.{angleCount};

@@ -1,11 +1,11 @@
 -- The second pass for C, in its ends. Assumes nothing.
-use Prim.Native.Nat.{ℕ, _/_, _%_, _^_, _<_, _≤_}
+use Prim.Native.Nat.{ℕ, _<_, _≤_}
 use mathlib.Core.Bool.{Bool, true, false, cond, _&&_}
 use mathlib.Core.List.{List, [], _∷_, map}
 use mathlib.Core.Path.{_≡_, refl, sym, ap, ap₂, subst, _∙_}
 use native.Mathlib.Omega.{arith}
 use borrow.Author.Tests.{eqb-true}
-use lib.Dec.{eqb, leb, leb→le, eqb→eq}
+use lib.Dec.{eqb, eqb→eq}
 use lib.IntN.{ℤ}
 use lib.ListN.{length, getD, take}
 use Rattle.refusals.specs.declared.Refusal.{Refusal}
@@ -22,7 +22,7 @@ use Rattle.figures.proofs.Figures.{each-figure}
 use Rattle.figures.proofs.Naming.{none-named, one-named}
 use Rattle.pass_rules.specs.declared.second.SecondAnswer.{SecondAnswer}
 use Rattle.pass_rules.specs.declared.second.SecondAnswer.the-variants.{Done, Refused}
-use Rattle.pass_rules.specs.SecondPass.{SineEntries, misclosureIn, sineMisclosure, sideMisclosure, divisor, secondRows, secondPassRows, secondPassVerdict, secondAnswerFor, secondPassAnswer, secondTold}
+use Rattle.pass_rules.specs.SecondPass.{misclosureIn, sineMisclosure, sideMisclosure, divisor, secondRows, secondPassRows, secondPassVerdict, secondAnswerFor, secondPassAnswer, secondTold}
 use Rattle.pass_rules.proofs.Refusals.{second-tells}
 use Rattle.pass_rules.specs.Promises.{SecondGiven, SecondLent, secondLengthsLent, secondValues, secondVerdict, SecondPromise}
 use Rattle.controller.specs.Answer.{placeStep, answerNumber}

@@ -7,7 +7,7 @@ use lib.Signed.{_≤ℤ_}
 use Rattle.whole.specs.Sums.{dot, squares, applied, composed, identity, transposed}
 use Rattle.whole.proofs.Ring.{ring, constant, _≐_, _⊕_, _⊗_, ⊝_}
 use Rattle.whole.proofs.Sums.{sum-ext, sum-add, sum-scale, dot-ext, dot-zero}
-use Rattle.whole.proofs.Sums.{applied-ext, applied-rows, applied-multiple, applied-add, applied-scale, applied-composed, applied-identity, moved}
+use Rattle.whole.proofs.Sums.{applied-rows, applied-multiple, applied-add, applied-scale, applied-composed, applied-identity, moved}
 use Rattle.figures.proofs.Pythagoras as Pythagoras
 
 -- C·R = −D·I, and every row of R is a combination of rows of C: R = Cᵀ·K

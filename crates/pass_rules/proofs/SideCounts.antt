@@ -1,7 +1,6 @@
 -- How many reduced coefficients of the side condition a figure has, by how many sides of it are known. Assumes nothing.
 use mathlib.Core.Bool.{Bool, true, false, cond}
 use mathlib.Core.Path.{_≡_, refl, sym, ap, _∙_, subst}
-use Prim.Native.Nat.{ℕ}
 use borrow.Author.Tests.{eq-eqb, ne-eqb}
 use lib.Dec.{T, eqb}
 use Rattle.figures.specs.declared.Figure.{Figure}

@@ -14,7 +14,6 @@ use Rattle.whole.specs.Lists.{listed}
 use Rattle.whole.specs.Sums.{vector, naturals}
 use Rattle.whole.proofs.Lists.{getD-listed, length-listed}
 use Rattle.refusals.specs.declared.Refusal.{Refusal}
-use Rattle.refusals.specs.declared.Verdict.the-variants.{Passed}
 use Rattle.refusals.specs.Numbers.{placeOf, Told, refusalTold, verdictTold}
 use Rattle.refusals.specs.Order.{judged}
 use Rattle.refusals.specs.Ranges.{mostDifference}

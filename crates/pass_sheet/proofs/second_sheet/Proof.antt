@@ -9,13 +9,13 @@ use denote.Ref.{now}
 use lib.IntN.{ℤ, pos}
 use mir.Syntax.{w64}
 use mir.ValLaws.{toZ-ofZ}
-use lib.ListN.{length, getD, take, drop, replicate}
+use lib.ListN.{getD, take, drop, replicate}
 use Rattle.whole.specs.Sums.{vector, naturals}
 use Rattle.wide_words.specs.Words.{joined}
 use Rattle.text.specs.Holds.{Holds}
 use Rattle.lines.specs.Lines.{secondText, wideNumbers}
 use Rattle.figures.specs.declared.Figure.{Figure}
-use Rattle.figures.specs.Figure.{angleCount, conditionCount, hasSide}
+use Rattle.figures.specs.Figure.{angleCount, hasSide}
 use Rattle.figures.proofs.Figures.{angle-bound, condition-bound}
 use Rattle.pass_rules.specs.SecondPass.{SineEntries, sineEntries, sideReducedCount, secondResultLengths}
 use Rattle.pass_rules.specs.Promises.{SecondLent, secondLent, secondResultsLent}

@@ -1,6 +1,5 @@
 -- `sheet_layout::lengths_of` meets its contract: the arms are the counts for each pass, with the figure's own counts in them.
-use Prim.Native.Nat.{ℕ}
-use mathlib.Core.Path.{_≡_, sym, ap, _∙_}
+use mathlib.Core.Path.{sym, ap, _∙_}
 use borrow.Author.Needs.{needs}
 use Rattle.figures.specs.declared.Counts.{Counts}
 use Rattle.figures.specs.declared.Figure.{Figure}

@@ -4,11 +4,9 @@ use mathlib.Core.Bool.{Bool, false}
 use mathlib.Core.List.{List}
 use mathlib.Core.Path.{_≡_, sym, ap₂, _∙_}
 use native.Mathlib.Omega.{arith}
-use borrow.Author.Needs.{needs}
 use denote.Ref.{now}
 use lib.IntN.{ℤ, pos}
 use lib.ListN.{length}
-use mir.Syntax.{w32}
 use mir.Facts.{toZ-ofZ}
 use Rattle.whole.specs.Sums.{vector}
 use Rattle.refusals.specs.Numbers.{numbered}

@@ -1,13 +1,12 @@
 -- `closing::exact::exact_into` meets its contract: the first pass, with arrays of its own for the other results.
 use Prim.Native.Nat.{ℕ, _≤_}
-use mathlib.Core.List.{List, [], _∷_}
+use mathlib.Core.List.{[], _∷_}
 use mathlib.Core.Path.{_≡_, sym, _∙_}
 use native.Mathlib.Omega.{arith}
 use borrow.Author.Needs.{needs}
 use denote.Ref.{now}
-use lib.IntN.{ℤ, pos}
+use lib.IntN.{pos}
 use lib.ListN.{length, take, replicate}
-use Rattle.figures.specs.Figure.{angleCount, conditionCount}
 use Rattle.figures.proofs.Figures.{angle-bound, condition-bound}
 use Rattle.pass_rules.specs.FirstPass.{firstResultLengths}
 use Rattle.pass_rules.specs.Promises.{FirstLent, firstLent, firstResultsLent}

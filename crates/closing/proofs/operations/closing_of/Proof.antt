@@ -8,7 +8,6 @@ use lib.IntN.{ℤ, pos}
 use lib.ListN.{length, take, drop, replicate}
 use Rattle.figures.specs.declared.Counts.{Counts}
 use Rattle.figures.specs.Figure.{angleCount}
-use Rattle.pass_rules.specs.FirstPass.{numeratorsOf}
 use Rattle.pass_steps.proofs.Again.{Again, again}
 use Rattle.pass_steps.proofs.Counted.{Counted, counted}
 use Rattle.closing.proofs.Promised.{refused-length, refused-by-pass, chosen-by-pass, numerators-are, numerators-small}

@@ -1,7 +1,7 @@
 -- `lines::second::put_angle` meets its contract: numerator, rounded correction, result and rounds are laid after the angle's other numbers.
 use mathlib.Core.Path.{refl, sym, ap}
 use mathlib.Core.List.{List, [], _∷_, _++_, map-append}
-use Prim.Native.Nat.{ℕ, _+_}
+use Prim.Native.Nat.{_+_}
 use borrow.Author.Needs.{needs}
 use denote.Ref.{now}
 use lib.IntN.{ℤ, pos}

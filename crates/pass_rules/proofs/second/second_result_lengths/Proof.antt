@@ -1,7 +1,7 @@
 -- `pass_rules::second::second_result_lengths` meets its contract: the figure's counts, as the slices of the second pass stand.
 use mathlib.Core.Bool.{cond}
-use mathlib.Core.Path.{_≡_, ap, ap₂, _∙_}
-use mathlib.Core.List.{List, [], _∷_}
+use mathlib.Core.Path.{ap, ap₂, _∙_}
+use mathlib.Core.List.{[], _∷_}
 use Prim.Native.Nat.{ℕ}
 use borrow.Author.Needs.{needs}
 use lib.Dec.{eqb}

@@ -1,7 +1,6 @@
 -- `pass_rules::second::side_reduced_count` meets its contract: the branch asks what the contract does.
 use mathlib.Core.Bool.{Bool, cond}
 use mathlib.Core.Path.{sym, ap}
-use Prim.Native.Nat.{ℕ}
 use borrow.Author.Tests.{eq-eqb, ne-eqb}
 use Rattle.pass_rules.proofs.second.side_reduced_count.Statement.{statement}
 use Rattle.pass_rules.proofs.second.side_reduced_count.Tie as tie

@@ -2,7 +2,6 @@
 use mathlib.Core.Path.{_≡_, refl, ap₂, subst}
 use Prim.Native.Nat.{_-_}
 use native.Mathlib.Omega.{arith}
-use borrow.Author.Needs.{needs}
 use denote.Ref.{now}
 use lib.IntN.{ℤ, natAbs}
 use lib.ListN.{length}
@@ -78,7 +77,7 @@ two-into-spec =
     (λ c. omega arith)
     (λ c. omega arith)
     (λ c. widens w32 w64 (vector (now (c .before .before .before .before .before .args .b)) (c .before .before .before .loop .i)) tt (record { sfits = c .pair-correction-arg2 .given }))
-    (λ c κs. search needs)
+    (λ c κs. tt)
     (λ c. omega arith)
     (λ c. omega arith)
     (λ c. omega arith)

@@ -254,9 +254,12 @@ second-corrected-requires c κs =
       ),
     )
 
+abbrev corrected : tie.After-answer-of → tie.After-second-corrected
+corrected c = c .before .before .before .before .before .before .before .before .before .before .before .before .before .before .before .before
+
 returns-3 : tie.Need-returns-3
 returns-3 c =
-    let p = c .before .before .before .before .before .before .before .before .before .before .before .before .before .before .before .before in
+    let p = corrected c in
     let u = p .before .before .before .before .before .before .before .before .before .before in
     let v = verdict u in
     let k = known v in
@@ -277,10 +280,10 @@ pub second-pass-of-spec : {M : Type 1} → statement M
 second-pass-of-spec =
     tie.close
     (tie.spec
-    (λ c κs. search needs)
-    (λ c. search needs)
+    (λ c κs. tt)
+    (λ c. c .match .keys1)
     returns
-    (λ c. search needs)
+    (λ c. c .match .keys2)
     few
     (λ c. lent-length (n (c .before)) (replicate 24 (pos 0)) (few (c .before)))
     (λ c. side-few (c .before))
@@ -288,22 +291,22 @@ second-pass-of-spec =
     sums-into-requires
     divisor-of-requires
     sine-verdict-requires
-    (λ c. search needs)
+    (λ c. c .match2 .keys1)
     returns-2
-    (λ c. search needs)
+    (λ c. c .match2 .keys2)
     (λ c. let k = known (verdict c) in let t = told k in still-few (n t) (replicate 24 (pos 0)) (few t) (aPart k) (a-kept k))
     (λ c. let k = known (verdict (c .before)) in let t = told k in again-length (n t) (replicate 24 (pos 0)) (few t) (aPart k) (a-kept k))
     (λ c. let k = known (verdict (c .before)) in let t = told k in still-few (m t) (replicate 12 (pos 0)) (side-few t) (bPart k) (b-kept k))
     (λ c. let k = known (verdict (c .before .before)) in let t = told k in again-length (m t) (replicate 12 (pos 0)) (side-few t) (bPart k) (b-kept k))
     second-corrected-requires
-    (λ c κs. search needs)
-    (λ c κs. search needs)
-    (λ c. search needs)
-    (λ c. search needs)
-    (λ c. search needs)
-    (λ c. search needs)
-    (λ c. search needs)
-    (λ c. search needs)
-    (λ c. search needs)
-    (λ c. search needs)
+    (λ c κs. tt)
+    (λ c κs. tt)
+    (λ c. corrected c .second-corrected .kept .1 .1 .1 .1 .1 .1 .1 .0)
+    (λ c. corrected c .second-corrected .kept .1 .1 .1 .1 .1 .1 .1 .1 .0)
+    (λ c. corrected c .second-corrected .kept .1 .1 .1 .1 .1 .1 .1 .1 .1 .0)
+    (λ c. corrected c .second-corrected .kept .1 .1 .1 .1 .1 .1 .1 .1 .1 .1 .0)
+    (λ c. corrected c .second-corrected .kept .1 .1 .1 .1 .1 .1 .1 .1 .1 .1 .1 .0)
+    (λ c. corrected c .second-corrected .kept .1 .1 .1 .1 .1 .1 .1 .1 .1 .1 .1 .1 .0)
+    (λ c. c .before .before .before .before .before .store-rounds .kept .1 .1 .0)
+    (λ c. corrected c .second-corrected .kept .1 .1 .1 .1 .1 .1 .1 .1 .1 .1 .1 .1 .1 .0)
     returns-3)

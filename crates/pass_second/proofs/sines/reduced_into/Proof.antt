@@ -125,7 +125,7 @@ pub reduced-into-spec : {M : Type 1} → statement M
 reduced-into-spec =
     tie.close
     (tie.spec
-    (λ c κs. search needs)
+    (λ c κs. tt)
     few-conditions
     (λ c. lent-length (m (c .before)) (replicate 9 (pos 0)) (few-conditions (c .before)))
     (λ c κs. tt)

@@ -1,6 +1,6 @@
 -- `pass_second::corrections::second_corrected` meets its contract: number 7 is asked of the results, and everything is stored where it passes.
-use mathlib.Core.Bool.{Bool, true, cond}
-use mathlib.Core.Path.{_≡_, sym, ap, _∙_, subst}
+use mathlib.Core.Bool.{Bool, cond}
+use mathlib.Core.Path.{_≡_, sym, ap, _∙_}
 use mathlib.Core.List.{List, [], _∷_, _++_}
 use Prim.Native.Nat.{ℕ, _≤_}
 use native.Mathlib.Omega.{arith}
@@ -9,15 +9,13 @@ use lib.IntN.{ℤ, pos}
 use lib.ListN.{length, getD, take, drop, replicate}
 use Rattle.whole.specs.Lists.{listed}
 use Rattle.whole.specs.Sums.{vector}
-use Rattle.whole.proofs.Lists.{length-listed}
 use Rattle.refusals.specs.declared.Verdict.{Verdict}
-use Rattle.refusals.specs.declared.Verdict.the-variants.{Passed}
 use Rattle.refusals.specs.Order.{verdictOf, judged}
 use Rattle.refusals.specs.Table.{lengthsRow, resultsRow}
 use Rattle.judging.specs.Searches.{resultsOf}
 use Rattle.figures.specs.declared.Counts.{Counts}
 use Rattle.figures.specs.declared.Figure.{Figure}
-use Rattle.figures.specs.Figure.{denominator, angleCount, conditionCount, hasSide, sideCount}
+use Rattle.figures.specs.Figure.{denominator, angleCount, conditionCount}
 use Rattle.figures.specs.Numerators.{conditionSum}
 use Rattle.figures.proofs.Figures.{angle-bound, side-some}
 use Rattle.pass_steps.specs.Steps.{resultsRows, resultsFrom}

@@ -42,7 +42,7 @@ pub fn counts_of(figure: Figure) -> Counts
 }
 
 // The sine sign of each angle; past the figure's angles the array says nothing.
-pub type Signs = [i32; MOST_ANGLES];
+pub type Signs = [i8; MOST_ANGLES];
 
 // The signs in the pole.
 pub fn signs_of(figure: Figure) -> Signs

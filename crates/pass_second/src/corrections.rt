@@ -31,8 +31,8 @@ pub(crate) fn second_corrected(
     sides: usize,
     pair: Pair,
     divisor: Size,
-    a: &[i64],
-    b: &[i64],
+    a: &[i32],
+    b: &[i32],
     reduced: &mut [i64],
     side_reduced: &mut [i64],
     numerators_high: &mut [i64],
@@ -100,8 +100,8 @@ pub(crate) fn second_corrected(
 // The stores, once no row holds.
 fn store_second(
     figure: Figure,
-    a: &[i64],
-    b: &[i64],
+    a: &[i32],
+    b: &[i32],
     high: &[i64],
     low: &[u64],
     tenths: &[i32],
@@ -127,13 +127,24 @@ fn store_second(
 {
     store_wide(a, reduced);
     store_wide(b, side_reduced);
-    store_wide(high, numerators_high);
+    store_high(high, numerators_high);
     store_words(low, numerators_low);
     store_signed(tenths, rounded);
     condition_sums(figure, tenths, rests);
 }
 
-fn store_wide(x: &[i64], lent: &mut [i64])
+fn store_wide(x: &[i32], lent: &mut [i64])
+    requires { ⌜ length (now lent) ≡ length (now x) ⌝ }
+    ensures { λ _. ⌜ now (lent .exit) ≡ now (x .entry) ⌝ }
+{
+    let mut i = 0;
+    while i < lent.len() {
+        lent[i] = x[i] as i64;
+        i += 1;
+    }
+}
+
+fn store_high(x: &[i64], lent: &mut [i64])
     requires { ⌜ length (now lent) ≡ length (now x) ⌝ }
     ensures { λ _. ⌜ now (lent .exit) ≡ now (x .entry) ⌝ }
 {

@@ -25,8 +25,8 @@ pub(crate) fn corrections_into(
     sides: usize,
     pair: Pair,
     divisor: Size,
-    a: &[i64],
-    b: &[i64],
+    a: &[i32],
+    b: &[i32],
     high: &mut [i64],
     low: &mut [u64],
     tenths: &mut [i32],
@@ -64,7 +64,7 @@ fn factor_of(denominator: u32) -> i64
 fn one_into(
     scale: i64,
     divisor: u64,
-    a: &[i64],
+    a: &[i32],
     high: &mut [i64],
     low: &mut [u64],
     tenths: &mut [i32],
@@ -81,7 +81,7 @@ fn one_into(
 {
     let mut i = 0;
     while i < a.len() {
-        let correction = one_correction(scale, divisor, a[i]);
+        let correction = one_correction(scale, divisor, a[i] as i64);
         let high_word = correction.high;
         let low_word = correction.low;
         let rounded = correction.tenths;
@@ -126,8 +126,8 @@ fn clamped_tenths(quotient: i64) -> i32
 fn two_into(
     factor: i64,
     factors: PairFactors,
-    a: &[i64],
-    b: &[i64],
+    a: &[i32],
+    b: &[i32],
     high: &mut [i64],
     low: &mut [u64],
     tenths: &mut [i32],
@@ -145,7 +145,7 @@ fn two_into(
 {
     let mut i = 0;
     while i < a.len() {
-        let correction = pair_correction(factor, factors, a[i], b[i]);
+        let correction = pair_correction(factor, factors, a[i] as i64, b[i] as i64);
         let high_word = correction.high;
         let low_word = correction.low;
         let rounded = correction.tenths;

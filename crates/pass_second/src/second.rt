@@ -17,6 +17,9 @@ use refusals::Refusal;
 use refusals::Verdict;
 use wide::Size;
 
+// The most angles of a figure with known sides: code 2 with four triangles.
+const MOST_SIDE_REDUCED: usize = 12;
+
 // The second pass of the figure that code and n name. Done, everything lent is as defined; refused, everything lent is as it was.
 pub fn second_pass(
     code: u32,
@@ -120,8 +123,8 @@ pub fn second_pass_of(
     }
     let n = angles.len();
     let k = side_reduced.len();
-    let mut a = [0i64; MOST_ANGLES];
-    let mut b = [0i64; MOST_ANGLES];
+    let mut a = [0i32; MOST_ANGLES];
+    let mut b = [0i32; MOST_SIDE_REDUCED];
     let sums = sums_into(
         figure,
         log_sines,

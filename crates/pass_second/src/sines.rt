@@ -46,7 +46,7 @@ pub(crate) fn sines_into(
     signs: Signs,
     log_sines: &[u32],
     differences: &[i32],
-    a: &mut [i64],
+    a: &mut [i32],
 ) -> Sines
     requires { ⌜ ((i : ℕ) → i < angleCount figure → natAbs (vector signs i) ≤ 1) ⌝ }
     requires { ⌜ length (now «log_sines») ≡ angleCount figure ⌝ }
@@ -84,7 +84,7 @@ fn signed_into(signs: Signs, log_sines: &[u32], differences: &[i32], d: &mut [i3
     let mut difference_squares = 0i64;
     let mut i = 0;
     while i < d.len() {
-        let sign = signs[i];
+        let sign = signs[i] as i32;
         let signed = sign * differences[i];
         d[i] = signed;
         difference_squares += (signed * signed) as i64;
@@ -98,41 +98,38 @@ fn signed_into(signs: Signs, log_sines: &[u32], differences: &[i32], d: &mut [i3
 }
 
 // A of each angle: D·d plus the first-pass numerator for misclosures equal to each condition's sum of d. Answers the sum of A².
-fn reduced_into(figure: Figure, d: &[i32], a: &mut [i64]) -> i64
+fn reduced_into(figure: Figure, d: &[i32], a: &mut [i32]) -> i64
     requires { ⌜ length (now d) ≡ angleCount figure ⌝ }
     requires { ⌜ length (now a) ≡ angleCount figure ⌝ }
     requires { ⌜ Within mostDifference (now d) ⌝ }
     ensures { λ squares. ⌜ squares ≡ Sums·squares (angleCount figure) (reducedCoefficient figure (vector (now (d .entry)))) ⌝ }
     ensures { λ _. ⌜ now (a .exit) ≡ listed (angleCount figure) (reducedCoefficient figure (vector (now (d .entry)))) ⌝ }
 {
-    let n = d.len();
     let counts = figure_tables::counts_of(figure);
     let m = counts.conditions;
     let mut sums = [0i32; MOST_CONDITIONS];
-    let mut taken = [0i32; MOST_ANGLES];
     condition_sums(figure, d, &mut sums[..m]);
-    numerators_into(figure, &sums[..m], &mut taken[..n]);
-    reduced_from(counts.denominator, d, &taken[..n], a)
+    numerators_into(figure, &sums[..m], a);
+    reduced_from(counts.denominator, d, a)
 }
 
-// D·d and what is taken, of each angle. Answers the sum of the squares.
-fn reduced_from(denominator: u32, d: &[i32], taken: &[i32], a: &mut [i64]) -> i64
-    requires { ⌜ length (now taken) ≡ length (now d) ⌝ }
+// D·d with what is taken, of each angle, in the place of what is taken. Answers the sum of the squares.
+fn reduced_from(denominator: u32, d: &[i32], a: &mut [i32]) -> i64
     requires { ⌜ length (now a) ≡ length (now d) ⌝ }
     requires { ⌜ length (now d) ≤ mostAngles ⌝ }
     requires { ⌜ denominator ≤ mostDenominator ⌝ }
     requires { ⌜ Within mostDifference (now d) ⌝ }
-    requires { ⌜ Within mostTaken (now taken) ⌝ }
+    requires { ⌜ Within mostTaken (now a) ⌝ }
     ensures { λ squares.
-        ⌜ squares ≡ Sums·squares (length (now (d .entry))) (reducedFrom denominator (now (d .entry)) (now (taken .entry))) ⌝ }
-    ensures { λ _. ⌜ now (a .exit) ≡ listed (length (now (d .entry))) (reducedFrom denominator (now (d .entry)) (now (taken .entry))) ⌝ }
+        ⌜ squares ≡ Sums·squares (length (now (d .entry))) (reducedFrom denominator (now (d .entry)) (now (a .entry))) ⌝ }
+    ensures { λ _. ⌜ now (a .exit) ≡ listed (length (now (d .entry))) (reducedFrom denominator (now (d .entry)) (now (a .entry))) ⌝ }
 {
     let mut squares = 0i64;
     let mut i = 0;
     while i < a.len() {
-        let one = (denominator as i32 * d[i] + taken[i]) as i64;
+        let one = denominator as i32 * d[i] + a[i];
         a[i] = one;
-        squares += one * one;
+        squares += one as i64 * one as i64;
         i += 1;
     }
     squares

@@ -34,8 +34,8 @@ pub(crate) fn sums_into(
     log_sines: &[u32],
     differences: &[i32],
     log_sides: &[u32],
-    a: &mut [i64],
-    b: &mut [i64],
+    a: &mut [i32],
+    b: &mut [i32],
 ) -> Sums
     requires { ⌜ length (now «log_sines») ≡ angleCount figure ⌝ }
     requires { ⌜ length (now differences) ≡ angleCount figure ⌝ }
@@ -109,7 +109,7 @@ fn together(pole: Sines, side: Sines, shared: i64, side_misclosure: i64) -> Sums
 }
 
 // [AB].
-fn products(a: &[i64], b: &[i64]) -> i64
+fn products(a: &[i32], b: &[i32]) -> i64
     requires { ⌜ length (now b) ≡ length (now a) ⌝ }
     requires { ⌜ length (now a) ≤ mostAngles ⌝ }
     requires { ⌜ Within mostReduced (now a) ⌝ }
@@ -119,7 +119,7 @@ fn products(a: &[i64], b: &[i64]) -> i64
     let mut total = 0i64;
     let mut i = 0;
     while i < a.len() {
-        total += a[i] * b[i];
+        total += a[i] as i64 * b[i] as i64;
         i += 1;
     }
     total

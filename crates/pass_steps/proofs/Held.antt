@@ -1,13 +1,15 @@
 -- What is held of a number, and that every sum over a condition of small numbers is. Assumes nothing.
-use mathlib.Core.Bool.{Bool, cond}
+use mathlib.Core.Bool.{Bool, true, false, cond}
 use mathlib.Core.List.{List}
-use mathlib.Core.Path.{_≡_, sym, ap, _∙_}
+use mathlib.Core.Path.{_≡_, sym, ap, _∙_, subst}
 use Prim.Native.Nat.{ℕ, _≤_, _<_}
 use native.Mathlib.Nat.{le-trans}
-use borrow.Author.Tests.{lt-ltb, le-ltb}
-use lib.Dec.{lit≤}
-use lib.IntN.{ℤ, pos, natAbs}
+use native.Mathlib.Omega.{arith}
+use borrow.Author.Tests.{lt-ltb, le-ltb, ltb-true, ltb-false}
+use lib.Dec.{T, lit≤}
+use lib.IntN.{ℤ, pos, negsuc, natAbs}
 use lib.ListN.{length}
+use lib.Signed.{ltZ}
 use Rattle.whole.specs.Lists.{listed}
 use Rattle.whole.specs.Sums.{vector}
 use Rattle.whole.proofs.Lists.{listed-ext}
@@ -19,6 +21,22 @@ use Rattle.pass_steps.specs.Steps.{fitting, held, mostHeld, sumsOf}
 use Rattle.pass_steps.proofs.Bounds.{condition-magnitude}
 use Rattle.pass_steps.proofs.Fitting.{fits}
 use Rattle.pass_steps.proofs.StepLaws.{listed-within}
+
+-- −mostHeld
+abbrev pub leastHeld : ℤ
+leastHeld = negsuc 2147483646
+
+pub below : (z : ℤ) → ltZ z leastHeld ≡ true → mostHeld < natAbs z
+below (pos n) e = absurd (subst T (sym e) tt)
+below (negsuc n) e = omega (arith, ltb-true 2147483646 n e)
+
+pub above : (z : ℤ) → ltZ (pos mostHeld) z ≡ true → mostHeld < natAbs z
+above (pos n) e = ltb-true mostHeld n e
+above (negsuc n) e = absurd (subst T (sym e) tt)
+
+pub between : (z : ℤ) → ltZ z leastHeld ≡ false → ltZ (pos mostHeld) z ≡ false → natAbs z ≤ mostHeld
+between (pos n) e f = ltb-false mostHeld n f
+between (negsuc n) e f = omega (arith, ltb-false 2147483646 n e)
 
 pub not-held : (z : ℤ) → mostHeld < natAbs z → pos 0 ≡ held z
 unfolding held

@@ -2,9 +2,10 @@
 use Prim.Native.Nat.{ℕ}
 use mathlib.Core.Bool.{cond}
 use mathlib.Core.List.{List, [], _∷_}
+use mathlib.Core.Path.{_≡_}
 use lib.Dec.{eqb, ltb}
 use lib.IntN.{ℤ, pos, natAbs}
-use lib.ListN.{length}
+use lib.ListN.{length, take}
 use Rattle.whole.specs.Lists.{listed}
 use Rattle.whole.specs.Sums.{vector}
 use Rattle.refusals.specs.declared.Verdict.{Verdict}
@@ -42,6 +43,10 @@ sumsOf f x = listed (conditionCount f) (λ j. held (conditionSum f (vector x) j)
 -- the numerators that the misclosures w give
 abbrev pub numeratorsFrom : Figure → (w : List ℤ) → List ℤ
 numeratorsFrom f w = listed (angleCount f) (numerator f (vector w))
+
+-- the first so many of n numerators are those of the rule
+abbrev pub AppliedTo : (count n : ℕ) → (rule : ℕ → ℤ) → (numerators : List ℤ) → Type 0
+AppliedTo count n rule numerators = take count numerators ≡ take count (listed n rule)
 
 -- the results that a pass judges and gives: 2 where lengths differ, 7
 abbrev pub resultsRows : (angles : List ℕ) → (rounded : List ℤ) → (lent : ℕ) → List Row

@@ -15,7 +15,7 @@ ghost use Rattle.pass_steps.specs.Steps.{held as Steps·held};
 use figures::Figure;
 
 // The most that a sum may be, either way: what 32 bits hold.
-const MOST_HELD: u64 = 2147483647;
+const MOST_HELD: i64 = 2147483647;
 
 // The sum over the angles of each condition.
 pub fn condition_sums(figure: Figure, x: &[i32], sums: &mut [i32])
@@ -46,7 +46,9 @@ fn sums_into(figure: Figure, x: &[i32], sums: &mut [i32])
 fn held(total: i64) -> i32
     ensures { λ kept. ⌜ kept ≡ Steps·held total ⌝ }
 {
-    if MOST_HELD < whole::magnitude(total) {
+    if total < -MOST_HELD {
+        0
+    } else if MOST_HELD < total {
         0
     } else {
         total as i32

@@ -1,6 +1,6 @@
 // The numerators of the exact corrections: document 01, "The two passes". Each figure's table as its type has it, by value, to one function.
 ghost use mathlib.Core.Path.{_≡_};
-ghost use Prim.Native.Nat.{_*_, _^_, _≤_};
+ghost use Prim.Native.Nat.{_+_, _*_, _^_, _≤_};
 ghost use lib.IntN.{natAbs, _*ℤ_};
 ghost use lib.Dec.{T};
 ghost use lib.ListN.{length};
@@ -12,7 +12,8 @@ ghost use Rattle.refusals.specs.Order.{verdictOf};
 ghost use Rattle.refusals.specs.Promise.{stored};
 ghost use Rattle.refusals.specs.Table.{misclosuresRow};
 ghost use Rattle.pass_steps.specs.Premises.{Within, hasFive, mostApplied};
-ghost use Rattle.pass_steps.specs.Steps.{fitting, numeratorsFrom};
+ghost use Rattle.pass_steps.specs.Steps.{fitting, numeratorsFrom, AppliedTo};
+use crate::stores::copied;
 use figure_tables::CentralHeptagon;
 use figure_tables::CentralHexagon;
 use figure_tables::CentralOctagon;
@@ -134,7 +135,8 @@ fn polygon_applied(figure: Figure, w: &[i32], numerators: &mut [i32])
     }
 }
 
-// The one row-apply function: the rows of a figure of so many angles and conditions.
+// The one row-apply function: the rows of a figure of so many angles and conditions. The misclosures are taken into an array of its own, so
+// that no store can change them and each is fetched once.
 fn rows_applied(rows: Rows, angles: usize, conditions: usize, w: &[i32], numerators: &mut [i32])
     requires { ⌜ length (now numerators) ≡ angles ⌝ }
     requires { ⌜ angles ≤ mostAngles ⌝ }
@@ -143,8 +145,36 @@ fn rows_applied(rows: Rows, angles: usize, conditions: usize, w: &[i32], numerat
     requires { ⌜ Within mostApplied (now w) ⌝ }
     ensures { λ _. ⌜ now (numerators .exit) ≡ listed angles (applied conditions (table rows) (vector (now (w .entry)))) ⌝ }
 {
-    let mut i = 0;
-    while i < angles {
+    let mut own = [0i32; MOST_CONDITIONS];
+    copied(w, &mut own[..conditions]);
+    let taken = &own[..conditions];
+    nine_applied(rows, 0, angles, conditions, taken, numerators);
+    nine_applied(rows, 9, angles, conditions, taken, numerators);
+    nine_applied(rows, 18, angles, conditions, taken, numerators);
+}
+
+// Nine rows, or what is left of the angles, from `from` on. So short a loop over a table that is told is compiled row by row, with no table
+// in memory.
+fn nine_applied(
+    rows: Rows,
+    from: usize,
+    angles: usize,
+    conditions: usize,
+    w: &[i32],
+    numerators: &mut [i32],
+)
+    requires { ⌜ from ≤ 18 ⌝ }
+    requires { ⌜ length (now numerators) ≡ angles ⌝ }
+    requires { ⌜ angles ≤ mostAngles ⌝ }
+    requires { ⌜ length (now w) ≡ conditions ⌝ }
+    requires { ⌜ conditions ≤ mostConditions ⌝ }
+    requires { ⌜ Within mostApplied (now w) ⌝ }
+    requires { ⌜ AppliedTo from angles (applied conditions (table rows) (vector (now w))) (now numerators) ⌝ }
+    ensures { λ _. ⌜ AppliedTo (from + 9) angles (applied conditions (table rows) (vector (now (w .entry)))) (now (numerators .exit)) ⌝ }
+{
+    let to = if angles < from + 9 { angles } else { from + 9 };
+    let mut i = from;
+    while i < to {
         let row = rows[i];
         numerators[i] = row_applied(row, conditions, w);
         i += 1;

@@ -12,7 +12,7 @@ pub fn store_signed(x: &[i32], lent: &mut [i32])
     }
 }
 
-fn copied(x: &[i32], lent: &mut [i32])
+pub(crate) fn copied(x: &[i32], lent: &mut [i32])
     requires { ⌜ length (now lent) ≡ length (now x) ⌝ }
     ensures { λ _. ⌜ now (lent .exit) ≡ now (x .entry) ⌝ }
 {

@@ -109,13 +109,15 @@ fn raised_less(high: u64, low: u64) -> Size
 pub fn words_of_signed(a: i64) -> Words
     ensures { λ words. ⌜ words ≡ wordsFrom a ⌝ }
 {
-    let size = whole::magnitude(a);
     if a < 0 {
         Words {
             high: -1,
-            low: u64::MAX - size + 1,
+            low: u64::MAX - (-1 - a) as u64,
         }
     } else {
-        Words { high: 0, low: size }
+        Words {
+            high: 0,
+            low: a as u64,
+        }
     }
 }

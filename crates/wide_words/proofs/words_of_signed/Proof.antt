@@ -1,38 +1,54 @@
--- `wide_words::words_of_signed` meets its contract: below zero the low word is what the size lacks of 2^64.
-use mathlib.Core.Path.{_≡_, sym, ap, _∙_}
-use Prim.Native.Nat.{suc}
+-- `wide_words::words_of_signed` meets its contract: below zero the low word is what −1 − a lacks of 2^64 − 1.
+use mathlib.Core.Path.{_≡_, sym, ap, subst⁻¹, _∙_}
 use native.Mathlib.Omega.{arith}
-use borrow.Author.Needs.{needs}
-use lib.IntN.{pos, negsuc, natAbs}
+use lib.IntN.{ℤ, pos, negsuc, natAbs, _-ℤ_}
 use lib.Signed.{mag}
 use mir.Syntax.{w64}
-use mir.Facts.{toZ-ofZ}
-use Rattle.whole.proofs.Magnitudes.{below-zero, not-below-zero}
+use mir.Val.{SFits, toZ, ofZ}
+use mir.Facts.{toZ-ofZ, fits-natAbs}
+use Rattle.whole.proofs.Magnitudes.{below-zero, not-below-zero, minus-one-more}
 use Rattle.wide_words.specs.Words.{wordsFrom}
 use Rattle.wide_words.proofs.Reaching.{signed-above, signed-below}
 use Rattle.wide_words.proofs.words_of_signed.Statement.{statement}
 use Rattle.wide_words.proofs.words_of_signed.Tie as tie
 
-magnitude : (c : tie.After-magnitude) → c .magnitude .result ≡ natAbs (c .before .args .a)
-magnitude c = c .magnitude .ensures ∙ ap natAbs (toZ-ofZ (c .before .fits .a))
+negative : (c : tie.Then1) → c .before .args .a ≡ negsuc (mag (c .before .args .a))
+negative c = below-zero w64 (c .before .args .a) (c .before .fits .a) (c .if1 .taken)
 
-negative : (c : tie.Then1) → c .before .before .args .a ≡ negsuc (mag (c .before .before .args .a))
-negative c = below-zero w64 (c .before .before .args .a) (c .before .before .fits .a) (c .if1 .taken)
+-- −1 − a, as the machine holds it, and as it reads it back
+held : (c : tie.Then1) → negsuc 0 -ℤ toZ w64 (ofZ w64 (c .before .args .a)) ≡ pos (mag (c .before .args .a))
+held c = ap (λ (x : ℤ). negsuc 0 -ℤ x) (toZ-ofZ (c .before .fits .a) ∙ negative c) ∙ minus-one-more (mag (c .before .args .a))
 
-size : (c : tie.Then1) → c .before .magnitude .result ≡ suc (mag (c .before .before .args .a))
-size c = magnitude (c .before) ∙ ap natAbs (negative c)
+in-range : (c : tie.Then1) → SFits w64 (pos (mag (c .before .args .a)))
+in-range c = record { sfits = c .before .fits .a .sfits }
 
-add-t6 : tie.Need-add-t6
-add-t6 c = omega (arith, size c)
+read : (c : tie.Then1) → toZ w64 (ofZ w64 (negsuc 0 -ℤ toZ w64 (ofZ w64 (c .before .args .a)))) ≡ pos (mag (c .before .args .a))
+read c = ap (λ (x : ℤ). toZ w64 (ofZ w64 x)) (held c) ∙ toZ-ofZ (in-range c)
+
+sub-t4 : tie.Need-sub-t4
+sub-t4 c = subst⁻¹ (SFits w64) (held c) (in-range c)
+
+cast-t5 : tie.Need-cast-t5
+cast-t5 c = rw (read c) (tt, omega arith)
+
+sub-t6 : tie.Need-sub-t6
+sub-t6 c = rw (read c) (omega arith)
+
+-- the number itself, where it is not below zero
+plain : (c : tie.Else1) → toZ w64 (ofZ w64 (c .before .args .a)) ≡ pos (natAbs (c .before .args .a))
+plain c = toZ-ofZ (c .before .fits .a) ∙ not-below-zero w64 (c .before .args .a) (c .before .fits .a) (c .if1 .left)
+
+cast-t7 : tie.Need-cast-t7
+cast-t7 c = rw (plain c) (tt, fits-natAbs tt (c .before .fits .a))
 
 returns : tie.Need-returns
-returns c = signed-below (mag (c .before .before .args .a)) _ (omega (arith, size c)) ∙ sym (ap wordsFrom (negative c))
+returns c = rw (read c) (signed-below (mag (c .before .args .a)) _ (omega arith) ∙ sym (ap wordsFrom (negative c)))
 
 returns-2 : tie.Need-returns-2
 returns-2 c =
-    let start = c .before .before in
-    let plain = not-below-zero w64 (start .args .a) (start .fits .a) (c .if1 .left) ∙ ap pos (sym (magnitude (c .before))) in
-    signed-above (c .before .magnitude .result) (omega arith) ∙ sym (ap wordsFrom plain)
+    rw (plain c)
+    (signed-above (natAbs (c .before .args .a)) (fits-natAbs {w′ = w64} tt (c .before .fits .a) .fits)
+    ∙ sym (ap wordsFrom (not-below-zero w64 (c .before .args .a) (c .before .fits .a) (c .if1 .left))))
 
 pub words-of-signed-spec : {M : Type 1} → statement M
-words-of-signed-spec = tie.close (tie.spec (λ c κs. search needs) (λ c. search needs) add-t6 returns returns-2)
+words-of-signed-spec = tie.close (tie.spec sub-t4 cast-t5 sub-t6 cast-t7 returns returns-2)

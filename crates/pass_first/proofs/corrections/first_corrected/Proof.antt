@@ -3,13 +3,11 @@ use mathlib.Core.Path.{_≡_, sym, ap, _∙_}
 use mathlib.Core.List.{List, [], _∷_, _++_}
 use Prim.Native.Nat.{ℕ, _≤_}
 use native.Mathlib.Omega.{arith}
-use borrow.Author.Needs.{needs}
 use denote.Ref.{now}
 use lib.Dec.{lit≤}
 use lib.IntN.{ℤ, pos}
 use lib.ListN.{length, getD, take, drop, replicate}
 use Rattle.refusals.specs.declared.Verdict.{Verdict}
-use Rattle.refusals.specs.declared.Verdict.the-variants.{Passed}
 use Rattle.refusals.specs.Order.{verdictOf, judged}
 use Rattle.refusals.specs.Table.{lengthsRow, resultsRow}
 use Rattle.judging.specs.Searches.{resultsOf}
@@ -120,14 +118,25 @@ store-first-requires c κs =
       ),
     )
 
+-- where everything is stored
+module _ (c : tie.After-rests) where
+  abbrev stores : tie.After-store-first
+  stores = c .before .before .before .before
+
+  abbrev passing : tie.After-enum-told
+  passing = stores .before .before .before .before .before .before .before
+
+  abbrev results : tie.After-results-into
+  results = passing .before .before .before .before
+
 returns : tie.Need-returns
 returns c =
-    let told = c .before .before .before .before .before .before .before .before .before .before .before in
-    let asked = told .before .before .before .before in
+    let told = passing c in
+    let asked = results c in
     let k = asked .before .before .before .before .before in
     let s = start k in
     let f = s .args .figure in
-    let held = c .before .before .before .before .store-first .ensures in
+    let held = stores c .store-first .ensures in
     let answered = asked .results-into .ensures .answered ∙ decided k in
     let passed = sym answered ∙ told .enum-told .given .1 in
     let misclosures = held .misclosures-are in
@@ -167,18 +176,18 @@ first-corrected-spec =
     (λ c. let k = c .before .before in share k (tenthsPart k) (tenths-kept k))
     (λ c. let k = c .before .before .before in aggregate k (tenthsPart k) (tenths-kept k))
     (λ c κs. tt)
-    (λ c. search needs)
+    (λ c. c .match .keys1)
     (λ c. let k = c .before .before .before .before .before .before .before .before .before in share k (exactPart k) (exact-kept k))
     (λ c. let k = c .before .before .before .before .before .before .before .before .before .before in aggregate k (exactPart k) (exact-kept k))
     (λ c. let k = c .before .before .before .before .before .before .before .before .before .before in share k (tenthsPart k) (tenths-kept k))
     (λ c. let k = c .before .before .before .before .before .before .before .before .before .before .before in aggregate k (tenthsPart k) (tenths-kept k))
     store-first-requires
-    (λ c. search needs)
-    (λ c. search needs)
-    (λ c. search needs)
-    (λ c. search needs)
-    (λ c. search needs)
-    (λ c. search needs)
+    (λ c. c .match .keys2)
+    (λ c. stores c .store-first .kept .1 .1 .1 .1 .0)
+    (λ c. stores c .store-first .kept .1 .1 .1 .1 .1 .0)
+    (λ c. stores c .store-first .kept .1 .1 .1 .1 .1 .1 .0)
+    (λ c. results c .results-into .kept .1 .1 .0)
+    (λ c. stores c .store-first .kept .1 .1 .1 .1 .1 .1 .1 .0)
     returns
-    (λ c. search needs)
+    (λ c. c .before .before .before .before .results-into .kept .1 .1 .0)
     returns-2)

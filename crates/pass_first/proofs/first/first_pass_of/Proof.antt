@@ -3,7 +3,6 @@ use mathlib.Core.Path.{_≡_, sym, _∙_}
 use mathlib.Core.List.{List, [], _∷_, _++_}
 use Prim.Native.Nat.{ℕ, _≤_}
 use native.Mathlib.Omega.{arith}
-use borrow.Author.Needs.{needs}
 use denote.Ref.{now}
 use lib.IntN.{ℤ, pos}
 use lib.ListN.{length, take, drop, replicate}
@@ -130,9 +129,12 @@ first-corrected-requires c κs =
       ),
     )
 
+abbrev corrected : tie.After-slice-known4 → tie.After-first-corrected
+corrected c = c .before .before .before .before .before .before .before .before .before .before
+
 returns-3 : tie.Need-returns-3
 returns-3 c =
-    let worked = c .before .before .before .before .before .before .before .before .before .before in
+    let worked = corrected c in
     let within-limit = worked .before .before .before .before .before .before .before in
     let k = within-limit .before .before .before .before .before .before in
     let t = told k in
@@ -144,28 +146,28 @@ pub first-pass-of-spec : {M : Type 1} → statement M
 first-pass-of-spec =
     tie.close
     (tie.spec
-    (λ c κs. search needs)
-    (λ c. search needs)
+    (λ c κs. tt)
+    (λ c. c .match .keys1)
     returns
-    (λ c. search needs)
+    (λ c. c .match .keys2)
     (λ c. few c)
     (λ c. lent (c .before))
     misclosures-into-requires
     (λ c. share (c .before))
     (λ c. aggregate (c .before .before))
-    (λ c κs. search needs)
-    (λ c κs. search needs)
-    (λ c. search needs)
+    (λ c κs. tt)
+    (λ c κs. tt)
+    (λ c. c .match2 .keys1)
     returns-2
-    (λ c. search needs)
+    (λ c. c .match2 .keys2)
     (λ c. share (c .before .before .before .before .before .before))
     (λ c. aggregate (c .before .before .before .before .before .before .before))
     first-corrected-requires
-    (λ c κs. search needs)
-    (λ c. search needs)
-    (λ c. search needs)
-    (λ c. search needs)
-    (λ c. search needs)
-    (λ c. search needs)
-    (λ c. search needs)
+    (λ c κs. tt)
+    (λ c. corrected c .first-corrected .kept .1 .1 .1 .0)
+    (λ c. corrected c .first-corrected .kept .1 .1 .1 .1 .0)
+    (λ c. corrected c .first-corrected .kept .1 .1 .1 .1 .1 .0)
+    (λ c. corrected c .first-corrected .kept .1 .1 .1 .1 .1 .1 .0)
+    (λ c. c .before .before .store-rounds .kept .1 .1 .0)
+    (λ c. corrected c .first-corrected .kept .1 .1 .1 .1 .1 .1 .1 .0)
     returns-3)

@@ -1,24 +1,21 @@
 -- `pass_second::corrections::second_corrected` meets its contract: number 7 is asked of the results, and everything is stored where it passes.
-use mathlib.Core.Bool.{Bool, true, cond}
-use mathlib.Core.Path.{_≡_, sym, ap, _∙_, subst}
+use mathlib.Core.Bool.{Bool, cond}
+use mathlib.Core.Path.{_≡_, sym, ap, _∙_}
 use mathlib.Core.List.{List, [], _∷_, _++_}
 use Prim.Native.Nat.{ℕ, _≤_}
 use native.Mathlib.Omega.{arith}
-use borrow.Author.Needs.{needs}
 use denote.Ref.{now}
 use lib.IntN.{ℤ, pos}
 use lib.ListN.{length, getD, take, drop, replicate}
 use Rattle.whole.specs.Lists.{listed}
 use Rattle.whole.specs.Sums.{vector}
-use Rattle.whole.proofs.Lists.{length-listed}
 use Rattle.refusals.specs.declared.Verdict.{Verdict}
-use Rattle.refusals.specs.declared.Verdict.the-variants.{Passed}
 use Rattle.refusals.specs.Order.{verdictOf, judged}
 use Rattle.refusals.specs.Table.{lengthsRow, resultsRow}
 use Rattle.judging.specs.Searches.{resultsOf}
 use Rattle.figures.specs.declared.Counts.{Counts}
 use Rattle.figures.specs.declared.Figure.{Figure}
-use Rattle.figures.specs.Figure.{denominator, angleCount, conditionCount, hasSide, sideCount}
+use Rattle.figures.specs.Figure.{denominator, angleCount, conditionCount}
 use Rattle.figures.specs.Numerators.{conditionSum}
 use Rattle.figures.proofs.Figures.{angle-bound, side-some}
 use Rattle.pass_steps.specs.Steps.{resultsRows, resultsFrom}
@@ -194,14 +191,24 @@ store-second-requires c κs =
       ),
     )
 
+-- where everything is stored
+module _ (c : tie.After-rests) where
+  abbrev stores : tie.After-store-second
+  stores = c .before .before .before .before .before .before .before
+
+  abbrev passing : tie.After-enum-told
+  passing = stores .before .before .before .before .before .before .before .before .before .before
+
+  abbrev results : tie.After-results-into
+  results = passing .before .before .before .before
+
 returns : tie.Need-returns
 returns c =
-    let stores = c .before .before .before .before .before .before .before in
-    let told = stores .before .before .before .before .before .before .before .before .before .before in
-    let asked = told .before .before .before .before in
+    let told = passing c in
+    let asked = results c in
     let k = made asked in
     let s = start k in
-    let held = stores .store-second .ensures in
+    let held = stores c .store-second .ensures in
     let passed = sym (answered asked) ∙ told .enum-told .given .1 in
     let high = held .highs-are ∙ highs k in
     let low = held .lows-are ∙ lows k in
@@ -234,7 +241,7 @@ pub second-corrected-spec : {M : Type 1} → statement M
 second-corrected-spec =
     tie.close
     (tie.spec
-    (λ c κs. search needs)
+    (λ c κs. tt)
     (λ c. few (c .before .before .before .before))
     (λ c. lent-length _ (replicate 24 (pos 0)) (few (c .before .before .before .before .before)))
     (λ c. few (c .before .before .before .before .before))
@@ -245,7 +252,7 @@ second-corrected-spec =
     (λ c. let k = c .before .before .before in share k (tenthsPart k) (tenths-kept k))
     (λ c. let k = c .before .before .before .before in aggregate k (tenthsPart k) (tenths-kept k))
     (λ c κs. tt)
-    (λ c. search needs)
+    (λ c. c .match .keys1)
     (λ c. let k = c .before .before .before .before .before .before .before .before .before .before in share k (highPart k) (high-kept k))
     (λ c. let k = c .before .before .before .before .before .before .before .before .before .before .before in aggregate k (highPart k) (high-kept k))
     (λ c. share-words (c .before .before .before .before .before .before .before .before .before .before .before))
@@ -253,14 +260,14 @@ second-corrected-spec =
     (λ c. let k = c .before .before .before .before .before .before .before .before .before .before .before .before in share k (tenthsPart k) (tenths-kept k))
     (λ c. let k = c .before .before .before .before .before .before .before .before .before .before .before .before .before in aggregate k (tenthsPart k) (tenths-kept k))
     store-second-requires
-    (λ c. search needs)
-    (λ c. search needs)
-    (λ c. search needs)
-    (λ c. search needs)
-    (λ c. search needs)
-    (λ c. search needs)
-    (λ c. search needs)
-    (λ c. search needs)
+    (λ c. c .match .keys2)
+    (λ c. stores c .store-second .kept .1 .1 .1 .1 .1 .1 .0)
+    (λ c. stores c .store-second .kept .1 .1 .1 .1 .1 .1 .1 .0)
+    (λ c. stores c .store-second .kept .1 .1 .1 .1 .1 .1 .1 .1 .0)
+    (λ c. stores c .store-second .kept .1 .1 .1 .1 .1 .1 .1 .1 .1 .0)
+    (λ c. stores c .store-second .kept .1 .1 .1 .1 .1 .1 .1 .1 .1 .1 .0)
+    (λ c. results c .results-into .kept .1 .1 .0)
+    (λ c. stores c .store-second .kept .1 .1 .1 .1 .1 .1 .1 .1 .1 .1 .1 .0)
     returns
-    (λ c. search needs)
+    (λ c. c .before .before .before .before .results-into .kept .1 .1 .0)
     returns-2)

@@ -1,5 +1,5 @@
 -- `pass_second::corrections::store_second` meets its contract: each slice has the length of what it is to hold.
-use mathlib.Core.Path.{_≡_, refl, sym, _∙_}
+use mathlib.Core.Path.{refl, sym, _∙_}
 use borrow.Author.Needs.{needs}
 use denote.Ref.{now}
 use Rattle.pass_steps.proofs.Fitting.{copied}
@@ -20,7 +20,7 @@ returns c =
     record {
       reduced-are = first .store-wide .ensures;
       side-reduced-are = second .store-wide2 .ensures;
-      highs-are = third .store-wide3 .ensures;
+      highs-are = third .store-high .ensures;
       lows-are = fourth .store-words .ensures;
       rounded-are = fifth .store-signed .ensures ∙ copied (now (s .args .tenths)) (now (s .args .rounded)) (pre .0 ∙ sym (pre .1 .0));
       rests-are =

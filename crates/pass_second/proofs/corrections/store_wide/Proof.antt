@@ -2,10 +2,12 @@
 use mathlib.Core.Path.{_∙_}
 use Prim.Native.Nat.{_-_}
 use native.Mathlib.Omega.{arith}
+use denote.Ref.{now}
 use lib.IntN.{pos}
 use lib.ListN.{length}
-use mir.Facts.{toZ-ofZ}
+use mir.Syntax.{w32, w64}
 use Rattle.whole.specs.Sums.{vector}
+use Rattle.whole.proofs.Magnitudes.{widened, widens}
 use Rattle.whole.proofs.Lists.{Filled, filled-none, filled-more, filled-all, listed-getD}
 use Rattle.pass_second.proofs.corrections.store_wide.Statement.{statement}
 use Rattle.pass_second.proofs.corrections.store_wide.Tie as tie
@@ -20,7 +22,7 @@ loop-holds : tie.Need-loop-holds Inv-loop μ-loop
 loop-holds c = filled-none _ _ _ (c .pre)
 
 loop-again : tie.Need-loop-again Inv-loop μ-loop
-loop-again c = filled-more (c .before .before .loop .inv) (omega arith) (toZ-ofZ (record { sfits = c .lent .given }))
+loop-again c = filled-more (c .before .before .loop .inv) (omega arith) (widened w32 w64 _ tt (record { sfits = c .lent .given }))
 
 returns : tie.Need-returns Inv-loop μ-loop
 returns c = filled-all (c .before .loop .inv) (omega arith) ∙ listed-getD (pos 0) _
@@ -34,6 +36,7 @@ store-wide-spec =
     loop-holds
     (λ c. omega arith)
     (λ c. omega arith)
+    (λ c. widens w32 w64 (vector (now (c .before .before .before .args .x)) (c .before .before .loop .i)) tt (record { sfits = c .lent .given }))
     (λ c. omega arith)
     (λ c. omega arith)
     (λ c. omega arith)

@@ -5,10 +5,11 @@ use native.Mathlib.Omega.{arith}
 use denote.Ref.{now}
 use lib.IntN.{ℤ, _*ℤ_}
 use lib.ListN.{length}
-use mir.Syntax.{w64}
+use mir.Syntax.{w32, w64}
 use mir.Val.{toZ, ofZ}
 use mir.Facts.{toZ-ofZ}
 use Rattle.whole.specs.Sums.{vector}
+use Rattle.whole.proofs.Magnitudes.{widened, widens}
 use Rattle.pass_second.specs.Steps.{exactCorrection}
 use Rattle.pass_second.proofs.CorrectionSteps.{Corrected, corrected-none, corrected-more, corrected-all}
 use Rattle.pass_second.proofs.numerators.one_into.Statement.{statement}
@@ -28,7 +29,7 @@ one-correction-requires : tie.Need-one-correction-requires Inv-loop μ-loop
 one-correction-requires c κs =
     let start = c .before .before .before .before in (
       rw (toZ-ofZ (start .fits .scale)) (start .pre .0),
-      rw (toZ-ofZ (record { sfits = c .one-correction-arg .given })) (start .pre .1 .0 (c .before .before .loop .i)),
+      rw (widened w32 w64 _ tt (record { sfits = c .one-correction-arg .given })) (start .pre .1 .0 (c .before .before .loop .i)),
     )
 
 loop-again : tie.Need-loop-again Inv-loop μ-loop
@@ -41,7 +42,7 @@ loop-again c =
     ≡ exactCorrection (toZ w64 (ofZ w64 (start .args .scale)) *ℤ vector (now (start .args .a)) (loop .i)) (start .args .divisor) =
     call .one-correction .ensures
     ∙ ap (λ (z : ℤ). exactCorrection (toZ w64 (ofZ w64 (start .args .scale)) *ℤ z) (start .args .divisor))
-    (toZ-ofZ (record { sfits = call .before .one-correction-arg .given })) in
+    (widened w32 w64 _ tt (record { sfits = call .before .one-correction-arg .given })) in
     let high = toZ-ofZ (record { sfits = told .0 .1 }) in
     let tenths = toZ-ofZ (record { sfits = told .1 .1 .0 .1 }) in
     corrected-more (loop .inv) (omega arith) made high refl tenths
@@ -66,6 +67,7 @@ one-into-spec =
     loop-holds
     (λ c. omega arith)
     (λ c. omega arith)
+    (λ c. widens w32 w64 (vector (now (c .before .before .before .before .args .a)) (c .before .before .loop .i)) tt (record { sfits = c .one-correction-arg .given }))
     one-correction-requires
     (λ c. omega arith)
     (λ c. omega arith)

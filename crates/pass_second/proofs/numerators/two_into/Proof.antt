@@ -2,13 +2,14 @@
 use mathlib.Core.Path.{_≡_, refl, ap₂, subst}
 use Prim.Native.Nat.{_-_}
 use native.Mathlib.Omega.{arith}
-use borrow.Author.Needs.{needs}
 use denote.Ref.{now}
 use lib.IntN.{ℤ, natAbs}
 use lib.ListN.{length}
-use mir.Syntax.{w64}
+use mir.Syntax.{w32, w64}
 use mir.Val.{toZ, ofZ}
 use mir.Facts.{toZ-ofZ}
+use Rattle.whole.proofs.Magnitudes.{widened, widens}
+use Rattle.whole.specs.Sums.{vector}
 use Rattle.wide.specs.Wide.{valueOf}
 use Rattle.pass_pair.specs.declared.PairFactors.{PairFactors}
 use Rattle.pass_pair.specs.declared.PairCorrection.{PairCorrection}
@@ -43,8 +44,8 @@ loop-again c =
     let a = now (start .args .a) in
     let b = now (start .args .b) in
     let factor = toZ w64 (ofZ w64 (start .args .factor)) in
-    let a-read = toZ-ofZ (record { sfits = call .before .before .pair-correction-arg .given }) in
-    let b-read = toZ-ofZ (record { sfits = call .before .pair-correction-arg2 .given }) in
+    let a-read = widened w32 w64 _ tt (record { sfits = call .before .before .pair-correction-arg .given }) in
+    let b-read = widened w32 w64 _ tt (record { sfits = call .before .pair-correction-arg2 .given }) in
     let made : call .pair-correction .result ≡ pairCorrection factor (start .args .factors) a b (loop .i) =
     subst (λ (x : PairCorrection). call .pair-correction .result ≡ x) (ap₂ (correctionBy factor (start .args .factors)) a-read b-read)
     (call .pair-correction .ensures) in
@@ -72,9 +73,11 @@ two-into-spec =
     loop-holds
     (λ c. omega arith)
     (λ c. omega arith)
+    (λ c. widens w32 w64 (vector (now (c .before .before .before .before .args .a)) (c .before .before .loop .i)) tt (record { sfits = c .pair-correction-arg .given }))
     (λ c. omega arith)
     (λ c. omega arith)
-    (λ c κs. search needs)
+    (λ c. widens w32 w64 (vector (now (c .before .before .before .before .before .args .b)) (c .before .before .before .loop .i)) tt (record { sfits = c .pair-correction-arg2 .given }))
+    (λ c κs. tt)
     (λ c. omega arith)
     (λ c. omega arith)
     (λ c. omega arith)

@@ -1,6 +1,5 @@
 -- `pass_second::second::second_pass` meets its contract: the pass of the figure that is named.
 use mathlib.Core.Path.{sym, _∙_}
-use borrow.Author.Needs.{needs}
 use denote.Ref.{now}
 use Rattle.pass_rules.specs.Promises.{SecondGiven, SecondLent, secondGiven, secondLent}
 use Rattle.pass_rules.specs.SecondPass.{sineEntries}
@@ -23,29 +22,31 @@ returns c =
     let s = c .before .before .before .before .before .before .before .before .before .before in
     none-named (given s) (entry s) (sym (c .before .before .figure-of .ensures) ∙ c .enum-told .given .1)
 
+abbrev called : tie.After-rests → tie.After-second-pass-of
+called c = c .before .before .before .before .before .before .before .before .before .before .before
+
 returns-2 : tie.Need-returns-2
 returns-2 c =
-    let called = c .before .before .before .before .before .before .before .before .before .before .before in
-    let named = called .before .before .before .before .before .before .before .before .before .before in
+    let named = called c .before .before .before .before .before .before .before .before .before .before in
     let found = named .before .before in
     let s = found .before .before .before .before .before .before .before .before in
-    of-figure (given s) (entry s) _ (sym (found .figure-of .ensures) ∙ named .figure .given .1) (called .second-pass-of .ensures)
+    of-figure (given s) (entry s) _ (sym (found .figure-of .ensures) ∙ named .figure .given .1) (called c .second-pass-of .ensures)
 
 pub second-pass-spec : {M : Type 1} → statement M
 second-pass-spec =
     tie.close
     (tie.spec
-    (λ c κs. search needs)
-    (λ c. search needs)
-    (λ c. search needs)
+    (λ c κs. tt)
+    (λ c. c .match .keys1)
+    (λ c. c .match .keys2)
     returns
-    (λ c κs. search needs)
-    (λ c. search needs)
-    (λ c. search needs)
-    (λ c. search needs)
-    (λ c. search needs)
-    (λ c. search needs)
-    (λ c. search needs)
-    (λ c. search needs)
-    (λ c. search needs)
+    (λ c κs. tt)
+    (λ c. called c .second-pass-of .kept .1 .1 .1 .1 .1 .1 .1 .0)
+    (λ c. called c .second-pass-of .kept .1 .1 .1 .1 .1 .1 .1 .1 .0)
+    (λ c. called c .second-pass-of .kept .1 .1 .1 .1 .1 .1 .1 .1 .1 .0)
+    (λ c. called c .second-pass-of .kept .1 .1 .1 .1 .1 .1 .1 .1 .1 .1 .0)
+    (λ c. called c .second-pass-of .kept .1 .1 .1 .1 .1 .1 .1 .1 .1 .1 .1 .0)
+    (λ c. called c .second-pass-of .kept .1 .1 .1 .1 .1 .1 .1 .1 .1 .1 .1 .1 .0)
+    (λ c. called c .second-pass-of .kept .1 .1 .1 .1 .1 .1 .1 .1 .1 .1 .1 .1 .1 .0)
+    (λ c. called c .second-pass-of .kept .1 .1 .1 .1 .1 .1 .1 .1 .1 .1 .1 .1 .1 .1 .0)
     returns-2)

@@ -1,11 +1,10 @@
 -- `pass_second::second::second_pass_of` meets its contract: each row in its order, and a refusal before any store.
-use mathlib.Core.Bool.{Bool, true, false, cond}
-use mathlib.Core.Path.{_≡_, refl, sym, ap, ap₂, _∙_, subst}
+use mathlib.Core.Path.{_≡_, refl, sym, ap, _∙_, subst}
 use mathlib.Core.List.{List, [], _∷_, _++_}
-use Prim.Native.Nat.{ℕ, _≤_, _<_, _^_, zero-le}
+use Prim.Native.Nat.{ℕ, _≤_, _<_, _^_}
 use native.Mathlib.Omega.{arith}
-use borrow.Author.Needs.{needs}
 use denote.Ref.{now}
+use lib.Dec.{leb, leb→le}
 use lib.IntN.{ℤ, pos, natAbs}
 use lib.ListN.{length, take, drop, replicate}
 use lib.Signed.{_≤ℤ_}
@@ -16,9 +15,8 @@ use Rattle.wide.specs.Wide.{sizeOf}
 use Rattle.refusals.specs.declared.Verdict.the-variants.{Passed}
 use Rattle.refusals.specs.Order.{judged}
 use Rattle.figures.specs.declared.Figure.{Figure}
-use Rattle.figures.specs.Figure.{angleCount, hasSide, sideCount, pole, side}
-use Rattle.figures.proofs.Figures.{angle-bound}
-use Rattle.pass_pair.specs.declared.Pair.{Pair}
+use Rattle.figures.specs.Figure.{angleCount, sideCount}
+use Rattle.figures.proofs.Figures.{each-figure, angle-bound}
 use Rattle.pass_rules.specs.SecondPass.{SineEntries, sineEntries, reducedOf, sideReducedOf, sideReducedCount, entryRows, sineRowsOf}
 use Rattle.pass_rules.specs.Promises.{SecondLent, secondLent, secondSlices}
 use Rattle.pass_steps.proofs.Lending.{lent-length, part-again, still-few, again-length}
@@ -44,13 +42,9 @@ returns c =
     promised.refused-before (s .args .figure) (s .args .tolerance) (now (s .args .angles)) (now (s .args .rounds)) (entries s) (entry s) _
     (sym (c .before .before .before .second-given-verdict .ensures) ∙ c .before .before2 .given .1)
 
--- no more coefficients of the side condition than angles
-side-bound : (f : Figure) → sideReducedCount f ≤ 24
-side-bound f = go (hasSide f)
-  where
-    go : (t : Bool) → cond t (angleCount f) 0 ≤ 24
-    go true = angle-bound f
-    go false = zero-le
+-- the one figure with known sides has no more angles
+side-bound : (f : Figure) → sideReducedCount f ≤ 12
+side-bound f = leb→le (sideReducedCount f) 12 (each-figure (λ g. leb (sideReducedCount g) 12) tt f)
 
 -- ---- the rows before the work have passed
 
@@ -94,7 +88,7 @@ module _ (t : tie.After-enum-told) where
   few : n ≤ 24
   few = omega (arith, count, angle-bound f)
 
-  side-few : m ≤ 24
+  side-few : m ≤ 12
   side-few = omega (arith, side-many, side-bound f)
 
 sums-into-requires : tie.Need-sums-into-requires
@@ -109,7 +103,7 @@ sums-into-requires c κs =
           (
             sym (lent-length (n t) (replicate 24 (pos 0)) (few t)) ∙ count t,
             (
-              sym (lent-length (m t) (replicate 24 (pos 0)) (side-few t)) ∙ side-many t,
+              sym (lent-length (m t) (replicate 12 (pos 0)) (side-few t)) ∙ side-many t,
               (
                 promised.small-log-sines (f t) (tolerance t) (angles t) (rounds t) (e t) (entry (start t)) (passed t),
                 (
@@ -147,20 +141,20 @@ module _ (k : tie.After-sums-into) where
   a-kept : length aPart ≡ length (take (n told) (replicate 24 (pos 0)))
   a-kept = k .sums-into .kept .1 .1 .1 .1 .0
 
-  b-kept : length bPart ≡ length (take (m told) (replicate 24 (pos 0)))
+  b-kept : length bPart ≡ length (take (m told) (replicate 12 (pos 0)))
   b-kept = k .sums-into .kept .1 .1 .1 .1 .1 .0
 
   abbrev a : List ℤ
   a = take (n told) (aPart ++ drop (n told) (replicate 24 (pos 0)))
 
   abbrev b : List ℤ
-  b = take (m told) (bPart ++ drop (m told) (replicate 24 (pos 0)))
+  b = take (m told) (bPart ++ drop (m told) (replicate 12 (pos 0)))
 
   a-are : a ≡ reducedOf (f told) (e told)
   a-are = part-again (n told) (replicate 24 (pos 0)) (few told) aPart a-kept ∙ k .sums-into .ensures .1 .0
 
   b-are : b ≡ sideReducedOf (f told) (e told)
-  b-are = part-again (m told) (replicate 24 (pos 0)) (side-few told) bPart b-kept ∙ k .sums-into .ensures .1 .1
+  b-are = part-again (m told) (replicate 12 (pos 0)) (side-few told) bPart b-kept ∙ k .sums-into .ensures .1 .1
 
 divisor-of-requires : tie.Need-divisor-of-requires
 divisor-of-requires c κs =
@@ -243,7 +237,7 @@ second-corrected-requires c κs =
         (
           sym (again-length (n t) (replicate 24 (pos 0)) (few t) (aPart k) (a-kept k)) ∙ count t,
           (
-            sym (again-length (m t) (replicate 24 (pos 0)) (side-few t) (bPart k) (b-kept k)) ∙ side-many t,
+            sym (again-length (m t) (replicate 12 (pos 0)) (side-few t) (bPart k) (b-kept k)) ∙ side-many t,
             (
               lengths,
               (
@@ -259,9 +253,12 @@ second-corrected-requires c κs =
       ),
     )
 
+abbrev corrected : tie.After-answer-of → tie.After-second-corrected
+corrected c = c .before .before .before .before .before .before .before .before .before .before .before .before .before .before .before .before
+
 returns-3 : tie.Need-returns-3
 returns-3 c =
-    let p = c .before .before .before .before .before .before .before .before .before .before .before .before .before .before .before .before in
+    let p = corrected c in
     let u = p .before .before .before .before .before .before .before .before .before .before in
     let v = verdict u in
     let k = known v in
@@ -282,33 +279,33 @@ pub second-pass-of-spec : {M : Type 1} → statement M
 second-pass-of-spec =
     tie.close
     (tie.spec
-    (λ c κs. search needs)
-    (λ c. search needs)
+    (λ c κs. tt)
+    (λ c. c .match .keys1)
     returns
-    (λ c. search needs)
+    (λ c. c .match .keys2)
     few
     (λ c. lent-length (n (c .before)) (replicate 24 (pos 0)) (few (c .before)))
     (λ c. side-few (c .before))
-    (λ c. lent-length (m (c .before .before)) (replicate 24 (pos 0)) (side-few (c .before .before)))
+    (λ c. lent-length (m (c .before .before)) (replicate 12 (pos 0)) (side-few (c .before .before)))
     sums-into-requires
     divisor-of-requires
     sine-verdict-requires
-    (λ c. search needs)
+    (λ c. c .match2 .keys1)
     returns-2
-    (λ c. search needs)
+    (λ c. c .match2 .keys2)
     (λ c. let k = known (verdict c) in let t = told k in still-few (n t) (replicate 24 (pos 0)) (few t) (aPart k) (a-kept k))
     (λ c. let k = known (verdict (c .before)) in let t = told k in again-length (n t) (replicate 24 (pos 0)) (few t) (aPart k) (a-kept k))
-    (λ c. let k = known (verdict (c .before)) in let t = told k in still-few (m t) (replicate 24 (pos 0)) (side-few t) (bPart k) (b-kept k))
-    (λ c. let k = known (verdict (c .before .before)) in let t = told k in again-length (m t) (replicate 24 (pos 0)) (side-few t) (bPart k) (b-kept k))
+    (λ c. let k = known (verdict (c .before)) in let t = told k in still-few (m t) (replicate 12 (pos 0)) (side-few t) (bPart k) (b-kept k))
+    (λ c. let k = known (verdict (c .before .before)) in let t = told k in again-length (m t) (replicate 12 (pos 0)) (side-few t) (bPart k) (b-kept k))
     second-corrected-requires
-    (λ c κs. search needs)
-    (λ c κs. search needs)
-    (λ c. search needs)
-    (λ c. search needs)
-    (λ c. search needs)
-    (λ c. search needs)
-    (λ c. search needs)
-    (λ c. search needs)
-    (λ c. search needs)
-    (λ c. search needs)
+    (λ c κs. tt)
+    (λ c κs. tt)
+    (λ c. corrected c .second-corrected .kept .1 .1 .1 .1 .1 .1 .1 .0)
+    (λ c. corrected c .second-corrected .kept .1 .1 .1 .1 .1 .1 .1 .1 .0)
+    (λ c. corrected c .second-corrected .kept .1 .1 .1 .1 .1 .1 .1 .1 .1 .0)
+    (λ c. corrected c .second-corrected .kept .1 .1 .1 .1 .1 .1 .1 .1 .1 .1 .0)
+    (λ c. corrected c .second-corrected .kept .1 .1 .1 .1 .1 .1 .1 .1 .1 .1 .1 .0)
+    (λ c. corrected c .second-corrected .kept .1 .1 .1 .1 .1 .1 .1 .1 .1 .1 .1 .1 .0)
+    (λ c. c .before .before .before .before .before .store-rounds .kept .1 .1 .0)
+    (λ c. corrected c .second-corrected .kept .1 .1 .1 .1 .1 .1 .1 .1 .1 .1 .1 .1 .1 .0)
     returns-3)

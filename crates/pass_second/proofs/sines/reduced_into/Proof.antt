@@ -76,45 +76,37 @@ module _ (c : tie.After-numerators-into) where
   summed = c .before .before .before .before
 
   abbrev taken : List ℤ
-  taken = take (length (d summed)) (c .numerators-into .last .1 .1 .0 ++ drop (length (d summed)) (replicate 24 (pos 0)))
+  taken = c .numerators-into .last .1 .1 .0
 
   small : Within mostApplied (sums summed)
   small j =
       rw (sums-again summed) (listed-within (conditionCount (f summed)) (conditionSum (f summed) (vector (d summed))) mostApplied
       (λ j b. le-trans (sums-magnitude (f summed) (vector (d summed)) (entry summed) j) (lit≤ tt)) j)
 
-  taken-again : taken ≡ listed (angleCount (f summed)) (numerator (f summed) (conditionSum (f summed) (vector (d summed))))
-  taken-again =
-      part-again (length (d summed)) (replicate 24 (pos 0)) (few-angles summed) (c .numerators-into .last .1 .1 .0) (c .numerators-into .kept .1 .1 .0)
-      ∙ taken-are (f summed) (d summed) (sums-again summed)
+  taken-is : taken ≡ listed (angleCount (f summed)) (numerator (f summed) (conditionSum (f summed) (vector (d summed))))
+  taken-is =
+      taken-are (f summed) (d summed) (sums-again summed)
       (c .numerators-into .ensures
-      ∙ fits _ _ _ _ _ _ (sym (sums-length summed) ∙ conditions (counted summed))
-      (sym (lent-length (length (d summed)) (replicate 24 (pos 0)) (few-angles summed)) ∙ counted summed .before .pre .0)
+      ∙ fits _ _ _ _ _ _ (sym (sums-length summed) ∙ conditions (counted summed)) (counted summed .before .pre .1 .0)
       ∙ Judged.taken _ _ _ (misclosures-pass mostApplied (sums summed) small))
-
-  taken-length : length (d summed) ≡ length taken
-  taken-length = again-length (length (d summed)) (replicate 24 (pos 0)) (few-angles summed) (c .numerators-into .last .1 .1 .0) (c .numerators-into .kept .1 .1 .0)
 
   whole : counted summed .counts-of .result .denominator ≡ denominator (f summed)
   whole = ap (λ (n : Counts). n .denominator) (counted summed .counts-of .ensures)
 
 reduced-from-requires : tie.Need-reduced-from-requires
 reduced-from-requires c κs =
-    let t = c .before .before .before in
+    let t = c .before .before in
     let s = summed t in
     let start = counted s .before in (
-      sym (taken-length t),
+      c .before .before .numerators-into .kept .1 .1 .0 ∙ start .pre .1 .0 ∙ sym (start .pre .0),
       (
-        start .pre .1 .0 ∙ sym (start .pre .0),
+        few-angles s,
         (
-          few-angles s,
+          rw (whole t) (denominator-bound (f s)),
           (
-            rw (whole t) (denominator-bound (f s)),
-            (
-              entry s,
-              λ i. rw (taken-again t) (listed-within (angleCount (f s)) (numerator (f s) (conditionSum (f s) (vector (d s)))) mostTaken
-                  (λ i b. taken-magnitude (f s) (vector (d s)) (entry s) i) i),
-            ),
+            entry s,
+            λ i. rw (taken-is t) (listed-within (angleCount (f s)) (numerator (f s) (conditionSum (f s) (vector (d s)))) mostTaken
+                (λ i b. taken-magnitude (f s) (vector (d s)) (entry s) i) i),
           ),
         ),
       ),
@@ -122,28 +114,24 @@ reduced-from-requires c κs =
 
 returns : tie.Need-returns
 returns c =
-    let t = c .before .before .before .before .before in
+    let t = c .before .before .before .before in
     let s = summed t in
     let n = counted s .before .pre .0 in (
-      toZ-ofZ w64 _ (record { sfits = c .before .reduced-from .ok }) ∙ c .before .reduced-from .ensures .0 ∙ squares-are (f s) (d s) _ (taken t) (whole t) n (taken-again t),
-      c .before .reduced-from .ensures .1 ∙ reduced-are (f s) (d s) _ (taken t) (whole t) n (taken-again t),
+      toZ-ofZ w64 _ (record { sfits = c .before .reduced-from .ok }) ∙ c .before .reduced-from .ensures .0 ∙ squares-are (f s) (d s) _ (taken t) (whole t) n (taken-is t),
+      c .before .reduced-from .ensures .1 ∙ reduced-are (f s) (d s) _ (taken t) (whole t) n (taken-is t),
     )
 
 pub reduced-into-spec : {M : Type 1} → statement M
 reduced-into-spec =
     tie.close
     (tie.spec
-    (λ c κs. search needs)
+    (λ c κs. tt)
     few-conditions
     (λ c. lent-length (m (c .before)) (replicate 9 (pos 0)) (few-conditions (c .before)))
     (λ c κs. tt)
     (λ c. let s = c .before in still-few (m (counted s)) (replicate 9 (pos 0)) (few-conditions (counted s)) (s .condition-sums .last .1 .1 .0) (s .condition-sums .kept .1 .1 .0))
     (λ c. sums-length (c .before .before))
-    (λ c. few-angles (c .before .before))
-    (λ c. lent-length (length (d (c .before .before .before))) (replicate 24 (pos 0)) (few-angles (c .before .before .before)))
     (λ c κs. tt)
-    (λ c. let t = c .before in still-few (length (d (summed t))) (replicate 24 (pos 0)) (few-angles (summed t)) (t .numerators-into .last .1 .1 .0) (t .numerators-into .kept .1 .1 .0))
-    (λ c. taken-length (c .before .before))
     reduced-from-requires
     (λ c. search needs)
     returns)

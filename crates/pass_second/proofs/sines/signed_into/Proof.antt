@@ -7,12 +7,13 @@ use denote.Ref.{now}
 use lib.Dec.{lit<}
 use lib.IntN.{ℤ, natAbs, _+ℤ_, _*ℤ_}
 use lib.ListN.{length, getD}
-use mir.Syntax.{w32, w64}
+use mir.Syntax.{w8, w32, w64}
 use mir.Val.{toZ, ofZ}
 use mir.Facts.{toZ-pos}
 use mir.ValLaws.{toZ-ofZ}
 use Rattle.whole.specs.Sums.{sum, dot, vector}
 use Rattle.whole.proofs.Lists.{Filled, filled-none, filled-more, filled-all}
+use Rattle.whole.proofs.Magnitudes.{widened, widens}
 use Rattle.refusals.specs.Ranges.{mostLogSine, mostDifference}
 use Rattle.pass_rules.specs.Pass.{given}
 use Rattle.pass_second.specs.Sines.{signedBy}
@@ -54,18 +55,21 @@ module _ (c : tie.After-signed Inv-loop μ-loop) where
   abbrev difference : ℤ
   difference = vector (now (start .args .differences)) i
 
-  sign-read : toZ w32 (ofZ w32 sign) ≡ sign
-  sign-read = toZ-ofZ w32 sign (record { sfits = c .before .sign .given })
+  abbrev sign-bits : ℤ
+  sign-bits = toZ w32 (ofZ w32 (toZ w8 (ofZ w8 sign)))
+
+  sign-read : sign-bits ≡ sign
+  sign-read = widened w8 w32 sign tt (record { sfits = c .before .sign .given })
 
   sign-small : natAbs sign ≤ 1
   sign-small = start .pre .1 .1 .1 .0 i (omega arith)
 
-  signed : Exact w32 (1 * mostDifference) (toZ w32 (ofZ w32 sign) *ℤ toZ w32 (ofZ w32 difference)) (sign *ℤ difference)
+  signed : Exact w32 (1 * mostDifference) (sign-bits *ℤ toZ w32 (ofZ w32 difference)) (sign *ℤ difference)
   signed =
       product w32 1 mostDifference _ _ sign difference (lit< tt) sign-read (toZ-ofZ w32 difference (record { sfits = c .signed .given })) sign-small (start .pre .1 .1 .1 .1 .1 i)
 
   abbrev signed-bits : ℤ
-  signed-bits = toZ w32 (ofZ w32 (toZ w32 (ofZ w32 sign) *ℤ toZ w32 (ofZ w32 difference)))
+  signed-bits = toZ w32 (ofZ w32 (sign-bits *ℤ toZ w32 (ofZ w32 difference)))
 
   squared : Exact w32 (mostDifference * mostDifference) (signed-bits *ℤ signed-bits) (sign *ℤ difference *ℤ (sign *ℤ difference))
   squared =
@@ -80,13 +84,13 @@ module _ (c : tie.After-signed Inv-loop μ-loop) where
   abbrev log-sine : ℕ
   log-sine = getD (now (start .args .log-sines)) i 0
 
-  weighed : Exact w32 (1 * mostLogSine) (toZ w32 (ofZ w32 sign) *ℤ toZ w32 log-sine) (sign *ℤ given (now (start .args .log-sines)) i)
+  weighed : Exact w32 (1 * mostLogSine) (sign-bits *ℤ toZ w32 log-sine) (sign *ℤ given (now (start .args .log-sines)) i)
   weighed =
       let most = start .pre .1 .1 .1 .1 .0 i in
       product w32 1 mostLogSine _ _ sign (given (now (start .args .log-sines)) i) (lit< tt) sign-read (toZ-pos w32 (omega (arith, most))) sign-small most
 
   more-misclosure : More w64 mostLogSine (signedLogSine (start .args .t1) (now (start .args .log-sines))) i
-      (toZ w64 (c .before .before .before .loop .misclosure) +ℤ toZ w64 (ofZ w64 (toZ w32 (ofZ w32 (toZ w32 (ofZ w32 sign) *ℤ toZ w32 log-sine)))))
+      (toZ w64 (c .before .before .before .loop .misclosure) +ℤ toZ w64 (ofZ w64 (toZ w32 (ofZ w32 (sign-bits *ℤ toZ w32 log-sine)))))
   more-misclosure =
       let inv = c .before .before .before .loop .inv in
       more w64 mostLogSine _ i _ _ (omega (arith, start .pre .1 .1 .0)) (inv .1 .0) (inv .1 .1) (wide-read _ weighed) (wide-small _ weighed)
@@ -117,7 +121,7 @@ signed-into-spec =
     μ-loop
     loop-holds
     (λ c. omega arith)
-    (λ c. omega arith)
+    (λ c. widens w8 w32 (vector (c .before .before .before .args .t1) (c .before .before .loop .i)) tt (record { sfits = c .sign .given }))
     (λ c. omega arith)
     (λ c. omega arith)
     (λ c. signed c .fits)

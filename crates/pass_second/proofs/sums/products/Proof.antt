@@ -7,10 +7,10 @@ use denote.Ref.{now}
 use lib.Dec.{lit<}
 use lib.IntN.{ℤ, natAbs, _+ℤ_, _*ℤ_}
 use lib.ListN.{length}
-use mir.Syntax.{w64}
+use mir.Syntax.{w32, w64}
 use mir.Val.{toZ, ofZ}
-use mir.ValLaws.{toZ-ofZ}
 use Rattle.whole.specs.Sums.{sum, dot, vector}
+use Rattle.whole.proofs.Magnitudes.{widened, widens}
 use Rattle.pass_steps.specs.Premises.{mostReduced}
 use Rattle.pass_steps.proofs.Totals.{More, more}
 use Rattle.pass_second.proofs.Exact.{Exact, product}
@@ -44,13 +44,19 @@ module _ (c : tie.After-total2 Inv-loop μ-loop) where
   abbrev second : ℤ
   second = vector (now (start .args .b)) i
 
-  made : Exact w64 (mostReduced * mostReduced) (toZ w64 (ofZ w64 first) *ℤ toZ w64 (ofZ w64 second)) (first *ℤ second)
+  abbrev first-bits : ℤ
+  first-bits = toZ w64 (ofZ w64 (toZ w32 (ofZ w32 first)))
+
+  abbrev second-bits : ℤ
+  second-bits = toZ w64 (ofZ w64 (toZ w32 (ofZ w32 second)))
+
+  made : Exact w64 (mostReduced * mostReduced) (first-bits *ℤ second-bits) (first *ℤ second)
   made =
-      product w64 mostReduced mostReduced _ _ first second (lit< tt) (toZ-ofZ w64 first (record { sfits = c .before .total .given }))
-      (toZ-ofZ w64 second (record { sfits = c .total2 .given })) (start .pre .1 .1 .0 i) (start .pre .1 .1 .1 i)
+      product w64 mostReduced mostReduced _ _ first second (lit< tt) (widened w32 w64 first tt (record { sfits = c .before .total .given }))
+      (widened w32 w64 second tt (record { sfits = c .total2 .given })) (start .pre .1 .1 .0 i) (start .pre .1 .1 .1 i)
 
   more-products : More w64 (mostReduced * mostReduced) (term (now (start .args .a)) (now (start .args .b))) i
-      (toZ w64 (c .before .before .before .loop .total) +ℤ toZ w64 (ofZ w64 (toZ w64 (ofZ w64 first) *ℤ toZ w64 (ofZ w64 second))))
+      (toZ w64 (c .before .before .before .loop .total) +ℤ toZ w64 (ofZ w64 (first-bits *ℤ second-bits)))
   more-products =
       let inv = c .before .before .before .loop .inv in
       more w64 (mostReduced * mostReduced) _ i _ _ (omega (arith, start .pre .1 .0)) (inv .1) (inv .2) (made .read) (rw (made .read) (made .small))
@@ -75,8 +81,10 @@ products-spec =
     loop-holds
     (λ c. omega arith)
     (λ c. omega arith)
+    (λ c. widens w32 w64 (vector (now (c .before .before .before .args .a)) (c .before .before .loop .i)) tt (record { sfits = c .total .given }))
     (λ c. omega arith)
     (λ c. omega arith)
+    (λ c. widens w32 w64 (second c) tt (record { sfits = c .total2 .given }))
     (λ c. made c .fits)
     (λ c. more-products c .fits)
     (λ c. omega arith)

@@ -166,16 +166,16 @@ pub sums-into-spec : {M : Type 1} → statement M
 sums-into-spec =
     tie.close
     (tie.spec
-    (λ c κs. search needs)
+    (λ c κs. tt)
     sines-into-requires
-    (λ c κs. search needs)
+    (λ c κs. tt)
     (λ c. search needs)
     returns
-    (λ c κs. search needs)
+    (λ c κs. tt)
     sines-into-requires-2
     products-requires
     with-sides-requires
-    (λ c κs. search needs)
+    (λ c κs. tt)
     (λ c. search needs)
     (λ c. search needs)
     returns-2)

@@ -1,42 +1,55 @@
--- `pass_steps::conditions::held` meets its contract: a magnitude of 31 bits fits 32.
-use mathlib.Core.Path.{_≡_, ap, _∙_}
+-- `pass_steps::conditions::held` meets its contract: a number that is beyond neither bound fits 32 bits.
+use mathlib.Core.Bool.{Bool}
+use mathlib.Core.Path.{_≡_, sym, ap, _∙_}
 use Prim.Native.Nat.{_≤_}
 use native.Mathlib.Omega.{arith}
 use borrow.Author.Needs.{needs}
-use lib.IntN.{ℤ, natAbs}
+use lib.IntN.{ℤ, pos, natAbs}
+use lib.Signed.{ltZ}
 use mir.Syntax.{w32, w64}
 use mir.Val.{SFits, toZ, ofZ}
 use mir.ValLaws.{toZ-ofZ}
 use Rattle.whole.proofs.Magnitudes.{magnitude-fits}
 use Rattle.pass_steps.specs.Steps.{mostHeld}
-use Rattle.pass_steps.proofs.Held.{not-held, is-held}
+use Rattle.pass_steps.proofs.Held.{leastHeld, below, above, between, not-held, is-held}
 use Rattle.pass_steps.proofs.conditions.held.Statement.{statement}
 use Rattle.pass_steps.proofs.conditions.held.Tie as tie
 
--- where the magnitude is not too great
-module _ (c : tie.Else1) where
+module _ (s : tie.Start) where
   abbrev total : ℤ
-  total = c .before .before .args .total
+  total = s .args .total
 
   read : toZ w64 (ofZ w64 total) ≡ total
-  read = toZ-ofZ w64 total (c .before .before .fits .total)
+  read = toZ-ofZ w64 total (s .fits .total)
 
-  small : natAbs total ≤ mostHeld
-  small = omega (arith, c .if1 .left, c .before .magnitude .ensures, ap natAbs read)
+  -- a test of the total's bits is one of the total
+  told : (test : ℤ → Bool) (t : Bool) → test (toZ w64 (ofZ w64 total)) ≡ t → test total ≡ t
+  told test t e = sym (ap test read) ∙ e
 
-  fits : SFits w32 total
-  fits = magnitude-fits w32 total (omega (arith, small))
+-- beyond neither bound
+module _ (c : tie.Else2) where
+  abbrev start : tie.Start
+  start = c .before .before
+
+  small : natAbs (total start) ≤ mostHeld
+  small = between (total start) (told start (λ z. ltZ z leastHeld) _ (c .before .if1 .left)) (told start (ltZ (pos mostHeld)) _ (c .if2 .left))
+
+  fits : SFits w32 (total start)
+  fits = magnitude-fits w32 (total start) (omega (arith, small))
 
 cast-result : tie.Need-cast-result
-cast-result c = rw (read c) (fits c)
+cast-result c = rw (read (start c)) (fits c)
 
 returns : tie.Need-returns
-returns c =
-    let total = c .before .before .args .total in
-    not-held total (omega (arith, c .if1 .taken, c .before .magnitude .ensures, ap natAbs (toZ-ofZ w64 total (c .before .before .fits .total))))
+returns c = let s = c .before in not-held (total s) (below (total s) (told s (λ z. ltZ z leastHeld) _ (c .if1 .taken)))
 
 returns-2 : tie.Need-returns-2
-returns-2 c = ap (λ (z : ℤ). toZ w32 (ofZ w32 z)) (read c) ∙ toZ-ofZ w32 (total c) (fits c) ∙ is-held (total c) (small c)
+returns-2 c = let s = c .before .before in not-held (total s) (above (total s) (told s (ltZ (pos mostHeld)) _ (c .if2 .taken)))
+
+returns-3 : tie.Need-returns-3
+returns-3 c =
+    let s = start c in
+    ap (λ (z : ℤ). toZ w32 (ofZ w32 z)) (read s) ∙ toZ-ofZ w32 (total s) (fits c) ∙ is-held (total s) (small c)
 
 pub held-spec : {M : Type 1} → statement M
-held-spec = tie.close (tie.spec (λ c κs. search needs) cast-result returns returns-2)
+held-spec = tie.close (tie.spec (λ c. search needs) cast-result returns returns-2 returns-3)

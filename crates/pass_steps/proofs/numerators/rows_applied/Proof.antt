@@ -1,48 +1,98 @@
--- `pass_steps::numerators::rows_applied` meets its contract. The invariant: the numerators passed are filled in.
-use mathlib.Core.Path.{_∙_}
-use Prim.Native.Nat.{_-_}
+-- `pass_steps::numerators::rows_applied` meets its contract: three times nine rows are all that a figure has.
+use mathlib.Core.List.{List, _++_}
+use mathlib.Core.Path.{_≡_, refl, sym, ap, _∙_}
+use borrow.Author.Needs.{needs}
 use native.Mathlib.Omega.{arith}
-use mir.Syntax.{w32}
-use mir.ValLaws.{toZ-ofZ}
+use denote.Ref.{now}
+use lib.IntN.{ℤ, pos}
+use lib.ListN.{length, take, drop, replicate}
+use Rattle.whole.specs.Lists.{listed}
 use Rattle.whole.specs.Sums.{applied, table, vector}
-use Rattle.whole.proofs.Lists.{Filled, filled-none, filled-more, filled-all}
+use Rattle.pass_steps.specs.Premises.{Within, mostApplied}
+use Rattle.pass_steps.proofs.Again.{Again, again}
+use Rattle.pass_steps.proofs.AppliedRows.{all-applied}
+use Rattle.pass_steps.proofs.Lending.{lent-length}
 use Rattle.pass_steps.proofs.numerators.rows_applied.Statement.{statement}
 use Rattle.pass_steps.proofs.numerators.rows_applied.Tie as tie
 
-abbrev Inv-loop : tie.InvT-loop
-Inv-loop angles conditions w numerators₀ rows i₀ numerators i = Filled angles (applied conditions (table rows) (vector w)) i numerators
+lent : (c : tie.Start) → c .args .conditions ≡ length (take (c .args .conditions) (replicate 9 (pos 0)))
+lent c = lent-length (c .args .conditions) (replicate 9 (pos 0)) (omega arith)
 
-abbrev μ-loop : tie.MeasureT-loop
-μ-loop angles conditions w numerators₀ rows i₀ numerators i = angles - i
+-- the misclosures in the array of its own
+module _ (k : tie.After-copied) where
+  abbrev start : tie.Start
+  start = k .before .before
 
-loop-holds : tie.Need-loop-holds Inv-loop μ-loop
-loop-holds c = filled-none _ _ _ (c .pre .0)
+  abbrev zeros : List ℤ
+  zeros = replicate 9 (pos 0)
 
-row-applied-requires : tie.Need-row-applied-requires Inv-loop μ-loop
-row-applied-requires c κs = c .before .before .before .pre .1 .1
+  stands : Again (start .args .conditions) zeros (k .copied .last .1 .0)
+  stands = again (start .args .conditions) zeros (omega arith) (k .copied .last .1 .0) (k .copied .kept .1 .0)
 
-loop-again : tie.Need-loop-again Inv-loop μ-loop
-unfolding applied
-loop-again c =
-    filled-more (c .before .before .before .loop .inv) (omega arith) (toZ-ofZ w32 _ (record { sfits = c .row-applied .ok }) ∙ c .row-applied .ensures)
+  abbrev taken : List ℤ
+  taken = take (start .args .conditions) (k .copied .last .1 .0 ++ drop (start .args .conditions) zeros)
 
-returns : tie.Need-returns Inv-loop μ-loop
-returns c = filled-all (c .before .loop .inv) (omega arith)
+  taken-is : taken ≡ now (start .args .w)
+  taken-is = stands .is ∙ k .copied .ensures
+
+  taken-size : length taken ≡ start .args .conditions
+  taken-size = ap length taken-is ∙ start .pre .1 .1 .0
+
+  taken-within : Within mostApplied taken
+  taken-within i = rw taken-is (start .pre .1 .1 .1 .1 i)
+
+nine-applied-requires : tie.Need-nine-applied-requires
+nine-applied-requires c κs =
+    let k = c .before .before .before in
+    let pre = start k .pre in (omega arith, (pre .0, (pre .1 .0, (taken-size k, (pre .1 .1 .1 .0, (taken-within k, refl))))))
+
+nine-applied-requires-2 : tie.Need-nine-applied-requires-2
+nine-applied-requires-2 c κs =
+    let first = c .before .before in
+    let k = first .before .before .before .before in
+    let pre = start k .pre in (
+      omega arith,
+      (
+        first .nine-applied .kept .1 .1 .1 .1 .1 .0 ∙ pre .0,
+        (pre .1 .0, (taken-size k, (pre .1 .1 .1 .0, (taken-within k, first .nine-applied .ensures)))),
+      ),
+    )
+
+nine-applied-requires-3 : tie.Need-nine-applied-requires-3
+nine-applied-requires-3 c κs =
+    let second = c .before .before in
+    let first = second .before .before .before in
+    let k = first .before .before .before .before in
+    let pre = start k .pre in (
+      omega arith,
+      (
+        second .nine-applied2 .kept .1 .1 .1 .1 .1 .0 ∙ first .nine-applied .kept .1 .1 .1 .1 .1 .0 ∙ pre .0,
+        (pre .1 .0, (taken-size k, (pre .1 .1 .1 .0, (taken-within k, second .nine-applied2 .ensures)))),
+      ),
+    )
+
+returns : tie.Need-returns
+returns c =
+    let third = c .before in
+    let second = third .before .before .before in
+    let first = second .before .before .before in
+    let k = first .before .before .before .before in
+    let s = start k in
+    let size = third .nine-applied3 .kept .1 .1 .1 .1 .1 .0 ∙ second .nine-applied2 .kept .1 .1 .1 .1 .1 .0 ∙ first .nine-applied .kept .1 .1 .1 .1 .1 .0 ∙ s .pre .0 in
+    all-applied (s .args .angles) 27 (applied (s .args .conditions) (table (s .args .rows)) (vector (taken k))) _ (third .nine-applied3 .ensures) size (omega arith)
+    ∙ ap (λ (w : List ℤ). listed (s .args .angles) (applied (s .args .conditions) (table (s .args .rows)) (vector w))) (taken-is k)
 
 pub rows-applied-spec : {M : Type 1} → statement M
 rows-applied-spec =
     tie.close
     (tie.spec
-    Inv-loop
-    μ-loop
-    loop-holds
-    (λ c. omega arith)
-    (λ c. omega arith)
-    row-applied-requires
-    (λ c. omega arith)
-    (λ c. omega arith)
-    (λ c. omega arith)
-    (λ c. omega arith)
-    loop-again
-    (λ c. omega arith)
+    (λ c. search needs)
+    (λ c. lent (c .before))
+    (λ c κs. sym (lent (c .before)) ∙ sym (c .before .pre .1 .1 .0))
+    (λ c. stands (c .before) .few)
+    (λ c. stands (c .before .before) .size)
+    nine-applied-requires
+    nine-applied-requires-2
+    nine-applied-requires-3
+    (λ c. search needs)
     returns)

@@ -1,5 +1,5 @@
 -- Two's complement: a number that w bits hold is had back from what stands for it, and the other way round. Assumes nothing.
-use mathlib.Core.Bool.{Bool, cond, _&&_, and-true, and-false}
+use mathlib.Core.Bool.{Bool, true, false, cond, _&&_, and-true, and-false, true≢false, false≢true}
 use mathlib.Core.Path.{_≡_, refl, sym, ap, _∙_, subst}
 use Prim.Native.Nat.{ℕ, zero, suc, _-_, _*_, _^_, _≤_, _<_}
 use native.Mathlib.Decide.{decLe}
@@ -91,6 +91,15 @@ complement-neg w n h = rw (fits-signed w (negsuc n), lt-ltb n (halfRange w) h) r
 pub complement-beyond : (w : ℕ) (z : ℤ) → halfRange w ≤ mag z → twosComplement w z ≡ 0
 unfolding twosComplement
 complement-beyond w z h = rw (fits-signed w z, le-ltb (mag z) (halfRange w) h) refl
+
+-- a number by its sign, as the code asks for it
+pub not-negative : (z : ℤ) → leZ (pos 0) z ≡ true → z ≡ pos (mag z)
+not-negative (pos n) t = refl
+not-negative (negsuc n) t = absurd (false≢true t)
+
+pub negative : (z : ℤ) → leZ (pos 0) z ≡ false → z ≡ negsuc (mag z)
+negative (pos n) t = absurd (true≢false (sym (leb·zero n) ∙ t))
+negative (negsuc n) t = refl
 
 -- ---- both round trips, at widths from 1 to 32
 

@@ -1,6 +1,7 @@
 // Two's complement of a given width: document 01, "Packed sheets", kind 2. Every public function answers every input, as
 // specs/Complement.antt says.
 ghost use mathlib.Core.Path.{_≡_};
+ghost use lib.Signed.{mag};
 ghost use Rattle.bits.specs.Complement.{halfRange, signedOf, twosComplement};
 use crate::WIDEST;
 
@@ -28,16 +29,26 @@ pub fn twos_complement(value: i32, width: u32) -> u32
     ensures { λ result. ⌜ result ≡ twosComplement width value ⌝ }
 {
     let half = half_range(width);
-    if value >= 0 {
-        let size = value as u32;
-        return if size < half { size } else { 0 };
+    let steps = steps_to(value);
+    if steps >= half {
+        return 0;
     }
-    // Counted down from -1, as in `signed`.
-    let below = (-1 - value) as u32;
-    if below < half {
-        half - 1 - below + half
+    if value >= 0 {
+        steps
     } else {
-        0
+        half - 1 - steps + half
+    }
+}
+
+// How far a number lies from 0, or from -1 where it is negative, as in `signed`. Both signs are one case of what follows, since no
+// processor foretells the signs of differences.
+fn steps_to(value: i32) -> u32
+    ensures { λ steps. ⌜ steps ≡ mag value ⌝ }
+{
+    if value >= 0 {
+        value as u32
+    } else {
+        (-1 - value) as u32
     }
 }
 

@@ -32,10 +32,11 @@ pub(crate) fn lowest_outside(values: &[u32], least: u32, most: u32) -> Lowest
 {
     let mut passed = 0;
     while passed < values.len() {
-        if is_outside(values[passed], least, most) {
-            return Lowest::At(passed + 1);
-        }
+        let value = values[passed];
         passed += 1;
+        if is_outside(value, least, most) {
+            return Lowest::At(passed);
+        }
     }
     Lowest::Nowhere
 }
@@ -52,10 +53,11 @@ pub(crate) fn lowest_count_outside(values: &[u8], least: u8, most: u8) -> Lowest
 {
     let mut passed = 0;
     while passed < values.len() {
-        if is_count_outside(values[passed], least, most) {
-            return Lowest::At(passed + 1);
-        }
+        let value = values[passed];
         passed += 1;
+        if is_count_outside(value, least, most) {
+            return Lowest::At(passed);
+        }
     }
     Lowest::Nowhere
 }
@@ -65,10 +67,11 @@ pub(crate) fn lowest_signed_outside(values: &[i32], least: i64, most: i64) -> Lo
 {
     let mut passed = 0;
     while passed < values.len() {
-        if is_signed_outside(values[passed] as i64, least, most) {
-            return Lowest::At(passed + 1);
-        }
+        let value = values[passed] as i64;
         passed += 1;
+        if is_signed_outside(value, least, most) {
+            return Lowest::At(passed);
+        }
     }
     Lowest::Nowhere
 }
@@ -103,11 +106,12 @@ pub(crate) fn lowest_result_outside(angles: &[u32], corrections: &[i32]) -> Lowe
 {
     let mut passed = 0;
     while passed < angles.len() {
+        let angle = angles[passed];
         let correction = signed_at(corrections, passed);
-        if is_result_outside(angles[passed], correction) {
-            return Lowest::At(passed + 1);
-        }
         passed += 1;
+        if is_result_outside(angle, correction) {
+            return Lowest::At(passed);
+        }
     }
     Lowest::Nowhere
 }

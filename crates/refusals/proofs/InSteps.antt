@@ -21,6 +21,17 @@ next-row r {later} row-is made after = record {
   is = made ∙ ap₂ (λ (a b : Verdict). answerOf (a ∷ b ∷ [])) row-is (after .is) ∙ sym (answer-of-cons (verdictOf r) (map verdictOf later));
 }
 
+-- the same of rows that are asked in turn: one that fails is answered, and after one that passes those that are left decide
+pub row-fails : (r : Row) {later : List Row} {v : Verdict} {refusal : Refusal} → v ≡ verdictOf r → v ≡ Failed refusal → Answered (r ∷ later) v
+unfolding answerOf
+row-fails r {later} row-is e = record { is = e ∙ sym (ap (λ (t : Verdict). answerOf (t ∷ map verdictOf later)) (sym row-is ∙ e)) }
+
+pub row-passes : (r : Row) {later : List Row} {v answer : Verdict} → v ≡ verdictOf r → v ≡ Passed → Answered later answer → Answered (r ∷ later) answer
+unfolding answerOf
+row-passes r {later} row-is e after = record {
+  is = after .is ∙ sym (ap (λ (t : Verdict). answerOf (t ∷ map verdictOf later)) (sym row-is ∙ e));
+}
+
 -- an order in two parts
 pub in-two-parts : (earlier later : List Row) → judged (earlier ++ later) ≡ answerOf (judged earlier ∷ judged later ∷ [])
 in-two-parts earlier later = ap answerOf (map-append verdictOf earlier later) ∙ answer-of-append (map verdictOf earlier) (map verdictOf later)

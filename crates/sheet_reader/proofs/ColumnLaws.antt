@@ -7,7 +7,8 @@ use mathlib.Core.Path.{_≡_, refl, sym, ap, ap₂, subst, _∙_}
 use native.Mathlib.Omega.{arith}
 use lib.Dec.{T, eqb, eqb→eq}
 use lib.IntN.{ℤ}
-use lib.ListN.{take, getD, replicate, length-replicate, getD-replicate}
+use lib.ListN.{length, take, getD, replicate, length-replicate, getD-replicate}
+use lib.Seq.{length-take-le}
 use Rattle.whole.specs.Lists.{listed, every, everyBelow}
 use Rattle.whole.proofs.Computed.{and-left, and-right, every-below}
 use Rattle.whole.proofs.Lists.{listed-ext}
@@ -19,7 +20,6 @@ use Rattle.figures.proofs.Figures.{angle-bound}
 use Rattle.sheet_layout.specs.declared.Kind.{Kind}
 use Rattle.sheet_layout.specs.declared.Pass.{Pass}
 use Rattle.sheet_layout.specs.Kinds.{allKinds, passOf, carriesRounds, ofPass}
-use Rattle.sheet_layout.specs.declared.Lengths.{Lengths}
 use Rattle.sheet_layout.specs.Layout.{Item, angle, angleRounds, fixedAngle, logSine, difference, logSide, widthOf, layout, lengthsOf, limitOrToleranceItem, roundsIn, fixedIn, sineEntriesIn, sidesIn, sort, numberOfItem, same, positionOf, held}
 use Rattle.sheet_layout.proofs.EachKind.{each}
 use Rattle.sheet_layout.proofs.Sizes.{fixed-bound, side-bound}
@@ -152,21 +152,30 @@ angles-early kind f e = rw e (go (passOf kind))
     go Pass.First = omega arith
     go Pass.Second = omega (arith, side-bound f)
 
--- there are at most 24 values of each sort
-pub few-of-each : (kind : Kind) (f : Figure) {lengths : Lengths} → lengths ≡ lengthsOf kind f
-    → (lengths .angles ≤ 24) × (lengths .rounds ≤ 24) × (lengths .fixed ≤ 24) × (lengths .«log_sines» ≤ 24) × (lengths .differences ≤ 24) × (lengths .«log_sides» ≤ 24)
-few-of-each kind f e = rw e (go (passOf kind))
+-- as many ones as angles
+pub ones-many : (f : Figure) {ones : List ℕ} → ones ≡ take (angleCount f) (replicate 24 1) → length ones ≡ angleCount f
+ones-many f e = ap length e ∙ length-take-le (angleCount f) (replicate 24 1) (omega (arith, length-replicate {A = ℕ} 24 1, angle-bound f))
+
+-- rounds are a byte wide
+pub rounds-wide : (kind : Kind) (f : Figure) {c : Column} → c ≡ roundsColumn (passOf kind) (carriesRounds kind) f → c .width ≡ 8
+rounds-wide kind f e = ap (λ (column : Column). column .width) e
+
+-- so many values of each sort there are at most
+pub few-of-each : (kind : Kind) (f : Figure)
+    → let own = lengthsOf kind f in
+    (own .angles ≤ 24) × (own .rounds ≤ 24) × (own .fixed ≤ 4) × (own .«log_sines» ≤ 24) × (own .differences ≤ 24) × (own .«log_sides» ≤ 2)
+few-of-each kind f = go (passOf kind)
   where
     go : (pass : Pass)
-        → (angleCount f ≤ 24) × (angleCount f ≤ 24) × (ofPass pass (fixedCount f) 0 ≤ 24) × (ofPass pass 0 (angleCount f) ≤ 24) × (ofPass pass 0 (angleCount f) ≤ 24)
-        × (ofPass pass 0 (sideCount f) ≤ 24)
+        → (angleCount f ≤ 24) × (angleCount f ≤ 24) × (ofPass pass (fixedCount f) 0 ≤ 4) × (ofPass pass 0 (angleCount f) ≤ 24) × (ofPass pass 0 (angleCount f) ≤ 24)
+        × (ofPass pass 0 (sideCount f) ≤ 2)
     go Pass.First = omega (arith, angle-bound f, fixed-bound f)
     go Pass.Second = omega (arith, angle-bound f, side-bound f)
 
-module _ (kind : Kind) (f : Figure) {lengths : Lengths} (is-lengths : lengths ≡ lengthsOf kind f) {c : Column} where
+module _ (kind : Kind) (f : Figure) {c : Column} {count : ℕ} where
   -- they are short and end early
-  pub angles-fit : c ≡ angleColumn (passOf kind) (carriesRounds kind) f → ColumnFits c (lengths .angles)
-  angles-fit e = rw (is-lengths, e) (go (passOf kind) (carriesRounds kind))
+  pub angles-fit : count ≡ angleCount f → c ≡ angleColumn (passOf kind) (carriesRounds kind) f → ColumnFits c count
+  angles-fit n e = rw (n, e) (go (passOf kind) (carriesRounds kind))
     where
       go : (pass : Pass) (rounds : Bool) → ColumnFits (angleColumn pass rounds f) (angleCount f)
       go Pass.First true = (angle-bound f, omega (arith, angle-bound f))
@@ -174,8 +183,8 @@ module _ (kind : Kind) (f : Figure) {lengths : Lengths} (is-lengths : lengths �
       go Pass.Second true = (angle-bound f, omega (arith, angle-bound f, side-bound f))
       go Pass.Second false = (angle-bound f, omega (arith, angle-bound f, side-bound f))
 
-  pub rounds-fit : c ≡ roundsColumn (passOf kind) (carriesRounds kind) f → ColumnFits c (lengths .rounds)
-  rounds-fit e = rw (is-lengths, e) (go (passOf kind) (carriesRounds kind))
+  pub rounds-fit : count ≡ angleCount f → c ≡ roundsColumn (passOf kind) (carriesRounds kind) f → ColumnFits c count
+  rounds-fit n e = rw (n, e) (go (passOf kind) (carriesRounds kind))
     where
       go : (pass : Pass) (rounds : Bool) → ColumnFits (roundsColumn pass rounds f) (angleCount f)
       go Pass.First true = (angle-bound f, omega (arith, angle-bound f))
@@ -183,11 +192,8 @@ module _ (kind : Kind) (f : Figure) {lengths : Lengths} (is-lengths : lengths �
       go Pass.Second true = (angle-bound f, omega (arith, angle-bound f, side-bound f))
       go Pass.Second false = (angle-bound f, omega (arith, angle-bound f, side-bound f))
 
-  pub rounds-wide : c ≡ roundsColumn (passOf kind) (carriesRounds kind) f → c .width ≡ 8
-  rounds-wide e = ap (λ (column : Column). column .width) e
-
-  pub fixed-fit : c ≡ fixedColumn (carriesRounds kind) f → ColumnFits c (lengths .fixed)
-  fixed-fit e = rw (is-lengths, e) (go (passOf kind) (carriesRounds kind))
+  pub fixed-fit : count ≡ fixedIn kind f → c ≡ fixedColumn (carriesRounds kind) f → ColumnFits c count
+  fixed-fit n e = rw (n, e) (go (passOf kind) (carriesRounds kind))
     where
       go : (pass : Pass) (rounds : Bool) → ColumnFits (fixedColumn rounds f) (ofPass pass (fixedCount f) 0)
       go Pass.First true = (omega (arith, fixed-bound f), omega (arith, angle-bound f, fixed-bound f))
@@ -195,8 +201,8 @@ module _ (kind : Kind) (f : Figure) {lengths : Lengths} (is-lengths : lengths �
       go Pass.Second true = (omega arith, omega (arith, angle-bound f))
       go Pass.Second false = (omega arith, omega (arith, angle-bound f))
 
-  pub log-sines-fit : c ≡ logSineColumn (carriesRounds kind) f → ColumnFits c (lengths .«log_sines»)
-  log-sines-fit e = rw (is-lengths, e) (go (passOf kind) (carriesRounds kind))
+  pub log-sines-fit : count ≡ sineEntriesIn kind f → c ≡ logSineColumn (carriesRounds kind) f → ColumnFits c count
+  log-sines-fit n e = rw (n, e) (go (passOf kind) (carriesRounds kind))
     where
       go : (pass : Pass) (rounds : Bool) → ColumnFits (logSineColumn rounds f) (ofPass pass 0 (angleCount f))
       go Pass.First true = (omega arith, omega (arith, side-bound f))
@@ -204,8 +210,8 @@ module _ (kind : Kind) (f : Figure) {lengths : Lengths} (is-lengths : lengths �
       go Pass.Second true = (angle-bound f, omega (arith, angle-bound f, side-bound f))
       go Pass.Second false = (angle-bound f, omega (arith, angle-bound f, side-bound f))
 
-  pub differences-fit : c ≡ differenceColumn (carriesRounds kind) f → ColumnFits c (lengths .differences)
-  differences-fit e = rw (is-lengths, e) (go (passOf kind) (carriesRounds kind))
+  pub differences-fit : count ≡ sineEntriesIn kind f → c ≡ differenceColumn (carriesRounds kind) f → ColumnFits c count
+  differences-fit n e = rw (n, e) (go (passOf kind) (carriesRounds kind))
     where
       go : (pass : Pass) (rounds : Bool) → ColumnFits (differenceColumn rounds f) (ofPass pass 0 (angleCount f))
       go Pass.First true = (omega arith, omega (arith, side-bound f))
@@ -213,8 +219,8 @@ module _ (kind : Kind) (f : Figure) {lengths : Lengths} (is-lengths : lengths �
       go Pass.Second true = (angle-bound f, omega (arith, angle-bound f, side-bound f))
       go Pass.Second false = (angle-bound f, omega (arith, angle-bound f, side-bound f))
 
-  pub log-sides-fit : c ≡ logSideColumn → ColumnFits c (lengths .«log_sides»)
-  log-sides-fit e = rw (is-lengths, e) (go (passOf kind))
+  pub log-sides-fit : count ≡ sidesIn kind f → c ≡ logSideColumn → ColumnFits c count
+  log-sides-fit n e = rw (n, e) (go (passOf kind))
     where
       go : (pass : Pass) → ColumnFits logSideColumn (ofPass pass 0 (sideCount f))
       go Pass.First = (omega arith, omega arith)
@@ -222,27 +228,27 @@ module _ (kind : Kind) (f : Figure) {lengths : Lengths} (is-lengths : lengths �
 
   -- and hold the values of the sheet
   module _ (s values : List ℕ) where
-    pub angles-held : c ≡ angleColumn (passOf kind) (carriesRounds kind) f → take (lengths .angles) values ≡ columnValues s c (lengths .angles)
-        → take (angleCount f) values ≡ valuesRead kind f s .angles
-    angles-held e is = (rw (is-lengths, e) at is) ∙ sym (angles-read kind f s)
+    pub angles-held : count ≡ angleCount f → c ≡ angleColumn (passOf kind) (carriesRounds kind) f → values ≡ columnValues s c count
+        → values ≡ valuesRead kind f s .angles
+    angles-held n e is = (rw (n, e) at is) ∙ sym (angles-read kind f s)
 
-    pub rounds-held : carriesRounds kind ≡ true → c ≡ roundsColumn (passOf kind) (carriesRounds kind) f
-        → take (lengths .rounds) values ≡ columnValues s c (lengths .rounds) → take (angleCount f) values ≡ valuesRead kind f s .rounds
-    rounds-held carried e is = (rw (is-lengths, e) at is) ∙ sym (rounds-read kind f s carried)
+    pub rounds-held : count ≡ angleCount f → carriesRounds kind ≡ true → c ≡ roundsColumn (passOf kind) (carriesRounds kind) f
+        → values ≡ columnValues s c count → values ≡ valuesRead kind f s .rounds
+    rounds-held n carried e is = (rw (n, e) at is) ∙ sym (rounds-read kind f s carried)
 
-    pub fixed-held : c ≡ fixedColumn (carriesRounds kind) f → take (lengths .fixed) values ≡ columnValues s c (lengths .fixed)
-        → take (fixedIn kind f) values ≡ valuesRead kind f s .fixed
-    fixed-held e is = (rw (is-lengths, e) at is) ∙ sym (fixed-read kind f s)
+    pub fixed-held : count ≡ fixedIn kind f → c ≡ fixedColumn (carriesRounds kind) f → values ≡ columnValues s c count
+        → values ≡ valuesRead kind f s .fixed
+    fixed-held n e is = (rw (n, e) at is) ∙ sym (fixed-read kind f s)
 
-    pub log-sines-held : c ≡ logSineColumn (carriesRounds kind) f → take (lengths .«log_sines») values ≡ columnValues s c (lengths .«log_sines»)
-        → take (sineEntriesIn kind f) values ≡ valuesRead kind f s .logSines
-    log-sines-held e is = (rw (is-lengths, e) at is) ∙ sym (log-sines-read kind f s)
+    pub log-sines-held : count ≡ sineEntriesIn kind f → c ≡ logSineColumn (carriesRounds kind) f → values ≡ columnValues s c count
+        → values ≡ valuesRead kind f s .logSines
+    log-sines-held n e is = (rw (n, e) at is) ∙ sym (log-sines-read kind f s)
 
-    pub log-sides-held : c ≡ logSideColumn → take (lengths .«log_sides») values ≡ columnValues s c (lengths .«log_sides»)
-        → take (sidesIn kind f) values ≡ valuesRead kind f s .logSides
-    log-sides-held e is = (rw (is-lengths, e) at is) ∙ sym (log-sides-read kind f s)
+    pub log-sides-held : count ≡ sidesIn kind f → c ≡ logSideColumn → values ≡ columnValues s c count
+        → values ≡ valuesRead kind f s .logSides
+    log-sides-held n e is = (rw (n, e) at is) ∙ sym (log-sides-read kind f s)
 
-  pub differences-held : (s : List ℕ) (values : List ℤ) → c ≡ differenceColumn (carriesRounds kind) f
-      → take (lengths .differences) values ≡ signedColumnValues s c (lengths .differences)
-      → take (sineEntriesIn kind f) values ≡ valuesRead kind f s .differences
-  differences-held s values e is = (rw (is-lengths, e) at is) ∙ sym (differences-read kind f s)
+  pub differences-held : (s : List ℕ) (values : List ℤ) → count ≡ sineEntriesIn kind f → c ≡ differenceColumn (carriesRounds kind) f
+      → values ≡ signedColumnValues s c count
+      → values ≡ valuesRead kind f s .differences
+  differences-held s values n e is = (rw (n, e) at is) ∙ sym (differences-read kind f s)

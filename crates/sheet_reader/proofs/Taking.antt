@@ -1,13 +1,16 @@
--- The steps of a loop that takes the values of a column, for values of any sort, and of one that stores them. Assumes nothing.
+-- The steps of a loop that takes the values of a column, for values of any sort, and the arrays that they are taken into. Assumes nothing.
 use Prim.Native.Nat.{ℕ, zero, suc, _+_, _*_, _≤_, _<_}
-use mathlib.Core.List.{List, _∷_}
+use mathlib.Core.List.{List, [], _∷_, _++_}
 use mathlib.Core.Path.{_≡_, refl, sym, ap, _∙_}
 use native.Mathlib.Nat.{le-of-suc-le-suc, not-suc-le-zero, add-assoc, mul-suc, mul-zero, add-zero, mul-le-mul-left}
 use native.Mathlib.Numerals.{add-one}
 use native.Mathlib.Omega.{arith}
-use lib.ListN.{length, getD, take, set}
+use lib.IntN.{ℤ}
+use lib.ListN.{length, getD, take, drop, set, length-append}
+use lib.Seq.{length-take-le, take-at}
 use Rattle.whole.specs.Lists.{listed}
-use Rattle.whole.proofs.Lists.{Filled, filled-none, filled-more, listed-getD}
+use Rattle.whole.proofs.Lists.{Filled, filled-none, filled-more, filled-all, listed-getD}
+use Rattle.sheet_rules.specs.Promises.{slices}
 use Rattle.sheet_reader.specs.declared.columns.Column.{Column}
 
 take-listed : {A : Type 0} (k n : ℕ) (value : ℕ → A) → k ≤ n → take k (listed n value) ≡ listed k value
@@ -48,6 +51,28 @@ module _ {A : Type 0} (n : ℕ) (value : ℕ → A) (c : Column) where
       reached = ap (λ (k : ℕ). k + c .step) (h .reached) ∙ sym (next c taken);
     }
 
-    pub taken-all : (count : ℕ) → taken ≡ count → take count values ≡ listed count value
-    taken-all count e =
-        ap (λ (k : ℕ). take k values) (sym e) ∙ h .filled .done ∙ take-listed taken n value (h .filled .within) ∙ ap (λ (k : ℕ). listed k value) e
+    pub taken-all : n ≤ taken → values ≡ listed n value
+    taken-all past = filled-all (h .filled) past
+
+-- slices that are the same of each sort
+pub same-slices : {a b c d e f g h i j : List ℕ} {x y : List ℤ} → a ≡ b → i ≡ j → c ≡ d → e ≡ f → x ≡ y → g ≡ h → slices a i c e x g ≡ slices b j d f y h
+same-slices p n q r s t = rw (p, n, q, r, s, t)
+
+-- lengths that are the same of each sort
+pub same-counts : {a b c d e f g h i j k l : ℕ} → a ≡ b → c ≡ d → e ≡ f → g ≡ h → i ≡ j → k ≡ l
+    → a ∷ c ∷ e ∷ g ∷ i ∷ k ∷ [] ≡ b ∷ d ∷ f ∷ h ∷ j ∷ l ∷ []
+same-counts p q r s t u = rw (p, q, r, s, t, u)
+
+-- the first n of an array, lent and put back: what was lent stands again at the start
+module _ {A : Type 0} (n : ℕ) (whole part : List A) (few : n ≤ length whole) (kept : length part ≡ length (take n whole)) where
+  part-length : length part ≡ n
+  part-length = kept ∙ length-take-le n whole few
+
+  pub part-again : take n (part ++ drop n whole) ≡ part
+  part-again = take-at part (drop n whole) n part-length
+
+  pub still-few : n ≤ length (part ++ drop n whole)
+  still-few = omega (arith, length-append part (drop n whole), part-length)
+
+  pub again-length : n ≡ length (take n (part ++ drop n whole))
+  again-length = sym part-length ∙ sym (ap length part-again)

@@ -4,18 +4,15 @@ use Prim.Native.Nat.{ℕ, _+_, _*_, _≤_}
 use mathlib.Core.Bool.{Bool}
 use mathlib.Core.List.{List}
 use lib.IntN.{ℤ}
-use lib.ListN.{length, take}
 use Rattle.whole.specs.Lists.{listed}
 use Rattle.figures.specs.declared.Figure.{Figure}
 use Rattle.figures.specs.Figure.{angleCount, sideCount}
 use Rattle.figures.specs.Numerators.{mostAngles}
 use Rattle.bits.specs.Bits.{fieldAt}
 use Rattle.bits.specs.Complement.{signedOf}
-use Rattle.sheet_layout.specs.declared.Kind.{Kind}
 use Rattle.sheet_layout.specs.declared.Pass.{Pass}
-use Rattle.sheet_layout.specs.Layout.{roundsBits, fixedIn, sineEntriesIn, sidesIn}
-use Rattle.sheet_rules.specs.Sheet.{Values, valuesFrom, mostBits}
-use Rattle.sheet_rules.specs.Promises.{Slices, slices}
+use Rattle.sheet_layout.specs.Layout.{roundsBits}
+use Rattle.sheet_rules.specs.Sheet.{mostBits}
 use Rattle.sheet_reader.specs.declared.columns.Column.{Column}
 
 abbrev pub columnFrom : (start step width : ℕ) → Column
@@ -55,24 +52,3 @@ columnValues sheet c count = listed count (λ i. fieldAt sheet (c .start + c .st
 
 unfoldable pub signedColumnValues : List ℕ → Column → (count : ℕ) → List ℤ
 signedColumnValues sheet c count = listed count (λ i. signedOf (c .width) (fieldAt sheet (c .start + c .step * i) (c .width)))
-
--- ---- values that were taken off a sheet
-
--- as many of each sort as the kind and the figure have
-abbrev pub valuesTaken : Kind → Figure
-    → (limitOrTolerance : ℕ) (angles rounds fixed logSines : List ℕ) (differences : List ℤ) (logSides : List ℕ) → Values
-valuesTaken kind f limitOrTolerance angles rounds fixed logSines differences logSides =
-    valuesFrom limitOrTolerance (take (angleCount f) angles) (take (angleCount f) rounds) (take (fixedIn kind f) fixed)
-    (take (sineEntriesIn kind f) logSines) (take (sineEntriesIn kind f) differences) (take (sidesIn kind f) logSides)
-
--- no slice is longer than the arrays
-abbrev pub ShortEnough : Slices → Type 0
-ShortEnough lent =
-    (length (lent .angles) ≤ mostAngles) × (length (lent .rounds) ≤ mostAngles) × (length (lent .fixed) ≤ mostAngles)
-    × (length (lent .logSines) ≤ mostAngles) × (length (lent .differences) ≤ mostAngles) × (length (lent .logSides) ≤ mostAngles)
-
--- the first values of each sort, as many as are lent
-abbrev pub firstOf : (lent taken : Slices) → Slices
-firstOf lent taken = slices (take (length (lent .angles)) (taken .angles)) (take (length (lent .rounds)) (taken .rounds))
-    (take (length (lent .fixed)) (taken .fixed)) (take (length (lent .logSines)) (taken .logSines)) (take (length (lent .differences)) (taken .differences))
-    (take (length (lent .logSides)) (taken .logSides))

@@ -12,8 +12,8 @@ use Rattle.sheet_layout.specs.declared.Kind.{Kind}
 use Rattle.sheet_layout.specs.Layout.{sheetSize}
 use Rattle.sheet_rules.specs.declared.Reading.{Reading}
 use Rattle.sheet_rules.specs.declared.Reading.the-variants.{Read}
-use Rattle.sheet_rules.specs.Sheet.{valuesRead}
-use Rattle.sheet_rules.specs.Judging.{ownLengths, fillingBits, bodyRows, readingAfter, afterReading}
+use Rattle.sheet_rules.specs.Sheet.{Values, valuesFrom, valuesRead}
+use Rattle.sheet_rules.specs.Judging.{ownLengths, fillingBits, valueRows, bodyRows, readingAfter, afterReading}
 use Rattle.sheet_rules.specs.Promises.{Slices, slicesOf, lengthsLent}
 
 -- the rows of the body before those of the values: 12, 2, 13
@@ -24,6 +24,18 @@ shapeRows kind f sheet lent =
 abbrev pub answered : Verdict → Kind → Figure → (limitOrTolerance : ℕ) → Reading
 answered Passed kind f l = Read kind f l
 answered (Failed refusal) kind f l = Reading.Refused refusal
+
+-- what was taken is judged, and stored where it passes
+abbrev pub valuesOf : (limitOrTolerance : ℕ) → Slices → Values
+valuesOf l taken = valuesFrom l (taken .angles) (taken .rounds) (taken .fixed) (taken .logSines) (taken .differences) (taken .logSides)
+
+abbrev pub afterVerdict : Verdict → (taken before : Slices) → Slices
+afterVerdict Passed taken before = taken
+afterVerdict (Failed refusal) taken before = before
+
+abbrev pub ValuesPromise : Kind → Figure → (limitOrTolerance : ℕ) → (taken entry : Slices) → (answer : Reading) → (exit : Slices) → Type 0
+ValuesPromise kind f l taken entry answer exit =
+    Promised (answered (judged (valueRows kind (valuesOf l taken))) kind f l) (afterVerdict (judged (valueRows kind (valuesOf l taken))) taken entry) answer exit
 
 -- what the reader promises once kind and figure are known
 abbrev pub bodyAnswer : Kind → Figure → (sheet : List ℕ) → Slices → Reading

@@ -1,6 +1,6 @@
 // Columns of a sheet: the values of one sort, as they stand in it.
 ghost use mathlib.Core.Path.{_≡_};
-ghost use lib.ListN.{take};
+ghost use lib.ListN.{length};
 ghost use Rattle.sheet_layout.specs.Kinds.{passOf, carriesRounds};
 ghost use Rattle.sheet_reader.specs.Columns.{rowsStart, angleColumn, roundsColumn, fixedColumn, logSineColumn, differenceColumn};
 ghost use Rattle.sheet_reader.specs.Columns.{logSideColumn, ColumnFits, columnValues, signedColumnValues};
@@ -8,7 +8,6 @@ use bits::field;
 use bits::signed;
 use figure_tables::counts_of;
 use figures::Figure;
-use figures::MOST_ANGLES;
 use sheet_layout::ANGLE_WIDTH;
 use sheet_layout::DIFFERENCE_WIDTH;
 use sheet_layout::FIRST_PASS_BODY_AT;
@@ -121,51 +120,45 @@ pub(crate) fn log_side_column() -> Column
     }
 }
 
-// The first values of a column, each taken once.
-pub(crate) fn column_values(sheet: &[u8], column: Column, count: usize) -> [u32; MOST_ANGLES]
-    requires { ⌜ ColumnFits column count ⌝ }
-    ensures { λ values. ⌜ take count values ≡ columnValues (now (sheet .entry)) column count ⌝ }
+// The first values of a column, each taken once, as many as have room.
+pub(crate) fn take_column(sheet: &[u8], column: Column, values: &mut [u32])
+    requires { ⌜ ColumnFits column (length (now values)) ⌝ }
+    ensures { λ _. ⌜ now (values .exit) ≡ columnValues (now (sheet .entry)) column (length (now (values .entry))) ⌝ }
 {
-    let mut values = [0u32; MOST_ANGLES];
     let mut at = column.start;
     let mut taken = 0;
-    while taken < count {
+    while taken < values.len() {
         values[taken] = field(sheet, at, column.width);
         at += column.step;
         taken += 1;
     }
-    values
 }
 
 // The same of values of a byte.
-pub(crate) fn byte_column_values(sheet: &[u8], column: Column, count: usize) -> [u8; MOST_ANGLES]
-    requires { ⌜ ColumnFits column count ⌝ }
+pub(crate) fn take_byte_column(sheet: &[u8], column: Column, values: &mut [u8])
+    requires { ⌜ ColumnFits column (length (now values)) ⌝ }
     requires { ⌜ column .width ≡ 8 ⌝ }
-    ensures { λ values. ⌜ take count values ≡ columnValues (now (sheet .entry)) column count ⌝ }
+    ensures { λ _. ⌜ now (values .exit) ≡ columnValues (now (sheet .entry)) column (length (now (values .entry))) ⌝ }
 {
-    let mut values = [0u8; MOST_ANGLES];
     let mut at = column.start;
     let mut taken = 0;
-    while taken < count {
+    while taken < values.len() {
         values[taken] = field(sheet, at, column.width) as u8;
         at += column.step;
         taken += 1;
     }
-    values
 }
 
 // The same of values in two's complement.
-pub(crate) fn signed_column_values(sheet: &[u8], column: Column, count: usize) -> [i32; MOST_ANGLES]
-    requires { ⌜ ColumnFits column count ⌝ }
-    ensures { λ values. ⌜ take count values ≡ signedColumnValues (now (sheet .entry)) column count ⌝ }
+pub(crate) fn take_signed_column(sheet: &[u8], column: Column, values: &mut [i32])
+    requires { ⌜ ColumnFits column (length (now values)) ⌝ }
+    ensures { λ _. ⌜ now (values .exit) ≡ signedColumnValues (now (sheet .entry)) column (length (now (values .entry))) ⌝ }
 {
-    let mut values = [0i32; MOST_ANGLES];
     let mut at = column.start;
     let mut taken = 0;
-    while taken < count {
+    while taken < values.len() {
         values[taken] = signed(field(sheet, at, column.width), column.width);
         at += column.step;
         taken += 1;
     }
-    values
 }

@@ -5,23 +5,18 @@ ghost use Rattle.refusals.specs.Order.{verdictOf, judged};
 ghost use Rattle.refusals.specs.Table.{fillingRow};
 ghost use Rattle.sheet_layout.specs.Layout.{sheetSize};
 ghost use Rattle.sheet_rules.specs.Judging.{fillingBits};
-ghost use Rattle.sheet_rules.specs.Promises.{slices, ReaderPromise};
-ghost use Rattle.sheet_reader.specs.Parts.{shapeRows, answered, BodyPromise};
-use crate::values::angles_in;
-use crate::values::differences_in;
-use crate::values::fixed_in;
+ghost use Rattle.sheet_rules.specs.Promises.{slices, lengthsLent, ReaderPromise};
+ghost use Rattle.sheet_reader.specs.Parts.{shapeRows, answered, ValuesPromise, BodyPromise};
 use crate::values::limit_or_tolerance_in;
-use crate::values::log_sides_in;
-use crate::values::log_sines_in;
-use crate::values::rounds_in;
 use crate::values::store;
-use crate::values::taken_verdict;
+use crate::values::take_values;
 use bits::field;
 use figures::Figure;
+use figures::MOST_ANGLES;
+use figures::MOST_SIDES;
 use judging::lengths_verdict;
 use refusals::Refusal;
 use refusals::Verdict;
-use refusals::first_to_fail;
 use sheet_layout::Kind;
 use sheet_layout::Look;
 use sheet_layout::bit_count;
@@ -29,6 +24,10 @@ use sheet_layout::lengths_of;
 use sheet_layout::look_at;
 use sheet_layout::sheet_size;
 use sheet_rules::Reading;
+use sheet_rules::values_verdict;
+
+// The most fixed angles of a figure.
+const MOST_FIXED: usize = 4;
 
 // Number 13, of a sheet that has its size: the bits after the last field.
 fn filling_verdict(sheet: &[u8], kind: Kind, figure: Figure) -> Verdict
@@ -36,7 +35,7 @@ fn filling_verdict(sheet: &[u8], kind: Kind, figure: Figure) -> Verdict
     ensures { λ verdict. ⌜ verdict ≡ verdictOf (fillingRow (fillingBits kind figure (now (sheet .entry)))) ⌝ }
 {
     let end = bit_count(kind, figure);
-    let left = 8 * sheet_size(kind, figure) - end;
+    let left = 8 * sheet.len() - end;
     if field(sheet, end, left as u32) != 0 {
         return Verdict::Failed(Refusal::FillingBitSet);
     }
@@ -62,7 +61,11 @@ fn shape_verdict(sheet: &[u8], kind: Kind, figure: Figure, lent: &[usize]) -> Ve
             own.log_sides,
         ],
     );
-    first_to_fail(lengths, filling_verdict(sheet, kind, figure))
+    let filling = filling_verdict(sheet, kind, figure);
+    if let Verdict::Failed(_) = lengths {
+        return lengths;
+    }
+    filling
 }
 
 fn reading_after(verdict: Verdict, kind: Kind, figure: Figure, limit_or_tolerance: u32) -> Reading
@@ -76,6 +79,65 @@ fn reading_after(verdict: Verdict, kind: Kind, figure: Figure, limit_or_toleranc
             limit_or_tolerance,
         },
     }
+}
+
+// What was taken is judged, and stored once it is accepted.
+fn judge_and_store(
+    kind: Kind,
+    figure: Figure,
+    bound: u32,
+    taken_angles: &[u32],
+    taken_rounds: &[u8],
+    taken_fixed: &[u32],
+    taken_log_sines: &[u32],
+    taken_differences: &[i32],
+    taken_log_sides: &[u32],
+    angles: &mut [u32],
+    rounds: &mut [u8],
+    fixed: &mut [u32],
+    log_sines: &mut [u32],
+    differences: &mut [i32],
+    log_sides: &mut [u32],
+) -> Reading
+    requires { ⌜ lengthsLent (slices (now angles) (now rounds) (now fixed) (now «log_sines») (now differences) (now «log_sides»))
+        ≡ lengthsLent (slices (now «taken_angles») (now «taken_rounds») (now «taken_fixed») (now «taken_log_sines»)
+        (now «taken_differences») (now «taken_log_sides»)) ⌝ }
+    ensures { λ reading. ⌜ ValuesPromise kind figure bound
+        (slices (now («taken_angles» .entry)) (now («taken_rounds» .entry)) (now («taken_fixed» .entry))
+        (now («taken_log_sines» .entry)) (now («taken_differences» .entry)) (now («taken_log_sides» .entry)))
+        (slices (now (angles .entry)) (now (rounds .entry)) (now (fixed .entry)) (now («log_sines» .entry))
+        (now (differences .entry)) (now («log_sides» .entry))) reading
+        (slices (now (angles .exit)) (now (rounds .exit)) (now (fixed .exit)) (now («log_sines» .exit))
+        (now (differences .exit)) (now («log_sides» .exit))) ⌝ }
+{
+    let verdict = values_verdict(
+        kind,
+        bound,
+        taken_angles,
+        taken_rounds,
+        taken_fixed,
+        taken_log_sines,
+        taken_differences,
+        taken_log_sides,
+    );
+    let reading = reading_after(verdict, kind, figure, bound);
+    if let Verdict::Passed = verdict {
+        store(
+            taken_angles,
+            taken_rounds,
+            taken_fixed,
+            taken_log_sines,
+            taken_differences,
+            taken_log_sides,
+            angles,
+            rounds,
+            fixed,
+            log_sines,
+            differences,
+            log_sides,
+        );
+    }
+    reading
 }
 
 // Reads the sheet of a kind and a figure that are known: what follows the head.
@@ -108,33 +170,41 @@ pub fn read_body(
     if let Verdict::Failed(refusal) = shape {
         return Reading::Refused(refusal);
     }
-    // Angles, rounds, fixed angles, log-sines, differences and log sides, each taken once.
     let bound = limit_or_tolerance_in(sheet, kind);
-    let a = angles_in(sheet, kind, figure);
-    let r = rounds_in(sheet, kind, figure);
-    let f = fixed_in(sheet, kind, figure);
-    let l = log_sines_in(sheet, kind, figure);
-    let d = differences_in(sheet, kind, figure);
-    let s = log_sides_in(sheet, kind, figure);
-    let verdict = taken_verdict(kind, figure, bound, a, r, f, l, d, s);
-    let reading = reading_after(verdict, kind, figure, bound);
-    if let Verdict::Passed = verdict {
-        store(
-            a,
-            r,
-            f,
-            l,
-            d,
-            s,
-            angles,
-            rounds,
-            fixed,
-            log_sines,
-            differences,
-            log_sides,
-        );
-    }
-    reading
+    let mut a = [0u32; MOST_ANGLES];
+    let mut r = [1u8; MOST_ANGLES];
+    let mut f = [0u32; MOST_FIXED];
+    let mut l = [0u32; MOST_ANGLES];
+    let mut d = [0i32; MOST_ANGLES];
+    let mut s = [0u32; MOST_SIDES];
+    take_values(
+        sheet,
+        kind,
+        figure,
+        &mut a[..angles.len()],
+        &mut r[..rounds.len()],
+        &mut f[..fixed.len()],
+        &mut l[..log_sines.len()],
+        &mut d[..differences.len()],
+        &mut s[..log_sides.len()],
+    );
+    judge_and_store(
+        kind,
+        figure,
+        bound,
+        &a[..angles.len()],
+        &r[..rounds.len()],
+        &f[..fixed.len()],
+        &l[..log_sines.len()],
+        &d[..differences.len()],
+        &s[..log_sides.len()],
+        angles,
+        rounds,
+        fixed,
+        log_sines,
+        differences,
+        log_sides,
+    )
 }
 
 // Reads a sheet into slices that have exactly the lengths of its kind and figure. On a refusal nothing lent changes.

@@ -1,39 +1,32 @@
-// The values of a sheet: taken off it once, judged as they were taken, and stored last. Of each sort there are as many as the kind and the
-// figure have; what follows them in an array is of no account.
-ghost use Prim.Native.Nat.{_≤_};
+// The values of a sheet: taken off it once, and stored last. Of each sort there are as many as the kind and the figure have. Arrays for them are
+// lent, since one that is answered would be copied.
 ghost use mathlib.Core.Path.{_≡_};
-ghost use lib.ListN.{length, take};
-ghost use Rattle.refusals.specs.Order.{judged};
+ghost use lib.ListN.{length, take, replicate};
 ghost use Rattle.figures.specs.declared.Figure.{Figure};
 ghost use Rattle.figures.specs.Figure.{angleCount};
 ghost use Rattle.figures.specs.Numerators.{mostAngles};
 ghost use Rattle.sheet_layout.specs.Layout.{fixedIn, sineEntriesIn, sidesIn};
 ghost use Rattle.sheet_rules.specs.Sheet.{valuesRead};
-ghost use Rattle.sheet_rules.specs.Judging.{valueRows};
-ghost use Rattle.sheet_rules.specs.Promises.{slices};
-ghost use Rattle.sheet_reader.specs.Columns.{valuesTaken, ShortEnough, firstOf};
+ghost use Rattle.sheet_rules.specs.Judging.{ownLengths};
+ghost use Rattle.sheet_rules.specs.Promises.{slices, slicesOf, lengthsLent};
 use crate::columns::angle_column;
-use crate::columns::byte_column_values;
-use crate::columns::column_values;
 use crate::columns::difference_column;
 use crate::columns::fixed_column;
 use crate::columns::log_side_column;
 use crate::columns::log_sine_column;
 use crate::columns::rounds_column;
-use crate::columns::signed_column_values;
+use crate::columns::take_byte_column;
+use crate::columns::take_column;
+use crate::columns::take_signed_column;
 use bits::field;
 use figures::Figure;
-use figures::MOST_ANGLES;
-use refusals::Verdict;
 use sheet_layout::Kind;
 use sheet_layout::LIMIT_OR_TOLERANCE_AT;
 use sheet_layout::LIMIT_WIDTH;
 use sheet_layout::Pass;
 use sheet_layout::TOLERANCE_WIDTH;
 use sheet_layout::carries_rounds;
-use sheet_layout::lengths_of;
 use sheet_layout::pass_of;
-use sheet_rules::values_verdict;
 
 // L or e as packed, which stands after the head whatever the figure.
 pub(crate) fn limit_or_tolerance_in(sheet: &[u8], kind: Kind) -> u32
@@ -45,98 +38,80 @@ pub(crate) fn limit_or_tolerance_in(sheet: &[u8], kind: Kind) -> u32
     }
 }
 
-pub(crate) fn angles_in(sheet: &[u8], kind: Kind, figure: Figure) -> [u32; MOST_ANGLES]
-    ensures { λ held. ⌜ take (angleCount figure) held ≡ valuesRead kind figure (now (sheet .entry)) .angles ⌝ }
+fn angles_in(sheet: &[u8], kind: Kind, figure: Figure, held: &mut [u32])
+    requires { ⌜ length (now held) ≡ angleCount figure ⌝ }
+    ensures { λ _. ⌜ now (held .exit) ≡ valuesRead kind figure (now (sheet .entry)) .angles ⌝ }
 {
-    column_values(
-        sheet,
-        angle_column(kind, figure),
-        lengths_of(kind, figure).angles,
-    )
+    take_column(sheet, angle_column(kind, figure), held);
 }
 
-// The rounds of each angle; older kinds read as one round each (M-106).
-pub(crate) fn rounds_in(sheet: &[u8], kind: Kind, figure: Figure) -> [u8; MOST_ANGLES]
-    ensures { λ held. ⌜ take (angleCount figure) held ≡ valuesRead kind figure (now (sheet .entry)) .rounds ⌝ }
+// The rounds of each angle, over one round each: older kinds read as that (M-106).
+fn rounds_in(sheet: &[u8], kind: Kind, figure: Figure, held: &mut [u8])
+    requires { ⌜ now held ≡ take (angleCount figure) (replicate mostAngles 1) ⌝ }
+    ensures { λ _. ⌜ now (held .exit) ≡ valuesRead kind figure (now (sheet .entry)) .rounds ⌝ }
 {
     if carries_rounds(kind) {
-        byte_column_values(
-            sheet,
-            rounds_column(kind, figure),
-            lengths_of(kind, figure).rounds,
-        )
-    } else {
-        [1u8; MOST_ANGLES]
+        take_byte_column(sheet, rounds_column(kind, figure), held);
     }
 }
 
-pub(crate) fn fixed_in(sheet: &[u8], kind: Kind, figure: Figure) -> [u32; MOST_ANGLES]
-    ensures { λ held. ⌜ take (fixedIn kind figure) held ≡ valuesRead kind figure (now (sheet .entry)) .fixed ⌝ }
+fn fixed_in(sheet: &[u8], kind: Kind, figure: Figure, held: &mut [u32])
+    requires { ⌜ length (now held) ≡ fixedIn kind figure ⌝ }
+    ensures { λ _. ⌜ now (held .exit) ≡ valuesRead kind figure (now (sheet .entry)) .fixed ⌝ }
 {
-    column_values(
-        sheet,
-        fixed_column(kind, figure),
-        lengths_of(kind, figure).fixed,
-    )
+    take_column(sheet, fixed_column(kind, figure), held);
 }
 
-pub(crate) fn log_sines_in(sheet: &[u8], kind: Kind, figure: Figure) -> [u32; MOST_ANGLES]
-    ensures { λ held. ⌜ take (sineEntriesIn kind figure) held ≡ valuesRead kind figure (now (sheet .entry)) .logSines ⌝ }
+fn log_sines_in(sheet: &[u8], kind: Kind, figure: Figure, held: &mut [u32])
+    requires { ⌜ length (now held) ≡ sineEntriesIn kind figure ⌝ }
+    ensures { λ _. ⌜ now (held .exit) ≡ valuesRead kind figure (now (sheet .entry)) .logSines ⌝ }
 {
-    column_values(
-        sheet,
-        log_sine_column(kind, figure),
-        lengths_of(kind, figure).log_sines,
-    )
+    take_column(sheet, log_sine_column(kind, figure), held);
 }
 
-pub(crate) fn differences_in(sheet: &[u8], kind: Kind, figure: Figure) -> [i32; MOST_ANGLES]
-    ensures { λ held. ⌜ take (sineEntriesIn kind figure) held ≡ valuesRead kind figure (now (sheet .entry)) .differences ⌝ }
+fn differences_in(sheet: &[u8], kind: Kind, figure: Figure, held: &mut [i32])
+    requires { ⌜ length (now held) ≡ sineEntriesIn kind figure ⌝ }
+    ensures { λ _. ⌜ now (held .exit) ≡ valuesRead kind figure (now (sheet .entry)) .differences ⌝ }
 {
-    signed_column_values(
-        sheet,
-        difference_column(kind, figure),
-        lengths_of(kind, figure).differences,
-    )
+    take_signed_column(sheet, difference_column(kind, figure), held);
 }
 
-pub(crate) fn log_sides_in(sheet: &[u8], kind: Kind, figure: Figure) -> [u32; MOST_ANGLES]
-    ensures { λ held. ⌜ take (sidesIn kind figure) held ≡ valuesRead kind figure (now (sheet .entry)) .logSides ⌝ }
+fn log_sides_in(sheet: &[u8], kind: Kind, figure: Figure, held: &mut [u32])
+    requires { ⌜ length (now held) ≡ sidesIn kind figure ⌝ }
+    ensures { λ _. ⌜ now (held .exit) ≡ valuesRead kind figure (now (sheet .entry)) .logSides ⌝ }
 {
-    column_values(sheet, log_side_column(), lengths_of(kind, figure).log_sides)
+    take_column(sheet, log_side_column(), held);
 }
 
-// The tests of the values.
-pub(crate) fn taken_verdict(
+// The values of a sheet, each taken once, into slices of their lengths.
+pub(crate) fn take_values(
+    sheet: &[u8],
     kind: Kind,
     figure: Figure,
-    limit_or_tolerance: u32,
-    angles: [u32; MOST_ANGLES],
-    rounds: [u8; MOST_ANGLES],
-    fixed: [u32; MOST_ANGLES],
-    log_sines: [u32; MOST_ANGLES],
-    differences: [i32; MOST_ANGLES],
-    log_sides: [u32; MOST_ANGLES],
-) -> Verdict
-    ensures { λ verdict. ⌜ verdict ≡ judged (valueRows kind
-        (valuesTaken kind figure «limit_or_tolerance» angles rounds fixed «log_sines» differences «log_sides»)) ⌝ }
+    angles: &mut [u32],
+    rounds: &mut [u8],
+    fixed: &mut [u32],
+    log_sines: &mut [u32],
+    differences: &mut [i32],
+    log_sides: &mut [u32],
+)
+    requires { ⌜ lengthsLent (slices (now angles) (now rounds) (now fixed) (now «log_sines») (now differences) (now «log_sides»))
+        ≡ ownLengths kind figure ⌝ }
+    requires { ⌜ now rounds ≡ take (angleCount figure) (replicate mostAngles 1) ⌝ }
+    ensures { λ _. ⌜ slices (now (angles .exit)) (now (rounds .exit)) (now (fixed .exit)) (now («log_sines» .exit))
+        (now (differences .exit)) (now («log_sides» .exit)) ≡ slicesOf (valuesRead kind figure (now (sheet .entry))) ⌝ }
 {
-    let count = lengths_of(kind, figure);
-    values_verdict(
-        kind,
-        limit_or_tolerance,
-        &angles[..count.angles],
-        &rounds[..count.rounds],
-        &fixed[..count.fixed],
-        &log_sines[..count.log_sines],
-        &differences[..count.differences],
-        &log_sides[..count.log_sides],
-    )
+    angles_in(sheet, kind, figure, angles);
+    rounds_in(sheet, kind, figure, rounds);
+    fixed_in(sheet, kind, figure, fixed);
+    log_sines_in(sheet, kind, figure, log_sines);
+    differences_in(sheet, kind, figure, differences);
+    log_sides_in(sheet, kind, figure, log_sides);
 }
 
-fn copy(from: [u32; MOST_ANGLES], to: &mut [u32])
-    requires { ⌜ length (now to) ≤ mostAngles ⌝ }
-    ensures { λ _. ⌜ now (to .exit) ≡ take (length (now (to .entry))) from ⌝ }
+fn copy(from: &[u32], to: &mut [u32])
+    requires { ⌜ length (now to) ≡ length (now from) ⌝ }
+    ensures { λ _. ⌜ now (to .exit) ≡ now (from .entry) ⌝ }
 {
     let mut i = 0;
     while i < to.len() {
@@ -145,9 +120,9 @@ fn copy(from: [u32; MOST_ANGLES], to: &mut [u32])
     }
 }
 
-fn copy_bytes(from: [u8; MOST_ANGLES], to: &mut [u8])
-    requires { ⌜ length (now to) ≤ mostAngles ⌝ }
-    ensures { λ _. ⌜ now (to .exit) ≡ take (length (now (to .entry))) from ⌝ }
+fn copy_bytes(from: &[u8], to: &mut [u8])
+    requires { ⌜ length (now to) ≡ length (now from) ⌝ }
+    ensures { λ _. ⌜ now (to .exit) ≡ now (from .entry) ⌝ }
 {
     let mut i = 0;
     while i < to.len() {
@@ -156,9 +131,9 @@ fn copy_bytes(from: [u8; MOST_ANGLES], to: &mut [u8])
     }
 }
 
-fn copy_signed(from: [i32; MOST_ANGLES], to: &mut [i32])
-    requires { ⌜ length (now to) ≤ mostAngles ⌝ }
-    ensures { λ _. ⌜ now (to .exit) ≡ take (length (now (to .entry))) from ⌝ }
+fn copy_signed(from: &[i32], to: &mut [i32])
+    requires { ⌜ length (now to) ≡ length (now from) ⌝ }
+    ensures { λ _. ⌜ now (to .exit) ≡ now (from .entry) ⌝ }
 {
     let mut i = 0;
     while i < to.len() {
@@ -169,12 +144,12 @@ fn copy_signed(from: [i32; MOST_ANGLES], to: &mut [i32])
 
 // The values into slices that have their lengths.
 pub(crate) fn store(
-    taken_angles: [u32; MOST_ANGLES],
-    taken_rounds: [u8; MOST_ANGLES],
-    taken_fixed: [u32; MOST_ANGLES],
-    taken_log_sines: [u32; MOST_ANGLES],
-    taken_differences: [i32; MOST_ANGLES],
-    taken_log_sides: [u32; MOST_ANGLES],
+    taken_angles: &[u32],
+    taken_rounds: &[u8],
+    taken_fixed: &[u32],
+    taken_log_sines: &[u32],
+    taken_differences: &[i32],
+    taken_log_sides: &[u32],
     angles: &mut [u32],
     rounds: &mut [u8],
     fixed: &mut [u32],
@@ -182,12 +157,13 @@ pub(crate) fn store(
     differences: &mut [i32],
     log_sides: &mut [u32],
 )
-    requires { ⌜ ShortEnough (slices (now angles) (now rounds) (now fixed) (now «log_sines») (now differences) (now «log_sides»)) ⌝ }
+    requires { ⌜ lengthsLent (slices (now angles) (now rounds) (now fixed) (now «log_sines») (now differences) (now «log_sides»))
+        ≡ lengthsLent (slices (now «taken_angles») (now «taken_rounds») (now «taken_fixed») (now «taken_log_sines»)
+        (now «taken_differences») (now «taken_log_sides»)) ⌝ }
     ensures { λ _. ⌜ slices (now (angles .exit)) (now (rounds .exit)) (now (fixed .exit)) (now («log_sines» .exit))
         (now (differences .exit)) (now («log_sides» .exit))
-        ≡ firstOf (slices (now (angles .entry)) (now (rounds .entry)) (now (fixed .entry)) (now («log_sines» .entry))
-        (now (differences .entry)) (now («log_sides» .entry)))
-        (slices «taken_angles» «taken_rounds» «taken_fixed» «taken_log_sines» «taken_differences» «taken_log_sides») ⌝ }
+        ≡ slices (now («taken_angles» .entry)) (now («taken_rounds» .entry)) (now («taken_fixed» .entry))
+        (now («taken_log_sines» .entry)) (now («taken_differences» .entry)) (now («taken_log_sides» .entry)) ⌝ }
 {
     copy(taken_angles, angles);
     copy_bytes(taken_rounds, rounds);

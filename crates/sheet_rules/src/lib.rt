@@ -17,7 +17,6 @@ use refusals::MOST_ROUNDS;
 use refusals::MOST_TOLERANCE;
 use refusals::Refusal;
 use refusals::Verdict;
-use refusals::first_to_fail;
 pub use sheet_layout::Kind;
 pub use sheet_layout::Look;
 pub use sheet_layout::Pass;
@@ -69,11 +68,24 @@ pub fn values_verdict(
         (now («log_sides» .entry)))) ⌝ }
 {
     let range = limit_or_tolerance_verdict(limit_or_tolerance, most_limit_or_tolerance(kind));
+    if let Verdict::Failed(_) = range {
+        return range;
+    }
     let angle = angles_verdict(angles);
+    if let Verdict::Failed(_) = angle {
+        return angle;
+    }
     let round = rounds_verdict(rounds, most_rounds(kind));
+    if let Verdict::Failed(_) = round {
+        return round;
+    }
     let fixed_angle = fixed_verdict(fixed);
+    if let Verdict::Failed(_) = fixed_angle {
+        return fixed_angle;
+    }
     let fixed_sum = fixed_sum_verdict(fixed);
-    let sines = sine_entries_verdict(log_sines, log_sides, differences);
-    let others = first_to_fail(fixed_angle, first_to_fail(fixed_sum, sines));
-    first_to_fail(range, first_to_fail(angle, first_to_fail(round, others)))
+    if let Verdict::Failed(_) = fixed_sum {
+        return fixed_sum;
+    }
+    sine_entries_verdict(log_sines, log_sides, differences)
 }

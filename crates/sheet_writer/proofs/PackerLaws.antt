@@ -3,7 +3,7 @@ use Prim.Native.Nat.{ℕ, _+_, _-_, _*_, _/_, _%_, _^_, _≤_, _<_}
 use mathlib.Core.Bool.{Bool, true, false}
 use mathlib.Core.List.{List, [], _∷_, _++_, append-assoc, append-nil}
 use mathlib.Core.Path.{_≡_, refl, sym, ap, ap₂, subst, _∙_}
-use native.Mathlib.Nat.{add-zero, add-assoc, lt-of-lt-of-le, mod-lt}
+use native.Mathlib.Nat.{add-zero, add-assoc, mod-lt}
 use native.Mathlib.Numerals.{add-one}
 use native.Mathlib.Omega.{arith}
 use lib.ListN.{length, length-append, length-set, take, set, getD, replicate, length-replicate, replicate-append-replicate}
@@ -11,7 +11,7 @@ use borrow.Author.Tests.{eqb-true, eqb-false}
 use lib.Arith.{digits-lt}
 use lib.Dec.{eqb}
 use lib.Seq.{length-take-le, take-all, take-append-seam, take-suc-set, getD-set-same, getD-set-other}
-use lib.Pow.{pow-pos, pow-mono, pow-add, split, shl-lt, shr-lt}
+use lib.Pow.{pow-pos, pow-add, split, low, mod-pow-add, mod-mod-pow, shl-lt, shl-shr}
 use Rattle.bits.specs.Bits.{Field, bits, bitsOf, bytesOf, byteCount, fillingWidth, widths, totalWidth, packedBits}
 use Rattle.bits.proofs.Bytes.{AreBytes, length-bitsOf, bitsOf-append, bitsOf-injective, bytesOf-bytes, bitsOf-bytesOf}
 use Rattle.bits.proofs.Numbers.{length-bits, bits-append, value-bits-mod, bits-value, bits-zero}
@@ -51,37 +51,44 @@ packs-then a p fs gs first second = record {
 last-bits : (w n : ℕ) → bits w (n % 2 ^ w) ≡ bits w n
 last-bits w n = ap (bits w) (sym (value-bits-mod w n)) ∙ bits-value w (bits w n) (length-bits w n)
 
+-- the last bits of a number that has lost bits before them
+lost-bits : (count more n : ℕ) → bits count (n % 2 ^ (more + count)) ≡ bits count n
+lost-bits count more n = sym (last-bits count (n % 2 ^ (more + count))) ∙ ap (bits count) (mod-mod-pow n more count) ∙ last-bits count n
+
+-- what is shifted in 64 bits
+shifted : (held width more : ℕ) → held * 2 ^ width % 2 ^ (more + width) ≡ held % 2 ^ more * 2 ^ width
+shifted held width more =
+    mod-pow-add (held * 2 ^ width) more width
+    ∙ ap₂ (λ (a b : ℕ). a % 2 ^ more * 2 ^ width + b) (shl-shr held width)
+    (ap (λ (n : ℕ). n % 2 ^ width) (sym (add-zero (held * 2 ^ width))) ∙ low held width (pow-pos width))
+    ∙ add-zero (held % 2 ^ more * 2 ^ width)
+
 -- what is held after a field
 abbrev pub together : (held width value : ℕ) → ℕ
-together held width value = held * 2 ^ width + value % 2 ^ width
+together held width value = held * 2 ^ width % 2 ^ 64 + value % 2 ^ width
 
-module _ (held count width value : ℕ) (fits : held < 2 ^ count) where
-  pub together-bits : bits (count + width) (together held width value) ≡ bits count held ++ bits width value
-  together-bits =
-      bits-append count width held (value % 2 ^ width) (mod-lt value (pow-pos width))
-      ∙ ap (λ (b : List Bool). bits count held ++ b) (last-bits width value)
+module _ (held width value : ℕ) (narrow : width ≤ 32) where
+  all-64 : 64 - width + width ≡ 64
+  all-64 = omega arith
 
-  pub together-fits : together held width value < 2 ^ (count + width)
-  together-fits = rw (pow-add 2 count width) (digits-lt fits (mod-lt value (pow-pos width)))
+  apart : together held width value ≡ held % 2 ^ (64 - width) * 2 ^ width + value % 2 ^ width
+  apart =
+      ap (λ (n : ℕ). n + value % 2 ^ width)
+      (ap (λ (n : ℕ). held * 2 ^ width % 2 ^ n) (sym all-64) ∙ shifted held width (64 - width))
 
--- it is a number of 64 bits, by the power that was computed
-module _ (held count width : ℕ) {power : ℕ} (fits : held < 2 ^ count) (few : count < 32) (narrow : width ≤ 32) (is : power ≡ 2 ^ width) where
-  pub power-positive : 0 < power
-  power-positive = rw is (pow-pos width)
+  pub together-fits : together held width value < 2 ^ 64
+  together-fits =
+      rw apart
+      (subst (λ (n : ℕ). held % 2 ^ (64 - width) * 2 ^ width + value % 2 ^ width < n) (sym (pow-add 2 (64 - width) width) ∙ ap (λ (n : ℕ). 2 ^ n) all-64)
+      (digits-lt (mod-lt held (pow-pos (64 - width))) (mod-lt value (pow-pos width))))
 
-  pub product-fits : held * power < 2 ^ 64
-  product-fits = rw is (lt-of-lt-of-le (shl-lt count width fits) (pow-mono {i = count + width} {j = 64} (omega arith)))
-
-  pub sum-is : (value : ℕ) → held * power + value % power ≡ together held width value
-  sum-is value = ap (λ (n : ℕ). held * n + value % n) is
-
-  pub sum-fits : (value : ℕ) → held * power + value % power < 2 ^ 64
-  sum-fits value = rw (sum-is value) (lt-of-lt-of-le (together-fits held count width value fits) (pow-mono {i = count + width} {j = 64} (omega arith)))
-
--- four bytes of it
-pub word-fits : (held count width value left : ℕ) → held < 2 ^ count → count + width ≡ 32 + left → together held width value / 2 ^ left < 2 ^ 32
-word-fits held count width value left fits counts =
-    shr-lt 32 left (subst (λ (n : ℕ). together held width value < 2 ^ n) counts (together-fits held count width value fits))
+  pub together-bits : (count : ℕ) → count < 32 → bits (count + width) (together held width value) ≡ bits count held ++ bits width value
+  together-bits count few =
+      let more : 64 - width - count + count ≡ 64 - width = omega arith in
+      ap (bits (count + width)) apart
+      ∙ bits-append count width (held % 2 ^ (64 - width)) (value % 2 ^ width) (mod-lt value (pow-pos width))
+      ∙ ap₂ (λ (a b : List Bool). a ++ b)
+      (ap (λ (n : ℕ). bits count (held % 2 ^ n)) (sym more) ∙ lost-bits count (64 - width - count) held) (last-bits width value)
 
 one-field : (width value : ℕ) → packedBits (fieldFrom width value ∷ []) ≡ bits width value
 unfolding packedBits
@@ -106,7 +113,7 @@ word-bits word fits =
     ∙ ap (λ (b : List Bool). bits 8 first ++ b) (sym lower)
     ∙ sym all ∙ ap (bits 32) is
 
-module _ (s : List ℕ) (p : Packer) (well : WellHeld p) (width value : ℕ) where
+module _ (s : List ℕ) (p : Packer) (well : WellHeld p) (width value : ℕ) (narrow : width ≤ 32) where
   abbrev all : ℕ
   all = together (p .held) width value
 
@@ -114,37 +121,42 @@ module _ (s : List ℕ) (p : Packer) (well : WellHeld p) (width value : ℕ) whe
   pub packs-held : p .count + width < 32 → Packs s p (fieldFrom width value ∷ []) s (packerFrom all (p .count + width) (p .at))
   unfolding totalWidth widths
   packs-held few = record {
-    well = (few, together-fits (p .held) (p .count) width value (well .1));
+    well = few;
     counted = omega arith;
     holds =
-        ap (λ (b : List Bool). bitsOf (take (p .at) s) ++ b) (together-bits (p .held) (p .count) width value (well .1))
+        ap (λ (b : List Bool). bitsOf (take (p .at) s) ++ b) (together-bits (p .held) width value narrow (p .count) well)
         ∙ sym (append-assoc (bitsOf (take (p .at) s)) (bits (p .count) (p .held)) (bits width value))
         ∙ ap (λ (b : List Bool). packedSoFar s p ++ b) (sym (one-field width value));
   }
 
   -- it fills four bytes with what was held before, and what is left over is held
-  pub packs-out : (left : ℕ) {t : List ℕ} → p .count + width ≡ 32 + left → left < 32 → all / 2 ^ left < 2 ^ 32
-      → take (p .at + 4) t ≡ take (p .at) s ++ wordBytes (all / 2 ^ left)
-      → Packs s p (fieldFrom width value ∷ []) t (packerFrom (all % 2 ^ left) left (p .at + 4))
+  pub packs-out : (left : ℕ) {t : List ℕ} → p .count + width ≡ 32 + left → left < 32
+      → take (p .at + 4) t ≡ take (p .at) s ++ wordBytes (all / 2 ^ left % 2 ^ 32)
+      → Packs s p (fieldFrom width value ∷ []) t (packerFrom all left (p .at + 4))
   unfolding totalWidth widths
-  packs-out left {t} counts few fits stored = record {
-    well = (few, mod-lt all (pow-pos left));
+  packs-out left {t} counts few stored = record {
+    well = few;
     counted = omega (arith, counts);
     holds =
-        ap (λ (l : List ℕ). bitsOf l ++ bits left (all % 2 ^ left)) stored
-        ∙ ap (λ (b : List Bool). b ++ bits left (all % 2 ^ left))
-        (bitsOf-append (take (p .at) s) (wordBytes (all / 2 ^ left)) ∙ ap (λ (b : List Bool). bitsOf (take (p .at) s) ++ b) (word-bits (all / 2 ^ left) fits))
-        ∙ append-assoc (bitsOf (take (p .at) s)) (bits 32 (all / 2 ^ left)) (bits left (all % 2 ^ left))
+        ap (λ (l : List ℕ). bitsOf l ++ bits left all) stored
+        ∙ ap (λ (b : List Bool). b ++ bits left all)
+        (bitsOf-append (take (p .at) s) (wordBytes word)
+        ∙ ap (λ (b : List Bool). bitsOf (take (p .at) s) ++ b) (word-bits word (mod-lt (all / 2 ^ left) (pow-pos 32))))
+        ∙ append-assoc (bitsOf (take (p .at) s)) (bits 32 word) (bits left all)
         ∙ ap (λ (b : List Bool). bitsOf (take (p .at) s) ++ b) parts
         ∙ sym (append-assoc (bitsOf (take (p .at) s)) (bits (p .count) (p .held)) (bits width value))
         ∙ ap (λ (b : List Bool). packedSoFar s p ++ b) (sym (one-field width value));
   }
     where
-      parts : bits 32 (all / 2 ^ left) ++ bits left (all % 2 ^ left) ≡ bits (p .count) (p .held) ++ bits width value
+      word : ℕ
+      word = all / 2 ^ left % 2 ^ 32
+
+      parts : bits 32 word ++ bits left all ≡ bits (p .count) (p .held) ++ bits width value
       parts =
-          sym (bits-append 32 left (all / 2 ^ left) (all % 2 ^ left) (mod-lt all (pow-pos left)))
+          ap₂ (λ (a b : List Bool). a ++ b) (last-bits 32 (all / 2 ^ left)) (sym (last-bits left all))
+          ∙ sym (bits-append 32 left (all / 2 ^ left) (all % 2 ^ left) (mod-lt all (pow-pos left)))
           ∙ ap₂ bits (sym counts) (split all left)
-          ∙ together-bits (p .held) (p .count) width value (well .1)
+          ∙ together-bits (p .held) width value narrow (p .count) well
 
 -- ---- the end of a sheet
 
@@ -227,13 +239,13 @@ module _ (s : List ℕ) (first from : ℕ) {sheet : List ℕ} {rest at : ℕ} (h
 -- what is held as 32 bits: its own, and zero bits
 module _ (s : List ℕ) (p : Packer) (well : WellHeld p) (size : byteCount (packedCount p) ≡ length s) where
   abbrev first : ℕ
-  first = p .held * 2 ^ (32 - p .count)
+  first = p .held % 2 ^ p .count * 2 ^ (32 - p .count)
 
   thirty-two : p .count + (32 - p .count) ≡ 32
-  thirty-two = omega (arith, well .0)
+  thirty-two = omega (arith, well)
 
   pub first-small : first < 2 ^ 32
-  first-small = subst (λ (n : ℕ). first < 2 ^ n) thirty-two (shl-lt (p .count) (32 - p .count) (well .1))
+  first-small = subst (λ (n : ℕ). first < 2 ^ n) thirty-two (shl-lt (p .count) (32 - p .count) (mod-lt (p .held) (pow-pos (p .count))))
 
   pub starts-within : p .at ≤ length s
   unfolding byteCount
@@ -242,8 +254,9 @@ module _ (s : List ℕ) (p : Packer) (well : WellHeld p) (size : byteCount (pack
   first-bits : bitsOf (take (p .at) s) ++ bits 32 first ≡ packedSoFar s p ++ replicate (32 - p .count) false
   first-bits =
       ap (λ (b : List Bool). bitsOf (take (p .at) s) ++ b)
-      (ap₂ bits (sym thirty-two) (sym (add-zero first)) ∙ bits-append (p .count) (32 - p .count) (p .held) 0 (pow-pos (32 - p .count))
-      ∙ ap (λ (b : List Bool). bits (p .count) (p .held) ++ b) (bits-zero (32 - p .count)))
+      (ap₂ bits (sym thirty-two) (sym (add-zero first))
+      ∙ bits-append (p .count) (32 - p .count) (p .held % 2 ^ p .count) 0 (pow-pos (32 - p .count))
+      ∙ ap₂ (λ (a b : List Bool). a ++ b) (last-bits (p .count) (p .held)) (bits-zero (32 - p .count)))
       ∙ sym (append-assoc (bitsOf (take (p .at) s)) (bits (p .count) (p .held)) (replicate (32 - p .count) false))
 
   packed-long : length (packedSoFar s p) ≡ packedCount p
@@ -260,7 +273,7 @@ module _ (s : List ℕ) (p : Packer) (well : WellHeld p) (size : byteCount (pack
   emptied-all {sheet} {rest} {at} h past =
       let packed : List Bool = packedSoFar s p in
       let filling : ℕ = fillingWidth (length packed) in
-      let zeros : 32 - p .count + 8 * (at - p .at) ≡ filling + 32 = omega (arith, filled, h .after, h .within, h .long, past, well .0) in
+      let zeros : 32 - p .count + 8 * (at - p .at) ≡ filling + 32 = omega (arith, filled, h .after, h .within, h .long, past, well) in
       let out : bitsOf sheet ++ bits 32 rest ≡ (packed ++ replicate filling false) ++ replicate 32 false =
       ap (λ (l : List ℕ). bitsOf l ++ bits 32 rest) (sym (take-all at sheet past)) ∙ h .all
       ∙ ap (λ (b : List Bool). b ++ replicate (8 * (at - p .at)) false) first-bits

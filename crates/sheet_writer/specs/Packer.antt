@@ -1,5 +1,5 @@
 -- Fields packed one after the other, as the writer holds them: whole bytes that are out, and the bits after them that do not yet fill four bytes.
-use Prim.Native.Nat.{ℕ, _+_, _*_, _/_, _%_, _^_, _≤_, _<_}
+use Prim.Native.Nat.{ℕ, _+_, _*_, _/_, _%_, _≤_, _<_}
 use mathlib.Core.Bool.{Bool}
 use mathlib.Core.List.{List, [], _∷_, _++_}
 use mathlib.Core.Path.{_≡_}
@@ -20,9 +20,9 @@ packedSoFar sheet p = bitsOf (take (p .at) sheet) ++ bits (p .count) (p .held)
 abbrev pub packedCount : Packer → ℕ
 packedCount p = 8 * p .at + p .count
 
--- less than four bytes are held, and no more than is counted
+-- less than four bytes are held
 abbrev pub WellHeld : Packer → Type 0
-WellHeld p = (p .count < 32) × (p .held < 2 ^ p .count)
+WellHeld p = p .count < 32
 
 -- so many bits more have room
 pub record HasRoom (sheet : List ℕ) (p : Packer) (more : ℕ) : Type 0 where

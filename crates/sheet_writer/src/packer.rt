@@ -8,12 +8,16 @@ ghost use Rattle.bits.specs.Bits.{byteCount, bytesOf};
 ghost use Rattle.sheet_writer.specs.Parts.{fieldFrom};
 ghost use Rattle.sheet_writer.specs.Packer.{packedSoFar, packedCount, WellHeld, HasRoom, Packs, wordBytes};
 
-// The last `count` bits of `held` are not out yet, and go to the byte of index `at`.
+// The last `count` bits of `held` are not out yet, and go to the byte of index `at`. Those before them are of no account: they are shifted
+// out in time.
 pub(crate) struct Packer {
     pub(crate) held: u64,
     pub(crate) count: u32,
     pub(crate) at: usize,
 }
+
+// 2 to the bits of four bytes.
+const WORDS: u64 = 4_294_967_296;
 
 fn power_of_two(exponent: u32) -> u64
     requires { ⌜ exponent ≤ 32 ⌝ }
@@ -40,7 +44,7 @@ pub(crate) fn put(sheet: &mut [u8], packer: Packer, width: u32, value: u32) -> P
 {
     let power = power_of_two(width);
     let field = value as u64 % power;
-    let held = packer.held * power + field;
+    let held = (packer.held << width) + field;
     let count = packer.count + width;
     let at = packer.at;
     if count < 32 {
@@ -48,9 +52,9 @@ pub(crate) fn put(sheet: &mut [u8], packer: Packer, width: u32, value: u32) -> P
     }
     let left = count - 32;
     let below = power_of_two(left);
-    put_word(sheet, at, (held / below) as u32);
+    put_word(sheet, at, (held / below % WORDS) as u32);
     Packer {
-        held: held % below,
+        held,
         count: left,
         at: at + 4,
     }
@@ -62,7 +66,7 @@ pub(crate) fn finish(sheet: &mut [u8], packer: Packer)
     requires { ⌜ byteCount (packedCount packer) ≡ length (now sheet) ⌝ }
     ensures { λ _. ⌜ now (sheet .exit) ≡ bytesOf (packedSoFar (now (sheet .entry)) packer) ⌝ }
 {
-    let mut rest = packer.held * power_of_two(32 - packer.count);
+    let mut rest = packer.held % power_of_two(packer.count) * power_of_two(32 - packer.count);
     let mut at = packer.at;
     while at < sheet.len() {
         sheet[at] = (rest / 16_777_216) as u8;

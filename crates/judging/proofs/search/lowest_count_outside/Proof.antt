@@ -44,10 +44,9 @@ lowest-count-outside-spec =
     μ-loop
     (λ c. (omega arith, none-asked _))
     (λ c. search needs)
+    (λ c. omega arith)
     (λ c κs. tt)
-    (λ c. omega arith)
     returns
-    (λ c. omega arith)
     (λ c. omega arith)
     loop-again
     returns-2)

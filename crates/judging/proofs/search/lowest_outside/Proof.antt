@@ -45,10 +45,9 @@ lowest-outside-spec =
     (λ c. (omega arith, none-asked _))
     (λ c. search needs)
     (λ c. omega arith)
+    (λ c. omega arith)
     (λ c κs. tt)
-    (λ c. omega arith)
     returns
-    (λ c. omega arith)
     (λ c. omega arith)
     loop-again
     returns-2)

@@ -40,7 +40,7 @@ tested c =
     let start = c .before .before .before .before .before .before in
     let angles = start .args .angles .now in
     let passed = c .before .before .before .before .loop .passed in
-    let correction = c .before .before .signed-at in
+    let correction = c .before .signed-at in
     ap isOutside (getD-listed (length angles) (λ i. pos (getD angles i 0) +ℤ getD (start .args .corrections .now) i (pos 0)) passed (pos 0) (omega arith))
     ∙ ap (λ (z : ℤ). isOutside (pos (getD angles passed 0) +ℤ z))
     (sym (toZ-ofZ w32 (correction .result) (record { sfits = correction .ok }) ∙ correction .ensures))
@@ -74,13 +74,12 @@ lowest-result-outside-spec =
     Inv-loop
     μ-loop
     (λ c. (omega arith, none-asked _))
-    (λ c κs. tt)
     (λ c. search needs)
     (λ c. omega arith)
     (λ c κs. tt)
     (λ c. omega arith)
+    (λ c κs. tt)
     returns
-    (λ c. omega arith)
     (λ c. omega arith)
     loop-again
     returns-2)

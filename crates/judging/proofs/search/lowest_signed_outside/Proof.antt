@@ -44,29 +44,13 @@ tested c =
     let args = c .before .before .before .before .args in
     let value = getD (args .values .now) (c .before .before .before .loop .passed) (pos 0) in
     ap (λ (z : ℤ). asked (outsideSigned (toZ w64 (ofZ w64 (args .least))) (toZ w64 (ofZ w64 (args .most))) z))
-    (sym (widened w32 w64 value tt (record { sfits = c .before .is-signed-outside-arg .given })))
+    (sym (widened w32 w64 value tt (record { sfits = c .before .value .given })))
     ∙ sym (c .is-signed-outside .ensures)
 
-loop-holds : tie.Need-loop-holds Inv-loop μ-loop
-loop-holds c = (omega arith, none-asked _)
-
-mul-is-signed-outside : tie.Need-mul-is-signed-outside Inv-loop μ-loop
-mul-is-signed-outside c = search needs
-
-shared-slice-copy-out-is-signed-outside :
-    tie.Need-shared-slice-copy-out-is-signed-outside Inv-loop μ-loop
-shared-slice-copy-out-is-signed-outside c = omega arith
-
-cast-is-signed-outside : tie.Need-cast-is-signed-outside Inv-loop μ-loop
-cast-is-signed-outside c =
+cast-value : tie.Need-cast-value Inv-loop μ-loop
+cast-value c =
     widens w32 w64 (getD (c .before .before .before .args .values .now) (c .before .before .loop .passed) (pos 0)) tt
-    (record { sfits = c .is-signed-outside-arg .given })
-
-is-signed-outside-requires : tie.Need-is-signed-outside-requires Inv-loop μ-loop
-is-signed-outside-requires c κs = search needs
-
-add-t11 : tie.Need-add-t11 Inv-loop μ-loop
-add-t11 c = omega arith
+    (record { sfits = c .value .given })
 
 returns : tie.Need-returns Inv-loop μ-loop
 returns c =
@@ -74,12 +58,6 @@ returns c =
     let start = c .before .before .before .before .before in
     one-fails _ (at .passed) _ (at .inv .1) (tested (c .before) ∙ c .if1 .taken) (omega arith)
     ∙ read-back _ _ _ _ (start .fits .least) (start .fits .most)
-
-add-passed : tie.Need-add-passed Inv-loop μ-loop
-add-passed c = omega arith
-
-loop-less : tie.Need-loop-less Inv-loop μ-loop
-loop-less c = omega arith
 
 loop-again : tie.Need-loop-again Inv-loop μ-loop
 loop-again c =
@@ -98,14 +76,13 @@ lowest-signed-outside-spec =
     (tie.spec
     Inv-loop
     μ-loop
-    loop-holds
-    mul-is-signed-outside
-    shared-slice-copy-out-is-signed-outside
-    cast-is-signed-outside
-    is-signed-outside-requires
-    add-t11
+    (λ c. (omega arith, none-asked _))
+    (λ c. search needs)
+    (λ c. omega arith)
+    cast-value
+    (λ c. omega arith)
+    (λ c κs. tt)
     returns
-    add-passed
-    loop-less
+    (λ c. omega arith)
     loop-again
     returns-2)

@@ -28,40 +28,41 @@ rest kind f s b z = rw (b, z)
 
 -- what was read there is the filling
 found : (c : tie.After-field)
-    → (let a = c .before .before .before .before .args in c .field .result ≡ fieldAt (a .sheet .now) (bitCount (a .kind) (a .figure)) (fillingWidth (bitCount (a .kind) (a .figure))))
+    → (let a = c .before .before .before .args in c .field .result ≡ fieldAt (a .sheet .now) (bitCount (a .kind) (a .figure)) (fillingWidth (bitCount (a .kind) (a .figure))))
 found c =
-    let a = c .before .before .before .before .args in
-    c .field .ensures ∙ rest (a .kind) (a .figure) (a .sheet .now) (c .before .before .bit-count .ensures) (c .before .sheet-size .ensures)
+    let start = c .before .before .before in
+    let a = start .args in
+    c .field .ensures ∙ rest (a .kind) (a .figure) (a .sheet .now) (c .before .bit-count .ensures) (start .pre)
 
 bit-count-requires : tie.Need-bit-count-requires
 bit-count-requires c κs = search needs
 
-sheet-size-requires : tie.Need-sheet-size-requires
-sheet-size-requires c κs = search needs
-
 mul-left : tie.Need-mul-left
 mul-left c =
-    let a = c .before .before .before .args in
-    omega (arith, few-bits (a .kind) (a .figure), bits-nearly (a .kind) (a .figure), c .sheet-size .ensures)
+    let start = c .before .before in
+    let a = start .args in
+    omega (arith, few-bits (a .kind) (a .figure), bits-nearly (a .kind) (a .figure), start .pre)
 
 sub-left : tie.Need-sub-left
 sub-left c =
-    let a = c .before .before .before .args in
-    omega (arith, bits-within (a .kind) (a .figure), c .sheet-size .ensures, c .before .bit-count .ensures)
+    let start = c .before .before in
+    let a = start .args in
+    omega (arith, bits-within (a .kind) (a .figure), start .pre, c .bit-count .ensures)
 
 cast-field : tie.Need-cast-field
 cast-field c =
-    let a = c .before .before .before .args in
-    omega (arith, bits-nearly (a .kind) (a .figure), c .sheet-size .ensures, c .before .bit-count .ensures)
+    let start = c .before .before in
+    let a = start .args in
+    omega (arith, bits-nearly (a .kind) (a .figure), start .pre, c .bit-count .ensures)
 
 field-requires : tie.Need-field-requires
 field-requires c κs = search needs
 
 -- the row's question is whether the filling is not 0
 asked-so : (c : tie.After-field) (t : Bool) → not (eqb (c .field .result) 0) ≡ t
-    → (let a = c .before .before .before .before .args in failsIf t Refusal.FillingBitSet ≡ verdictOf (fillingRow (fillingBits (a .kind) (a .figure) (a .sheet .now))))
+    → (let a = c .before .before .before .args in failsIf t Refusal.FillingBitSet ≡ verdictOf (fillingRow (fillingBits (a .kind) (a .figure) (a .sheet .now))))
 asked-so c t e =
-    let start = c .before .before .before .before in
+    let start = c .before .before .before in
     let a = start .args in
     sym (ap (λ (b : Bool). failsIf b Refusal.FillingBitSet)
     (filling-asked (a .kind) (a .figure) (a .sheet .now) (start .pre) ∙ ap (λ (n : ℕ). not (eqb n 0)) (sym (found c)) ∙ e))
@@ -77,7 +78,6 @@ filling-verdict-spec =
     tie.close
     (tie.spec
     bit-count-requires
-    sheet-size-requires
     mul-left
     sub-left
     cast-field

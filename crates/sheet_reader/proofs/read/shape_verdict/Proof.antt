@@ -7,9 +7,10 @@ use borrow.Author.Tests.{eq-eqb, ne-eqb}
 use lib.ListN.{length}
 use Rattle.refusals.specs.declared.Refusal.{Refusal}
 use Rattle.refusals.specs.declared.Verdict.{Verdict}
-use Rattle.refusals.specs.declared.Verdict.the-variants.{Failed}
+use Rattle.refusals.specs.declared.Verdict.the-variants.{Passed, Failed}
 use Rattle.refusals.specs.Order.{answerOf, verdictOf, judged}
 use Rattle.refusals.specs.Table.{lengthsRow, fillingRow}
+use Rattle.refusals.proofs.Answers.{answer-of-one}
 use Rattle.figures.specs.declared.Figure.{Figure}
 use Rattle.sheet_layout.specs.declared.Kind.{Kind}
 use Rattle.sheet_layout.specs.declared.Lengths.{Lengths}
@@ -33,6 +34,16 @@ module _ (kind : Kind) (f : Figure) (s lent : List ℕ) where
       rw (eq-eqb (length s) (sheetSize kind f) size)
       (e ∙ ap₂ (λ (x y : Verdict). answerOf (x ∷ y ∷ []))
       (a ∙ ap (λ (l : Lengths). verdictOf (lengthsRow lent (l .angles ∷ l .rounds ∷ l .fixed ∷ l .«log_sines» ∷ l .differences ∷ l .«log_sides» ∷ []))) is) b)
+
+-- of two verdicts the first that fails is answered
+module _ {lengths : Verdict} (filling : Verdict) where
+  fails : {r : Refusal} → lengths ≡ Failed r → lengths ≡ answerOf (lengths ∷ filling ∷ [])
+  unfolding answerOf
+  fails e = e ∙ sym (ap (λ (v : Verdict). answerOf (v ∷ filling ∷ [])) e)
+
+  passes : lengths ≡ Passed → filling ≡ answerOf (lengths ∷ filling ∷ [])
+  unfolding answerOf
+  passes e = sym (ap (λ (v : Verdict). answerOf (v ∷ filling ∷ [])) e ∙ answer-of-one filling)
 
 sheet-size-requires : tie.Need-sheet-size-requires
 sheet-size-requires c κs = search needs
@@ -58,15 +69,27 @@ sized c = c .if1 .left ∙ c .before .sheet-size .ensures
 filling-verdict-requires : tie.Need-filling-verdict-requires
 filling-verdict-requires c κs = sized (c .before .before .before)
 
-first-to-fail-requires : tie.Need-first-to-fail-requires
-first-to-fail-requires c κs = search needs
+enum-told : tie.Need-enum-told
+enum-told c = search needs
+
+-- the three tests, from where the last of them is done
+told : (c : tie.After-filling-verdict) {verdict : Verdict}
+    → verdict ≡ answerOf (c .before .lengths-verdict .result ∷ c .filling-verdict .result ∷ [])
+    → let a = c .before .before .before .before .before .before .before .before .args in verdict ≡ judged (shapeRows (a .kind) (a .figure) (a .sheet .now) (a .lent .now))
+told c e =
+    let left = c .before .before .before .before in
+    let a = left .before .before .before .before .args in
+    right-size (a .kind) (a .figure) (a .sheet .now) (a .lent .now) (sized left) (c .before .before .before .lengths-of .ensures)
+    (c .before .lengths-verdict .ensures) (c .filling-verdict .ensures) e
 
 returns-2 : tie.Need-returns-2
-returns-2 c =
-    let left = c .before .before .before .before .before in
-    let a = left .before .before .before .before .args in
-    right-size (a .kind) (a .figure) (a .sheet .now) (a .lent .now) (sized left) (c .before .before .before .before .lengths-of .ensures)
-    (c .before .before .lengths-verdict .ensures) (c .before .filling-verdict .ensures) (c .first-to-fail .ensures)
+returns-2 c = told (c .before .before) (fails _ (c .enum-told .given .1))
+
+enum-told-2 : tie.Need-enum-told-2
+enum-told-2 c = search needs
+
+returns-3 : tie.Need-returns-3
+returns-3 c = told (c .before .before) (passes _ (c .enum-told2 .given .1))
 
 pub shape-verdict-spec : {M : Type 1} → statement M
 shape-verdict-spec =
@@ -78,5 +101,7 @@ shape-verdict-spec =
     slice-aggregate-lengths-verdict
     lengths-verdict-requires
     filling-verdict-requires
-    first-to-fail-requires
-    returns-2)
+    enum-told
+    returns-2
+    enum-told-2
+    returns-3)

@@ -4,21 +4,18 @@ use Rattle.sheet_reader.proofs.ColumnLaws.{angles-fit, angles-held}
 use Rattle.sheet_reader.proofs.values.angles_in.Statement.{statement}
 use Rattle.sheet_reader.proofs.values.angles_in.Tie as tie
 
-angle-column-requires : tie.Need-angle-column-requires
-angle-column-requires c κs = search needs
-
-lengths-of-requires : tie.Need-lengths-of-requires
-lengths-of-requires c κs = search needs
-
-column-values-requires : tie.Need-column-values-requires
-column-values-requires c κs =
-    let a = c .before .before .before .args in
-    angles-fit (a .kind) (a .figure) (c .lengths-of .ensures) (c .before .angle-column .ensures)
+take-column-requires : tie.Need-take-column-requires
+take-column-requires c κs =
+    let start = c .before .before .before .before in
+    angles-fit (start .args .kind) (start .args .figure) (start .pre) (c .before .angle-column .ensures)
 
 returns : tie.Need-returns
 returns c =
-    let a = c .before .before .before .before .args in
-    angles-held (a .kind) (a .figure) (c .before .lengths-of .ensures) (a .sheet .now) _ (c .before .before .angle-column .ensures) (c .column-values .ensures)
+    let at = c .before .before in
+    let column = at .before .before in
+    let start = column .before .before .before in
+    let a = start .args in
+    angles-held (a .kind) (a .figure) (a .sheet .now) _ (start .pre) (column .angle-column .ensures) (at .take-column .ensures)
 
 pub angles-in-spec : {M : Type 1} → statement M
-angles-in-spec = tie.close (tie.spec angle-column-requires lengths-of-requires column-values-requires returns)
+angles-in-spec = tie.close (tie.spec (λ c κs. search needs) take-column-requires (λ c. search needs) returns)

@@ -4,21 +4,18 @@ use Rattle.sheet_reader.proofs.ColumnLaws.{differences-fit, differences
 use Rattle.sheet_reader.proofs.values.differences_in.Statement.{statement}
 use Rattle.sheet_reader.proofs.values.differences_in.Tie as tie
 
-difference-column-requires : tie.Need-difference-column-requires
-difference-column-requires c κs = search needs
-
-lengths-of-requires : tie.Need-lengths-of-requires
-lengths-of-requires c κs = search needs
-
-signed-column-values-requires : tie.Need-signed-column-values-requires
-signed-column-values-requires c κs =
-    let a = c .before .before .before .args in
-    differences-fit (a .kind) (a .figure) (c .lengths-of .ensures) (c .before .difference-column .ensures)
+take-signed-column-requires : tie.Need-take-signed-column-requires
+take-signed-column-requires c κs =
+    let start = c .before .before .before in
+    differences-fit (start .args .kind) (start .args .figure) (start .pre) (c .before .difference-column .ensures)
 
 returns : tie.Need-returns
 returns c =
-    let a = c .before .before .before .before .args in
-    differences-held (a .kind) (a .figure) (c .before .lengths-of .ensures) (a .sheet .now) _ (c .before .before .difference-column .ensures) (c .signed-column-values .ensures)
+    let at = c .before in
+    let column = at .before .before in
+    let start = column .before .before in
+    let a = start .args in
+    differences-held (a .kind) (a .figure) (a .sheet .now) _ (start .pre) (column .difference-column .ensures) (at .take-signed-column .ensures)
 
 pub differences-in-spec : {M : Type 1} → statement M
-differences-in-spec = tie.close (tie.spec difference-column-requires lengths-of-requires signed-column-values-requires returns)
+differences-in-spec = tie.close (tie.spec (λ c κs. search needs) take-signed-column-requires (λ c. search needs) returns)

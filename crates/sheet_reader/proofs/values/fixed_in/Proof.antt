@@ -4,21 +4,18 @@ use Rattle.sheet_reader.proofs.ColumnLaws.{fixed-fit, fixed-held}
 use Rattle.sheet_reader.proofs.values.fixed_in.Statement.{statement}
 use Rattle.sheet_reader.proofs.values.fixed_in.Tie as tie
 
-fixed-column-requires : tie.Need-fixed-column-requires
-fixed-column-requires c κs = search needs
-
-lengths-of-requires : tie.Need-lengths-of-requires
-lengths-of-requires c κs = search needs
-
-column-values-requires : tie.Need-column-values-requires
-column-values-requires c κs =
-    let a = c .before .before .before .args in
-    fixed-fit (a .kind) (a .figure) (c .lengths-of .ensures) (c .before .fixed-column .ensures)
+take-column-requires : tie.Need-take-column-requires
+take-column-requires c κs =
+    let start = c .before .before .before .before in
+    fixed-fit (start .args .kind) (start .args .figure) (start .pre) (c .before .fixed-column .ensures)
 
 returns : tie.Need-returns
 returns c =
-    let a = c .before .before .before .before .args in
-    fixed-held (a .kind) (a .figure) (c .before .lengths-of .ensures) (a .sheet .now) _ (c .before .before .fixed-column .ensures) (c .column-values .ensures)
+    let at = c .before .before in
+    let column = at .before .before in
+    let start = column .before .before .before in
+    let a = start .args in
+    fixed-held (a .kind) (a .figure) (a .sheet .now) _ (start .pre) (column .fixed-column .ensures) (at .take-column .ensures)
 
 pub fixed-in-spec : {M : Type 1} → statement M
-fixed-in-spec = tie.close (tie.spec fixed-column-requires lengths-of-requires column-values-requires returns)
+fixed-in-spec = tie.close (tie.spec (λ c κs. search needs) take-column-requires (λ c. search needs) returns)

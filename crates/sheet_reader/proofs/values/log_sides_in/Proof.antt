@@ -1,24 +1,21 @@
--- `sheet_reader::values::log_sides_in` meets its contract: the column of log sides holds them.
+-- `sheet_reader::values::log_sides_in` meets its contract: the column of known log sides holds them.
 use borrow.Author.Needs.{needs}
 use Rattle.sheet_reader.proofs.ColumnLaws.{log-sides-fit, log-sides-held}
 use Rattle.sheet_reader.proofs.values.log_sides_in.Statement.{statement}
 use Rattle.sheet_reader.proofs.values.log_sides_in.Tie as tie
 
-log-side-column-requires : tie.Need-log-side-column-requires
-log-side-column-requires c κs = search needs
-
-lengths-of-requires : tie.Need-lengths-of-requires
-lengths-of-requires c κs = search needs
-
-column-values-requires : tie.Need-column-values-requires
-column-values-requires c κs =
-    let a = c .before .before .before .args in
-    log-sides-fit (a .kind) (a .figure) (c .lengths-of .ensures) (c .before .log-side-column .ensures)
+take-column-requires : tie.Need-take-column-requires
+take-column-requires c κs =
+    let start = c .before .before .before .before in
+    log-sides-fit (start .args .kind) (start .args .figure) (start .pre) (c .before .log-side-column .ensures)
 
 returns : tie.Need-returns
 returns c =
-    let a = c .before .before .before .before .args in
-    log-sides-held (a .kind) (a .figure) (c .before .lengths-of .ensures) (a .sheet .now) _ (c .before .before .log-side-column .ensures) (c .column-values .ensures)
+    let at = c .before .before in
+    let column = at .before .before in
+    let start = column .before .before .before in
+    let a = start .args in
+    log-sides-held (a .kind) (a .figure) (a .sheet .now) _ (start .pre) (column .log-side-column .ensures) (at .take-column .ensures)
 
 pub log-sides-in-spec : {M : Type 1} → statement M
-log-sides-in-spec = tie.close (tie.spec log-side-column-requires lengths-of-requires column-values-requires returns)
+log-sides-in-spec = tie.close (tie.spec (λ c κs. search needs) take-column-requires (λ c. search needs) returns)

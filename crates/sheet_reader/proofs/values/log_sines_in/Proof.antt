@@ -4,21 +4,18 @@ use Rattle.sheet_reader.proofs.ColumnLaws.{log-sines-fit, log-sines-hel
 use Rattle.sheet_reader.proofs.values.log_sines_in.Statement.{statement}
 use Rattle.sheet_reader.proofs.values.log_sines_in.Tie as tie
 
-log-sine-column-requires : tie.Need-log-sine-column-requires
-log-sine-column-requires c κs = search needs
-
-lengths-of-requires : tie.Need-lengths-of-requires
-lengths-of-requires c κs = search needs
-
-column-values-requires : tie.Need-column-values-requires
-column-values-requires c κs =
-    let a = c .before .before .before .args in
-    log-sines-fit (a .kind) (a .figure) (c .lengths-of .ensures) (c .before .log-sine-column .ensures)
+take-column-requires : tie.Need-take-column-requires
+take-column-requires c κs =
+    let start = c .before .before .before .before in
+    log-sines-fit (start .args .kind) (start .args .figure) (start .pre) (c .before .log-sine-column .ensures)
 
 returns : tie.Need-returns
 returns c =
-    let a = c .before .before .before .before .args in
-    log-sines-held (a .kind) (a .figure) (c .before .lengths-of .ensures) (a .sheet .now) _ (c .before .before .log-sine-column .ensures) (c .column-values .ensures)
+    let at = c .before .before in
+    let column = at .before .before in
+    let start = column .before .before .before in
+    let a = start .args in
+    log-sines-held (a .kind) (a .figure) (a .sheet .now) _ (start .pre) (column .log-sine-column .ensures) (at .take-column .ensures)
 
 pub log-sines-in-spec : {M : Type 1} → statement M
-log-sines-in-spec = tie.close (tie.spec log-sine-column-requires lengths-of-requires column-values-requires returns)
+log-sines-in-spec = tie.close (tie.spec (λ c κs. search needs) take-column-requires (λ c. search needs) returns)

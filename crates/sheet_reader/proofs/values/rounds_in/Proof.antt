@@ -1,26 +1,31 @@
 -- `sheet_reader::values::rounds_in` meets its contract: the column of rounds holds them, or there is one for each angle.
 use borrow.Author.Needs.{needs}
 use mathlib.Core.Path.{sym, _∙_}
-use Rattle.sheet_reader.proofs.ColumnLaws.{rounds-fit, rounds-wide, rounds-held, ones-read}
+use Rattle.sheet_reader.proofs.ColumnLaws.{rounds-fit, rounds-wide, rounds-held, ones-many, ones-read}
 use Rattle.sheet_reader.proofs.values.rounds_in.Statement.{statement}
 use Rattle.sheet_reader.proofs.values.rounds_in.Tie as tie
 
-byte-column-values-requires : tie.Need-byte-column-values-requires
-byte-column-values-requires c κs =
-    let a = c .before .before .before .before .before .args in
-    (rounds-fit (a .kind) (a .figure) (c .lengths-of .ensures) (c .before .rounds-column .ensures), rounds-wide (a .kind) (a .figure) (c .lengths-of .ensures) (c .before .rounds-column .ensures))
+take-byte-column-requires : tie.Need-take-byte-column-requires
+take-byte-column-requires c κs =
+    let start = c .before .before .before .before .before .before in
+    let a = start .args in
+    (rounds-fit (a .kind) (a .figure) (ones-many (a .figure) (start .pre)) (c .before .rounds-column .ensures), rounds-wide (a .kind) (a .figure) (c .before .rounds-column .ensures))
 
 returns : tie.Need-returns
 returns c =
-    let told = c .before .before .before in
-    let a = told .before .before .before .args in
-    rounds-held (a .kind) (a .figure) (c .before .lengths-of .ensures) (a .sheet .now) _ (sym (told .before .carries-rounds .ensures) ∙ told .if1 .taken)
-    (c .before .before .rounds-column .ensures) (c .byte-column-values .ensures)
+    let at = c .before .before in
+    let column = at .before .before in
+    let carried = column .before in
+    let start = carried .before .before .before .before in
+    let a = start .args in
+    rounds-held (a .kind) (a .figure) (a .sheet .now) _ (ones-many (a .figure) (start .pre)) (sym (carried .before .carries-rounds .ensures) ∙ carried .if1 .taken)
+    (column .rounds-column .ensures) (at .take-byte-column .ensures)
 
 returns-2 : tie.Need-returns-2
 returns-2 c =
-    let a = c .before .before .before .args in
-    ones-read (a .kind) (a .figure) (a .sheet .now) (sym (c .before .carries-rounds .ensures) ∙ c .if1 .left)
+    let start = c .before .before .before .before in
+    let a = start .args in
+    start .pre ∙ ones-read (a .kind) (a .figure) (a .sheet .now) (sym (c .before .carries-rounds .ensures) ∙ c .if1 .left)
 
 pub rounds-in-spec : {M : Type 1} → statement M
 rounds-in-spec =
@@ -28,7 +33,7 @@ rounds-in-spec =
     (tie.spec
     (λ c κs. search needs)
     (λ c κs. search needs)
-    (λ c κs. search needs)
-    byte-column-values-requires
+    take-byte-column-requires
+    (λ c. search needs)
     returns
     returns-2)

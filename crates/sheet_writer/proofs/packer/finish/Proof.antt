@@ -1,17 +1,18 @@
 -- `sheet_writer::packer::finish` meets its contract. The loop's invariant: the bytes that are out and the bits of `rest` are what was packed, with zero
 -- bits after it. The measure is how many bytes are left.
 use mathlib.Core.List.{List}
-use mathlib.Core.Path.{_≡_, sym, subst}
-use Prim.Native.Nat.{ℕ, _-_, _*_, _^_, _≤_, _<_}
+use mathlib.Core.Path.{_≡_, ap₂, subst}
+use Prim.Native.Nat.{ℕ, _-_, _*_, _%_, _^_, _≤_, _<_}
 use native.Mathlib.Omega.{arith}
 use borrow.Author.Needs.{needs}
 use denote.Ref.{now}
 use lib.ListN.{length}
+use lib.Pow.{pow-pos}
 use Rattle.bits.specs.Bits.{bytesOf}
 use Rattle.bits.proofs.Bytes.{AreBytes}
 use Rattle.sheet_writer.specs.declared.packer.Packer.{Packer}
 use Rattle.sheet_writer.specs.Packer.{packedSoFar}
-use Rattle.sheet_writer.proofs.PackerLaws.{Emptied, emptied-none, emptied-more, emptied-all, first-small, starts-within, product-fits}
+use Rattle.sheet_writer.proofs.PackerLaws.{Emptied, emptied-none, emptied-more, emptied-all, first-small, starts-within}
 use Rattle.sheet_writer.proofs.packer.finish.Statement.{statement}
 use Rattle.sheet_writer.proofs.packer.finish.Tie as tie
 
@@ -21,9 +22,9 @@ Inv-loop sheet₀ rest₀ at₀ sheet rest at = Emptied sheet₀ rest₀ at₀ s
 abbrev μ-loop : tie.MeasureT-loop
 μ-loop sheet₀ rest₀ at₀ sheet rest at = length sheet₀ - at
 
-module _ (c : tie.After-power-of-two Inv-loop μ-loop) where
+module _ (c : tie.After-power-of-two2 Inv-loop μ-loop) where
   abbrev start : tie.Start Inv-loop μ-loop
-  start = c .before .before .before
+  start = c .before .before .before .before .before
 
   abbrev sheet : List ℕ
   sheet = now (start .args .sheet)
@@ -31,31 +32,28 @@ module _ (c : tie.After-power-of-two Inv-loop μ-loop) where
   abbrev p : Packer
   p = start .args .packer
 
-  is : c .power-of-two .result ≡ 2 ^ (32 - p .count)
-  is = c .power-of-two .ensures
+  abbrev rest : ℕ
+  rest = p .held % c .before .before .before .power-of-two .result * c .power-of-two2 .result
+
+  -- what is held as 32 bits, by the powers that were computed
+  is : rest ≡ p .held % 2 ^ p .count * 2 ^ (32 - p .count)
+  is = ap₂ (λ (a b : ℕ). p .held % a * b) (c .before .before .before .power-of-two .ensures) (c .power-of-two2 .ensures)
+
+  small : rest < 2 ^ 32
+  small = rw is (first-small sheet p (start .pre .0) (start .pre .1))
 
   bytes : AreBytes sheet
-  bytes i = c .before .before .slice-known .given i .fits
+  bytes i = c .before .before .before .before .slice-known .given i .fits
 
-  -- what is held as 32 bits, by the power that was computed
-  begins : Emptied sheet (p .held * c .power-of-two .result) (p .at) sheet (p .held * c .power-of-two .result) (p .at)
-  begins =
-      emptied-none sheet (p .held * c .power-of-two .result) (p .at) bytes (starts-within sheet p (start .pre .0) (start .pre .1))
-      (subst (λ (n : ℕ). p .held * n < 2 ^ 32) (sym is) (first-small sheet p (start .pre .0) (start .pre .1)))
+  begins : Emptied sheet rest (p .at) sheet rest (p .at)
+  begins = emptied-none sheet rest (p .at) bytes (starts-within sheet p (start .pre .0) (start .pre .1)) small
 
-  ends : {exit : List ℕ} {rest at : ℕ} → Emptied sheet (p .held * c .power-of-two .result) (p .at) exit rest at → length exit ≤ at
-      → exit ≡ bytesOf (packedSoFar sheet p)
-  ends {exit} {rest} {at} h past =
-      emptied-all sheet p (start .pre .0) (start .pre .1)
-      (subst (λ (n : ℕ). Emptied sheet (p .held * n) (p .at) exit rest at) is h) past
-
-mul-rest : tie.Need-mul-rest Inv-loop μ-loop
-mul-rest c =
-    let m = c .before in
-    record { fits = product-fits (p m .held) (p m .count) (32 - p m .count) (start m .pre .0 .1) (start m .pre .0 .0) (omega arith) (is m) }
+  ends : {exit : List ℕ} {last at : ℕ} → Emptied sheet rest (p .at) exit last at → length exit ≤ at → exit ≡ bytesOf (packedSoFar sheet p)
+  ends {exit} {last} {at} h past =
+      emptied-all sheet p (start .pre .0) (start .pre .1) (subst (λ (n : ℕ). Emptied sheet n (p .at) exit last at) is h) past
 
 loop-holds : tie.Need-loop-holds Inv-loop μ-loop
-loop-holds c = begins (c .before)
+loop-holds c = begins c
 
 loop-again : tie.Need-loop-again Inv-loop μ-loop
 loop-again c = emptied-more _ _ _ (c .before .loop .inv) (omega arith)
@@ -64,7 +62,7 @@ same-length : tie.Need-same-length Inv-loop μ-loop
 same-length c = c .before .loop .inv .long
 
 returns : tie.Need-returns Inv-loop μ-loop
-returns c = ends (c .before .before .before) (c .before .loop .inv) (omega arith)
+returns c = ends (c .before .before) (c .before .loop .inv) (omega arith)
 
 pub finish-spec : {M : Type 1} → statement M
 finish-spec =
@@ -72,9 +70,11 @@ finish-spec =
     (tie.spec
     Inv-loop
     μ-loop
+    (λ c κs. omega (arith, c .before .pre .0))
+    (λ c. rw (c .before .power-of-two .ensures) (pow-pos _))
     (λ c. omega arith)
     (λ c κs. omega arith)
-    mul-rest
+    (λ c. record { fits = omega (arith, small c) })
     loop-holds
     (λ c. omega (arith, c .before .loop .inv .small))
     (λ c. omega arith)

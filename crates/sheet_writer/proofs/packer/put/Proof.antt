@@ -10,7 +10,7 @@ use lib.Pow.{pow-pos}
 use Rattle.sheet_writer.specs.declared.packer.Packer.{Packer}
 use Rattle.sheet_writer.specs.Packer.{packerFrom, Packs, wordBytes}
 use Rattle.sheet_writer.specs.Parts.{fieldFrom}
-use Rattle.sheet_writer.proofs.PackerLaws.{together, power-positive, product-fits, sum-is, sum-fits, word-fits, packs-held, packs-out}
+use Rattle.sheet_writer.proofs.PackerLaws.{together, together-fits, packs-held, packs-out}
 use Rattle.sheet_writer.proofs.packer.put.Statement.{statement}
 use Rattle.sheet_writer.proofs.packer.put.Tie as tie
 
@@ -31,33 +31,29 @@ module _ (c : tie.After-power-of-two) where
   all = together (p .held) width value
 
   few : p .count < 32
-  few = start .pre .0 .well .0
-
-  fits : p .held < 2 ^ p .count
-  fits = start .pre .0 .well .1
+  few = start .pre .0 .well
 
   narrow : width ≤ 32
   narrow = start .pre .1
 
-  is : c .power-of-two .result ≡ 2 ^ width
-  is = c .power-of-two .ensures
+  -- what was computed, by its definition
+  sum : p .held * 2 ^ width % 2 ^ 64 + value % c .power-of-two .result ≡ all
+  sum = ap (λ (n : ℕ). p .held * 2 ^ width % 2 ^ 64 + value % n) (c .power-of-two .ensures)
 
 rem-field : tie.Need-rem-field
-rem-field c = power-positive (p c .held) (p c .count) (width c) (fits c) (few c) (narrow c) (is c)
-
-mul-held : tie.Need-mul-held
-mul-held c = let m = c .before in record { fits = product-fits (p m .held) (p m .count) (width m) (fits m) (few m) (narrow m) (is m) }
+rem-field c = rw (c .power-of-two .ensures) (pow-pos (width c))
 
 add-held : tie.Need-add-held
-add-held c = let m = c .before in record { fits = sum-fits (p m .held) (p m .count) (width m) (fits m) (few m) (narrow m) (is m) (value m) }
+add-held c =
+    let m = c .before in
+    record { fits = subst (λ (n : ℕ). n < 2 ^ 64) (sym (sum m)) (together-fits (p m .held) (width m) (value m) (narrow m)) }
 
 returns : tie.Need-returns
 returns c =
     let m = c .before .before .before in
     let s = now (start m .args .sheet) in
-    subst (λ (h : ℕ). Packs s (p m) (fieldFrom (width m) (value m) ∷ []) s (packerFrom h (p m .count + width m) (p m .at)))
-    (sym (sum-is (p m .held) (p m .count) (width m) (fits m) (few m) (narrow m) (is m) (value m)))
-    (packs-held s (p m) (few m, fits m) (width m) (value m) (c .if1 .taken))
+    subst (λ (h : ℕ). Packs s (p m) (fieldFrom (width m) (value m) ∷ []) s (packerFrom h (p m .count + width m) (p m .at))) (sym (sum m))
+    (packs-held s (p m) (few m) (width m) (value m) (narrow m) (c .if1 .taken))
 
 -- where four bytes are filled
 module _ (c : tie.After-power-of-two2) where
@@ -70,32 +66,16 @@ module _ (c : tie.After-power-of-two2) where
   counts : p m .count + width m ≡ 32 + left
   counts = omega (arith, c .before .if1 .left)
 
-  -- what was computed, by its definition
-  sum : p m .held * m .power-of-two .result + value m % m .power-of-two .result ≡ all m
-  sum = sum-is (p m .held) (p m .count) (width m) (fits m) (few m) (narrow m) (is m) (value m)
-
-  below : c .power-of-two2 .result ≡ 2 ^ left
-  below = c .power-of-two2 .ensures
-
-  word : (p m .held * m .power-of-two .result + value m % m .power-of-two .result) / c .power-of-two2 .result ≡ all m / 2 ^ left
-  word = ap₂ _/_ sum below
-
-  word-small : all m / 2 ^ left < 2 ^ 32
-  word-small = word-fits (p m .held) (p m .count) (width m) (value m) left (fits m) counts
+  word : (p m .held * 2 ^ width m % 2 ^ 64 + value m % m .power-of-two .result) / c .power-of-two2 .result ≡ all m / 2 ^ left
+  word = ap₂ _/_ (sum m) (c .power-of-two2 .ensures)
 
 div-put-word : tie.Need-div-put-word
-div-put-word c = rw (below (c .before)) (pow-pos _)
-
-cast-put-word : tie.Need-cast-put-word
-cast-put-word c = record { fits = subst (λ (n : ℕ). n < 2 ^ 32) (sym (word (c .before))) (word-small (c .before)) }
+div-put-word c = rw (c .before .power-of-two2 .ensures) (pow-pos _)
 
 put-word-requires : tie.Need-put-word-requires
 put-word-requires c κs =
     let w = c .before in
     omega (arith, start (m w) .pre .0 .enough, w .before .if1 .left)
-
-rem-t12 : tie.Need-rem-t12
-rem-t12 c = rw (below (c .before .before .before .before)) (pow-pos _)
 
 returns-2 : tie.Need-returns-2
 returns-2 c =
@@ -103,9 +83,9 @@ returns-2 c =
     let s = now (start (m w) .args .sheet) in
     let at = p (m w) .at in
     subst (λ (h : ℕ). Packs s (p (m w)) (fieldFrom (width (m w)) (value (m w)) ∷ []) (c .before .before .put-word .last .0) (packerFrom h (left w) (at + 4)))
-    (sym (ap₂ _%_ (sum w) (below w)))
-    (packs-out s (p (m w)) (few (m w), fits (m w)) (width (m w)) (value (m w)) (left w) (counts w) (omega (arith, few (m w), narrow (m w))) (word-small w)
-    (c .before .before .put-word .ensures ∙ ap (λ (n : ℕ). take at s ++ wordBytes n) (word w)))
+    (sym (sum (m w)))
+    (packs-out s (p (m w)) (few (m w)) (width (m w)) (value (m w)) (narrow (m w)) (left w) (counts w) (omega (arith, few (m w), narrow (m w)))
+    (c .before .before .put-word .ensures ∙ ap (λ (n : ℕ). take at s ++ wordBytes (n % 2 ^ 32)) (word w)))
 
 pub put-spec : {M : Type 1} → statement M
 put-spec =
@@ -113,15 +93,14 @@ put-spec =
     (tie.spec
     (λ c κs. search needs)
     rem-field
-    mul-held
+    (λ c. search needs)
     add-held
     (λ c. search needs)
     returns
     (λ c κs. omega arith)
     div-put-word
-    cast-put-word
+    (λ c. search needs)
     put-word-requires
-    rem-t12
     (λ c. omega arith)
     (λ c. search needs)
     returns-2)

@@ -17,7 +17,7 @@ use Rattle.sheet_writer.proofs.write.put_head.Tie as tie
 after-kind : (c : tie.After-put) → HasRoom (c .put .last .0) (c .put .result) 8
 after-kind c =
     room-after-one 4 _ 8 (c .put .ensures) (c .put .kept .0)
-    (record { well = (omega arith, omega arith); enough = omega (arith, c .before .before .before .before .before .pre) })
+    (record { well = omega arith; enough = omega (arith, c .before .before .before .before .before .pre) })
 
 after-code : (c : tie.After-put2) → HasRoom (c .put2 .last .0) (c .put2 .result) 4
 after-code c = room-after-one 4 _ 4 (c .put2 .ensures) (c .put2 .kept .0) (after-kind (c .before .before .before .before))

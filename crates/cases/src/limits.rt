@@ -1,5 +1,5 @@
-// Document 02, M-102: what L = 0 stands for, in a sheet of each kind for the first pass and where the pass is called directly. The sheets' texts are those of
-// the independent computation.
+// Document 02, M-102: what L = 0 stands for, in a sheet of each kind for the first pass and where the pass is called directly. The
+// sheets' texts are those of the independent computation.
 ghost use Prim.Native.Nat.{_≤_};
 use crate::comparing::tell;
 use crate::comparing::tell_sheet;

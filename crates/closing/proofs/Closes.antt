@@ -1,5 +1,6 @@
--- The choice is the whole tenth just below or just above the exact correction, a whole value stays, and every rest is 0: once over the figure. In each condition
--- every angle ends where the next begins, up to a multiple of D: one test over the rows, which antt computes for all figures. Assumes nothing.
+-- The choice is the whole tenth just below or just above the exact correction, a whole value stays, and every rest is 0: once over the
+-- figure. In each condition every angle ends where the next begins, up to a multiple of D: one test over the rows, which antt computes
+-- for all figures. Assumes nothing.
 use Prim.Native.Nat.{ℕ, zero, suc, _+_, _-_, _<_}
 use mathlib.Core.Bool.{Bool, true, false, _&&_}
 use mathlib.Core.List.{List, [], _∷_}

@@ -1,5 +1,5 @@
--- Division downwards and upwards: a number is its quotient times d and what is left over, in one way; what is between the two quotients is one of them.
--- Assumes nothing.
+-- Division downwards and upwards: a number is its quotient times d and what is left over, in one way; what is between the two quotients
+-- is one of them. Assumes nothing.
 use Prim.Native.Nat.{ℕ, zero, suc, _+_, _-_, _*_, _/_, _%_, _≤_, _<_}
 use mathlib.Core.Logic.{_⊎_, inl, inr, ⊎-elim}
 use mathlib.Core.Path.{_≡_, refl, sym, ap, ap₂, subst, _∙_}

@@ -1,5 +1,5 @@
--- The orders of the two operations: they refuse exactly where the first pass does, never with 15 our own, and the check with 15 after that. Assumes
--- nothing.
+-- The orders of the two operations: they refuse exactly where the first pass does, never with 15 our own, and the check with 15 after
+-- that. Assumes nothing.
 use Prim.Native.Nat.{ℕ}
 use mathlib.Core.Bool.{Bool, not}
 use mathlib.Core.List.{List, [], _∷_}

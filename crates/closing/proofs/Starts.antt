@@ -1,5 +1,5 @@
--- Where angles start: the number of the angle at whose end one starts, by its index, for each family of figures; and sums along the way to it. One
--- computed test each. Assumes nothing.
+-- Where angles start: the number of the angle at whose end one starts, by its index, for each family of figures; and sums along the way
+-- to it. One computed test each. Assumes nothing.
 use Prim.Native.Nat.{ℕ, zero, suc, _+_, _-_, _*_, _%_, _≤_, _<_, zero-le}
 use mathlib.Core.Bool.{Bool, true, false, cond, not, _||_}
 use mathlib.Core.List.{List}

@@ -1,6 +1,6 @@
--- Which whole tenth is chosen for each angle: document 02, M-104. An angle is the difference of two directions. A figure's angles are laid off one from
--- another, the exact corrections with them, and the directions are rounded downwards, not the angles. Angles and conditions by their index, counted from 0,
--- but for `startsAt`, which has the numbers of the figure.
+-- Which whole tenth is chosen for each angle: document 02, M-104. An angle is the difference of two directions. A figure's angles are
+-- laid off one from another, the exact corrections with them, and the directions are rounded downwards, not the angles. Angles and
+-- conditions by their index, counted from 0, but for `startsAt`, which has the numbers of the figure.
 use Prim.Native.Nat.{ℕ, zero, suc, _-_}
 use mathlib.Core.List.{List, [], _∷_}
 use lib.IntN.{ℤ, _-ℤ_}
@@ -18,11 +18,13 @@ use Rattle.closing.specs.Floor.{floorQuotient}
 abbrev pub oneAfterAnother : (count : ℕ) → List ℕ
 oneAfterAnother count = eachOf count (λ i. (i - 1) ∷ [])
 
--- code 2: of each triangle the last angle starts at the first direction, the angle at the inner point at its end, the second at the end of that
+-- code 2: of each triangle the last angle starts at the first direction, the angle at the inner point at its end, the second at the end
+-- of that
 abbrev pub fromTheCorners : (n : ℕ) → List ℕ
 fromTheCorners n = eachOf n (λ i. right i ∷ inner i ∷ 0 ∷ [])
 
--- code 3: the angles at the inner point one after another; of each triangle the second angle starts at the end of that, and the last at its end
+-- code 3: the angles at the inner point one after another; of each triangle the second angle starts at the end of that, and the last at
+-- its end
 abbrev pub roundThePoint : (n : ℕ) → List ℕ
 roundThePoint n = eachOf n (λ i. inner (i - 1) ∷ inner i ∷ left i ∷ [])
 

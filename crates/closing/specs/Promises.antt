@@ -1,5 +1,5 @@
--- What the two operations promise: document 02, M-104. "Our own operation refuses exactly where the first pass does, by the same number (7 by ordinary
--- rounding), never 15; so does the check, before 15."
+-- What the two operations promise: document 02, M-104. "Our own operation refuses exactly where the first pass does, by the same number
+-- (7 by ordinary rounding), never 15; so does the check, before 15."
 use Prim.Native.Nat.{ℕ}
 use mathlib.Core.List.{List, [], _∷_, _++_}
 use mathlib.Core.Path.{_≡_}

@@ -1,5 +1,6 @@
--- The two rules of document 02, M-104, and what the first pass says. First rule: each correction is the whole tenth just below or just above the exact
--- one, numerator / D; a whole value stays, being both. Second rule: every rest is 0. Angles and conditions by their index, counted from 0.
+-- The two rules of document 02, M-104, and what the first pass says. First rule: each correction is the whole tenth just below or just
+-- above the exact one, numerator / D; a whole value stays, being both. Second rule: every rest is 0. Angles and conditions by their
+-- index, counted from 0.
 use Prim.Native.Nat.{ℕ, _<_}
 use mathlib.Core.List.{List, _∷_}
 use mathlib.Core.Logic.{_⊎_}

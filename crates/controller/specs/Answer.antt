@@ -1,5 +1,5 @@
--- How an operation answers C: one number, 0 for done, else number × 256 + place (document 01, "Numbers given when a sheet is turned back"). No place
--- that is answered reaches 256, so number and place can be taken apart again.
+-- How an operation answers C: one number, 0 for done, else number × 256 + place (document 01, "Numbers given when a sheet is turned
+-- back"). No place that is answered reaches 256, so number and place can be taken apart again.
 use Prim.Native.Nat.{ℕ, _+_, _*_, _/_, _%_}
 use mathlib.Core.Bool.{cond}
 use mathlib.Core.List.{List, []}

@@ -1,5 +1,6 @@
-// The operations of the crates below for C, as a survey controller links them: slices lent as a pointer and a count, every answer one number
-// (specs/Answer.antt). What a slice must be is the caller's to keep: the pointer valid for its count, and no two lent slices overlapping.
+// The operations of the crates below for C, as a survey controller links them: slices lent as a pointer and a count, every answer one
+// number (specs/Answer.antt). What a slice must be is the caller's to keep: the pointer valid for its count, and no two lent slices
+// overlapping.
 mod answer;
 mod look;
 mod read;

@@ -1,5 +1,5 @@
--- Both passes together: of any numbers that are rows applied to misclosures and of what an accepted second pass stores; of the calls, and of the
--- same for C. Assumes nothing.
+-- Both passes together: of any numbers that are rows applied to misclosures and of what an accepted second pass stores; of the calls, and
+-- of the same for C. Assumes nothing.
 use Prim.Native.Nat.{ℕ, _<_}
 use mathlib.Core.Path.{_≡_, refl, sym, ap, ap₂, subst, _∙_}
 use native.Mathlib.Nat.{mul-pos}

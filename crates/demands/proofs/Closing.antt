@@ -1,5 +1,5 @@
--- Demand 3 of any numbers that are rows applied to misclosures, of an accepted first pass of code 2, and of any numbers that are the second pass's
--- numerators; and what an accepted second pass answers and stores. Assumes nothing.
+-- Demand 3 of any numbers that are rows applied to misclosures, of an accepted first pass of code 2, and of any numbers that are the
+-- second pass's numerators; and what an accepted second pass answers and stores. Assumes nothing.
 use Prim.Native.Nat.{ℕ, _<_}
 use mathlib.Core.List.{List, _∷_}
 use mathlib.Core.Path.{_≡_, refl, sym, ap, subst, _∙_}

@@ -1,9 +1,9 @@
--- Document 02, M-107, both passes together. "Among all corrections over one common denominator that cancel the linear misclosures and change
--- each linearised sine sum as ours do, none has a smaller sum of squares than the exact first plus exact second corrections, and only they
--- reach it. Premises: both passes accepted, the second on the first's corrected angles, before rounding."
+-- Document 02, M-107, both passes together. "Among all corrections over one common denominator that cancel the linear misclosures and
+-- change each linearised sine sum as ours do, none has a smaller sum of squares than the exact first plus exact second corrections, and
+-- only they reach it. Premises: both passes accepted, the second on the first's corrected angles, before rounding."
 --
--- Said of the misclosures and numerators that stand in the lent slices, as demand 3 is. Ours are first numerator / D + second numerator / S,
--- where S is the determinant for a figure with two sine conditions; in whole numbers, both sides are multiplied by the denominators.
+-- Said of the misclosures and numerators that stand in the lent slices, as demand 3 is. Ours are first numerator / D + second numerator /
+-- S, where S is the determinant for a figure with two sine conditions; in whole numbers, both sides are multiplied by the denominators.
 use Prim.Native.Nat.{ℕ, _*_, _<_}
 use mathlib.Core.Bool.{true}
 use mathlib.Core.List.{List}
@@ -68,8 +68,8 @@ pub record BothTogether (f : Figure) (differences : List ℤ) (misclosures first
       → sineChange f (side f) differences (firstPlusSecond f S first second)
       ≡ pos S *ℤ sineChange f (side f) differences first -ℤ pos 100 *ℤ sideW *ℤ pos (commonDenominator f S)
 
--- ---- the passes: of one figure, "both accepted, the second on the first's corrected angles". S or the determinant is answered as two words;
--- it is above 0, and so its own magnitude
+-- ---- the passes: of one figure, "both accepted, the second on the first's corrected angles". S or the determinant is answered as two
+-- words; it is above 0, and so its own magnitude
 
 abbrev pub BothPasses : Type 0
 BothPasses =

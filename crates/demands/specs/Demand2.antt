@@ -105,8 +105,8 @@ products f a b = dot (angleCount f) a b
 abbrev pub determinantOf : Figure → (a b : ℕ → ℤ) → ℤ
 determinantOf f a b = products f a a *ℤ products f b b -ℤ products f a b *ℤ products f a b
 
--- "the exact correction in tenths is −2400 times (A·([BB]·Wa − [AB]·Wb) + B·([AA]·Wb − [AB]·Wa)) over the determinant": its numerator,
--- where 2400 is 100·D
+-- "the exact correction in tenths is −2400 times (A·([BB]·Wa − [AB]·Wb) + B·([AA]·Wb − [AB]·Wa)) over the determinant": its
+-- numerator, where 2400 is 100·D
 abbrev pub exactOfTwo : Figure → (a b : ℕ → ℤ) → (wa wb : ℤ) → ℕ → ℤ
 exactOfTwo f a b wa wb i =
     negℤ (pos 100) *ℤ pos (denominator f)

@@ -1,10 +1,10 @@
 -- What is printed. The complaint that began this work: a controller printed corrections that did not cancel the misclosures above them.
 -- Here the numbers are read off the lines of the text of any bytes, as a person reads them, and nothing else is known of them.
 --
--- A line's parts are counted from 0: of a first pass, `figure 1 0 denominator 8`; `1 1620004 -12 -2 1620002 1`; `condition 1 4 0`. Of a second,
--- `figure 1 0 W 100 S 24315176`; `1 1620000 2049 -163920000 -7 1619993 1`; `condition 1 0`; with two sine conditions, M-100,
--- `figure 2 4 W 5 -3 determinant 7`, and on an angle's line B stands after A. An angle's line ends in its rounds, M-106. The line of angle i,
--- counted from 0, is line 1 + i, that of condition j follows the angles' lines.
+-- A line's parts are counted from 0: of a first pass, `figure 1 0 denominator 8`; `1 1620004 -12 -2 1620002 1`; `condition 1 4 0`. Of a
+-- second, `figure 1 0 W 100 S 24315176`; `1 1620000 2049 -163920000 -7 1619993 1`; `condition 1 0`; with two sine conditions, M-100,
+-- `figure 2 4 W 5 -3 determinant 7`, and on an angle's line B stands after A. An angle's line ends in its rounds, M-106. The line of
+-- angle i, counted from 0, is line 1 + i, that of condition j follows the angles' lines.
 use Prim.Native.Nat.{ℕ, suc, _+_, _<_}
 use mathlib.Core.Bool.{Bool, true, false}
 use mathlib.Core.List.{List, [], _∷_}
@@ -63,8 +63,8 @@ pub record FirstPage (f : Figure) (rounds : List ℕ) (text : List ℕ) : Type 0
   -- the line ends in the angle's rounds (M-106)
   pub rounds-last : (i : ℕ) → i < angleCount f → ofAngle text 5 i ≡ pos (getD rounds i 0)
 
--- a text of a second pass: what every one says, whose numerators stand in a place of the angles' lines, the rounded corrections after them, then
--- the results, and the rounds last
+-- a text of a second pass: what every one says, whose numerators stand in a place of the angles' lines, the rounded corrections after
+-- them, then the results, and the rounds last
 pub record SecondPageFrom (f : Figure) (rounds : List ℕ) (text : List ℕ) (place : ℕ) : Type 0 where
   pub names : Names f text
   pub w-word : part text 0 3 ≡ wWord

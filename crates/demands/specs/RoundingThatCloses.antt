@@ -1,7 +1,7 @@
 -- Document 02, M-104, a rounding that closes. "Add an operation that chooses, for each angle, the whole tenth just below or just above its
--- exact first correction (a whole value stays), so that every rest is 0. A small check accepts any offered choice exactly if both rules hold;
--- another gets 15, place 0. Show that for every figure so far such a choice exists: our own operation refuses exactly where the first pass
--- does, by the same number (7 by ordinary rounding), never 15; so does the check, before 15."
+-- exact first correction (a whole value stays), so that every rest is 0. A small check accepts any offered choice exactly if both rules
+-- hold; another gets 15, place 0. Show that for every figure so far such a choice exists: our own operation refuses exactly where the
+-- first pass does, by the same number (7 by ordinary rounding), never 15; so does the check, before 15."
 --
 -- Said of the misclosures and numerators that stand in the slices of a first pass of the same sheet; the exact first correction is
 -- numerator / D. `Fitting` (closing/specs/Promises.antt): what is lent to both has the lengths of the figure that is named, else number 2

@@ -1,6 +1,6 @@
-// Code 3: the central polygons of document 01 with 3 to 8 triangles. The rows are those of document 01 over 6n, filled with 0 past the figure's
-// conditions and angles: c of triangle i has −2n·w(i) + 2T − 6h, its l and r have −2n·w(i) − T + 3h. The definition that each table is proved
-// to equal has this rule for every n; that they are equal is computed.
+// Code 3: the central polygons of document 01 with 3 to 8 triangles. The rows are those of document 01 over 6n, filled with 0 past the
+// figure's conditions and angles: c of triangle i has −2n·w(i) + 2T − 6h, its l and r have −2n·w(i) − T + 3h. The definition
+// that each table is proved to equal has this rule for every n; that they are equal is computed.
 ghost use mathlib.Core.Path.{_≡_};
 ghost use Rattle.figures.specs.Figure.{countsFrom, countsOf};
 ghost use Rattle.figures.specs.Numerators.{paddedRows};

@@ -1,5 +1,5 @@
--- Both passes together (document 02, M-107), of every figure: first numerators over D, of misclosures w, and second numerators over any S that change no
--- condition. What cancels w too, and changes every sine sum as they do, has no smaller sum of squares. Assumes nothing.
+-- Both passes together (document 02, M-107), of every figure: first numerators over D, of misclosures w, and second numerators over any S
+-- that change no condition. What cancels w too, and changes every sine sum as they do, has no smaller sum of squares. Assumes nothing.
 use mathlib.Core.Path.{_≡_, sym, ap, ap₂, _∙_}
 use Prim.Native.Nat.{ℕ, _<_}
 use lib.IntN.{ℤ, pos, negℤ, _+ℤ_, _*ℤ_, *ℤ-zero}

@@ -25,7 +25,8 @@ joined (m ∷ others) i = identity m (suc i) +ℤ joined others i
 unfoldable pub membership : Description → ℕ → ℕ → ℤ
 membership d j i = joined (getD (map (λ (c : Condition). c .angles) (d .conditions)) j []) i
 
--- ---- the correlates K: the row of an angle is the sum of the correlates of its conditions, so they are read off rows and differences of rows
+-- ---- the correlates K: the row of an angle is the sum of the correlates of its conditions, so they are read off rows and differences of
+-- rows
 
 unfoldable pub difference : List ℤ → List ℤ → List ℤ
 difference [] ys = []

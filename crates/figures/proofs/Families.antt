@@ -1,5 +1,5 @@
--- The conditions of each family of figures, by the indices of their angles: what the code adds for each. Each fact by one test over all figures. Assumes
--- nothing.
+-- The conditions of each family of figures, by the indices of their angles: what the code adds for each. Each fact by one test over all
+-- figures. Assumes nothing.
 use mathlib.Core.Path.{_≡_, refl, sym, ap, ap₂, _∙_}
 use mathlib.Core.Bool.{Bool, true, false, cond, not, _&&_, _||_}
 use mathlib.Core.List.{List, [], _∷_}

@@ -1,5 +1,5 @@
--- What holds of every figure, by one test that antt computes over the list of all figures: the data are what they should be, and each figure is
--- certified. Assumes nothing.
+-- What holds of every figure, by one test that antt computes over the list of all figures: the data are what they should be, and each
+-- figure is certified. Assumes nothing.
 use mathlib.Core.Path.{_≡_, refl, sym, ap, subst}
 use mathlib.Core.Bool.{Bool, true, false, not, _&&_, _||_}
 use mathlib.Core.List.{List, [], _∷_}

@@ -1,5 +1,6 @@
--- The horizon of a point inside n corners, which code 2 does not list: whatever is summed, the horizon and the corners together are the triangles. For of
--- each triangle the first angle stands in the horizon, the second in its own corner and the last in the next. Assumes nothing.
+-- The horizon of a point inside n corners, which code 2 does not list: whatever is summed, the horizon and the corners together are the
+-- triangles. For of each triangle the first angle stands in the horizon, the second in its own corner and the last in the next. Assumes
+-- nothing.
 use mathlib.Core.Bool.{Bool, cond}
 use mathlib.Core.Path.{_≡_, refl, sym, ap, ap₂, _∙_}
 use Prim.Native.Nat.{ℕ, zero, suc, _+_, _-_, _*_, _<_}

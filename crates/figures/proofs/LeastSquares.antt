@@ -1,5 +1,5 @@
--- The least-squares theorem, over any certified table. N is the number of angles, M that of conditions, C says which angles a condition joins,
--- R holds the coefficient rows over the denominator D, and K the correlates. Nothing here names a figure. Assumes nothing.
+-- The least-squares theorem, over any certified table. N is the number of angles, M that of conditions, C says which angles a condition
+-- joins, R holds the coefficient rows over the denominator D, and K the correlates. Nothing here names a figure. Assumes nothing.
 use mathlib.Core.Path.{_≡_, refl, sym, ap, ap₂, _∙_}
 use Prim.Native.Nat.{ℕ, _<_}
 use lib.IntN.{ℤ, pos, negℤ, _+ℤ_, _*ℤ_, +ℤ-idr}

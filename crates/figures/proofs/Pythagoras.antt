@@ -1,4 +1,5 @@
--- Pythagoras in whole numbers: corrections x / q and y / p whose difference is orthogonal to y. Nothing here knows of conditions. Assumes nothing.
+-- Pythagoras in whole numbers: corrections x / q and y / p whose difference is orthogonal to y. Nothing here knows of conditions. Assumes
+-- nothing.
 use mathlib.Core.Path.{_≡_, refl, sym, ap, ap₂, _∙_, subst}
 use Prim.Native.Nat.{ℕ, _<_}
 use lib.IntN.{ℤ, pos, negℤ, _+ℤ_, _-ℤ_, _*ℤ_, +ℤ-idr, +ℤ-invr, *ℤ-zero}

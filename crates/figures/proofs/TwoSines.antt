@@ -1,5 +1,6 @@
--- Two sine conditions of a figure, with differences d and e and misclosures wa and wb: the corrections over the determinant that document 02, M-100, gives change no
--- linear condition and cancel both misclosures; and the determinant is from 0 up. Of every figure. Assumes nothing.
+-- Two sine conditions of a figure, with differences d and e and misclosures wa and wb: the corrections over the determinant that document
+-- 02, M-100, gives change no linear condition and cancel both misclosures; and the determinant is from 0 up. Of every figure. Assumes
+-- nothing.
 use mathlib.Core.Path.{_≡_, refl, ap, ap₂, _∙_}
 use Prim.Native.Nat.{ℕ, _<_}
 use lib.IntN.{ℤ, pos, negℤ, _+ℤ_, _-ℤ_, _*ℤ_}

@@ -81,8 +81,8 @@ previous n j = cond (eqb j 1) n (j - 1)
 abbrev pub corner : ℕ → ℕ → Condition
 corner n j = record { angles = right (previous n j) ∷ left j ∷ []; target = FixedAngle j }
 
--- code 2, a point inside n known corners, with the sine conditions that it has besides the pole. The horizon is not listed: it follows from these
--- conditions and number 14 (document 02, M-101)
+-- code 2, a point inside n known corners, with the sine conditions that it has besides the pole. The horizon is not listed: it follows
+-- from these conditions and number 14 (document 02, M-101)
 abbrev pub pointInside : (n denominator : ℕ) → (rows : List (List ℤ)) → (others : List SineCondition) → Description
 pointInside n denominator rows others = record {
   code = 2;

@@ -1,5 +1,5 @@
--- The steps of a loop that asks the places 1, 2, .. in rising order, for any test and any count of places. The loop's invariant: the test fails
--- at none of the places asked so far. So the first place at which it fails is the lowest.
+-- The steps of a loop that asks the places 1, 2, .. in rising order, for any test and any count of places. The loop's invariant: the test
+-- fails at none of the places asked so far. So the first place at which it fails is the lowest.
 use Prim.Native.Nat.{ℕ, suc, _+_, _≤_, _<_}
 use mathlib.Core.Bool.{Bool, true, false}
 use mathlib.Core.Path.{_≡_, refl, sym, ap, _∙_}

@@ -1,5 +1,5 @@
--- Document 01's printed sheets and its refusal, "Sheets worked through": the texts of the definitions, of the numbers that stand there, are the printed
--- bytes, line by line as printed, each angle's with its one round at the end (document 02, M-106). Assumes nothing.
+-- Document 01's printed sheets and its refusal, "Sheets worked through": the texts of the definitions, of the numbers that stand there,
+-- are the printed bytes, line by line as printed, each angle's with its one round at the end (document 02, M-106). Assumes nothing.
 use mathlib.Core.Path.{_≡_, refl}
 use mathlib.Core.List.{List, [], _∷_}
 use Prim.Native.Nat.{ℕ}

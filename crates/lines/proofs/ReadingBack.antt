@@ -1,5 +1,5 @@
--- A printed text read back, line by line and part by part, gives the lines of the definitions, and each number on them the value it stands for: so no
--- line can print another value. Assumes nothing.
+-- A printed text read back, line by line and part by part, gives the lines of the definitions, and each number on them the value it
+-- stands for: so no line can print another value. Assumes nothing.
 use mathlib.Core.Path.{_≡_, refl, sym, ap, _∙_}
 use mathlib.Core.Bool.{Bool, true, false, cond}
 use mathlib.Core.List.{List, [], _∷_, _++_, map}

@@ -1,6 +1,6 @@
 -- The lines that the program prints: document 01, "Sheets worked through", M-100 for a figure with a side condition, and M-106 for the
--- rounds, which end the line of each angle. A line is given by its parts, words and numbers; `lines` puts one space between the parts and one
--- line feed after each line. What an angle or a condition has is used by its index, counted from 0; its number is one more.
+-- rounds, which end the line of each angle. A line is given by its parts, words and numbers; `lines` puts one space between the parts and
+-- one line feed after each line. What an angle or a condition has is used by its index, counted from 0; its number is one more.
 use mathlib.Core.Bool.{Bool, true, false}
 use mathlib.Core.List.{List, [], _∷_, _++_, map}
 use Prim.Native.Nat.{ℕ, _+_}

@@ -1,7 +1,7 @@
 -- From the steps of a first pass to what it promises, of a figure that is named. Assumes nothing.
-use mathlib.Core.Path.{_≡_, refl, sym, ap, ap₂, _∙_, subst}
-use mathlib.Core.List.{List, [], _∷_, _++_}
-use Prim.Native.Nat.{ℕ, suc, _≤_, _<_}
+use mathlib.Core.Path.{_≡_, refl, sym, ap, ap₂, _∙_}
+use mathlib.Core.List.{List, [], _∷_}
+use Prim.Native.Nat.{ℕ, _≤_, _<_}
 use native.Mathlib.Nat.{le-trans, lt-of-le-of-lt}
 use lib.Dec.{lit<, lit≤}
 use lib.IntN.{ℤ, natAbs, _+ℤ_}
@@ -9,7 +9,7 @@ use lib.ListN.{length, getD}
 use Rattle.whole.specs.Lists.{listed}
 use Rattle.whole.specs.Quotient.{roundedQuotient}
 use Rattle.whole.specs.Sums.{vector}
-use Rattle.whole.proofs.Lists.{length-listed, listed-ext}
+use Rattle.whole.proofs.Lists.{listed-ext}
 use Rattle.refusals.specs.declared.Refusal.{Refusal}
 use Rattle.refusals.specs.declared.Verdict.{Verdict}
 use Rattle.refusals.specs.declared.Verdict.the-variants.{Passed, Failed}
@@ -33,7 +33,7 @@ use Rattle.pass_rules.proofs.PassRows.{none-judged, one-judged}
 use Rattle.pass_rules.proofs.WithinRange as range
 use Rattle.pass_steps.specs.Premises.{Angles, Within}
 use Rattle.pass_rules.specs.Promises.{FirstGiven, FirstLent, firstLent, firstSlices, firstLengthsLent, firstAnswer, firstValuesOf, firstValues, FirstPromise, firstVerdictOf, FirstPromiseOf}
-use Rattle.pass_steps.specs.Steps.{StoredIf, sameLength, numeratorsFrom, resultsFrom}
+use Rattle.pass_steps.specs.Steps.{StoredIf, sameLength, numeratorsFrom}
 use Rattle.pass_first.specs.Steps.{tenthsFrom, tenthsOf, restsFrom, FirstWork, firstWork, withRounds, firstFrom}
 use Rattle.pass_steps.proofs.Fitting.{beside}
 use Rattle.pass_steps.proofs.Judged.{kept}

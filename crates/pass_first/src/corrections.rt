@@ -9,7 +9,7 @@ ghost use Rattle.refusals.specs.Ranges.{mostLimit};
 ghost use Rattle.refusals.specs.Table.{resultsRow};
 ghost use Rattle.judging.specs.Searches.{resultsOf};
 ghost use Rattle.figures.specs.Figure.{angleCount, conditionCount};
-ghost use Rattle.pass_steps.specs.Premises.{Within, Angles, mostSummed, mostTotal};
+ghost use Rattle.pass_steps.specs.Premises.{Within, mostSummed, mostTotal};
 ghost use Rattle.pass_steps.specs.Steps.{StoredIf, numeratorsFrom};
 ghost use Rattle.pass_first.specs.Steps.{tenthsOf, restsFrom, firstWork, workLent, workLengths, firstFrom, Stored};
 use crate::quotients::rounded_into;

@@ -17,7 +17,8 @@ use figure_tables::PointInTriangle;
 use figure_tables::Quadrilateral;
 use figures::Figure;
 
-// The numerators over the figure's denominator, rounded. Each denominator is a constant of its type, so that nothing is divided at run time.
+// The numerators over the figure's denominator, rounded. Each denominator is a constant of its type, so that nothing is divided at run
+// time.
 pub(crate) fn rounded_into(figure: Figure, numerators: &[i32], rounded: &mut [i32])
     requires { ⌜ length (now rounded) ≡ length (now numerators) ⌝ }
     requires { ⌜ Within mostRounded (now numerators) ⌝ }

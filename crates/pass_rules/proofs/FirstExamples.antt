@@ -1,6 +1,6 @@
--- Sheets of the first pass as the definitions answer them: document 01, "Sheets worked through", case 8, and the edges of its ranges; what its first
--- printed sheet gives; those of document 02, M-101, M-102 and M-106; and accepted sheets of codes 2 and 3, whose values were worked out apart from the
--- definitions (tests/independent.py). Assumes nothing.
+-- Sheets of the first pass as the definitions answer them: document 01, "Sheets worked through", case 8, and the edges of its ranges;
+-- what its first printed sheet gives; those of document 02, M-101, M-102 and M-106; and accepted sheets of codes 2 and 3, whose values
+-- were worked out apart from the definitions (tests/independent.py). Assumes nothing.
 use mathlib.Core.Path.{_≡_, refl}
 use mathlib.Core.List.{List, [], _∷_, _++_, map}
 use Prim.Native.Nat.{ℕ}

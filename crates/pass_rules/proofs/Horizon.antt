@@ -1,5 +1,5 @@
--- The horizon of code 2, which is not listed (document 02, M-101): where the fixed angles sum as number 14 asks, corrections that cancel every listed
--- misclosure close it too. Of both n, over the figure. Assumes nothing.
+-- The horizon of code 2, which is not listed (document 02, M-101): where the fixed angles sum as number 14 asks, corrections that cancel
+-- every listed misclosure close it too. Of both n, over the figure. Assumes nothing.
 use Prim.Native.Nat.{ℕ, zero, suc, _+_, _*_, _<_}
 use mathlib.Core.List.{List, [], _∷_}
 use mathlib.Core.Path.{_≡_, refl, sym, ap, ap₂, _∙_}

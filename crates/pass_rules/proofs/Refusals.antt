@@ -1,5 +1,5 @@
--- The orders of both passes, for demand 1: every row is in the table, and the second pass's answer tells what its rows are judged to be. Of every code, n and
--- sheet. Assumes nothing.
+-- The orders of both passes, for demand 1: every row is in the table, and the second pass's answer tells what its rows are judged to be.
+-- Of every code, n and sheet. Assumes nothing.
 use mathlib.Core.List.{List}
 use mathlib.Core.Path.{_≡_, refl, sym, ap}
 use Prim.Native.Nat.{ℕ}

@@ -1,5 +1,5 @@
--- What the rounding leaves of a condition, in both passes: where the exact corrections cancel a misclosure, twice the rest is at most one tenth for each
--- angle of the condition. Assumes nothing.
+-- What the rounding leaves of a condition, in both passes: where the exact corrections cancel a misclosure, twice the rest is at most one
+-- tenth for each angle of the condition. Assumes nothing.
 use mathlib.Core.Path.{_≡_, ap, _∙_}
 use mathlib.Core.List.{List, [], _∷_}
 use Prim.Native.Nat.{ℕ, zero, suc, _*_, _≤_, _<_, zero-le}

@@ -1,5 +1,6 @@
--- Sheets of the second pass as the definitions answer them: document 01, "Sheets worked through", case 9 and its printed sheet of kind 2, and the edges of
--- the ranges; halves; and accepted sheets of codes 2 and 3, whose values were worked out apart from the definitions (tests/independent.py). Assumes nothing.
+-- Sheets of the second pass as the definitions answer them: document 01, "Sheets worked through", case 9 and its printed sheet of kind 2,
+-- and the edges of the ranges; halves; and accepted sheets of codes 2 and 3, whose values were worked out apart from the definitions
+-- (tests/independent.py). Assumes nothing.
 use mathlib.Core.Path.{_≡_, refl}
 use mathlib.Core.List.{List, [], _∷_, _++_, map}
 use Prim.Native.Nat.{ℕ, zero, suc, _+_}
@@ -149,7 +150,8 @@ printed-worked : valuesOf Quadrilateral printed ≡ record {
 unfolding listed misclosureIn sumOfSquares sideSquares sharedProducts divisor signedIn reducedIn secondNumerator secondRounded secondAdjusted secondRest reducedCoefficient numerator conditionSum sumOver applied dot sum roundedQuotient nearest
 printed-worked = refl
 
--- Halves, M-105. With differences of 100 each A is D·d, so that W is cancelled by W / 8 at each angle: 1/2, 3/2 and 5/2, the sign of d turned.
+-- Halves, M-105. With differences of 100 each A is D·d, so that W is cancelled by W / 8 at each angle: 1/2, 3/2 and 5/2, the sign of d
+-- turned.
 abbrev evenly : ℕ → SineEntries
 evenly w = sineEntries ((98494850 + w) ∷ replicate 7 98494850) (replicate 8 (pos 100)) []
 

@@ -1,5 +1,5 @@
--- The starred cases of document 01, "Sheets worked through", in one table under one statement: what the definitions give that the passes promise is what
--- the document states. Assumes nothing.
+-- The starred cases of document 01, "Sheets worked through", in one table under one statement: what the definitions give that the passes
+-- promise is what the document states. Assumes nothing.
 use mathlib.Core.Path.{_≡_, refl}
 use mathlib.Core.List.{List, [], _∷_, map}
 use Prim.Native.Nat.{ℕ}

@@ -1,5 +1,5 @@
--- The first pass: document 01, "The two passes", and document 02, M-101 for number 14, M-102 for the default limit and M-106 for the rounds of
--- each angle. Angles and conditions are used by their indices, counted from 0.
+-- The first pass: document 01, "The two passes", and document 02, M-101 for number 14, M-102 for the default limit and M-106 for the
+-- rounds of each angle. Angles and conditions are used by their indices, counted from 0.
 use Prim.Native.Nat.{ℕ, suc}
 use mathlib.Core.List.{List, [], _∷_, _++_}
 use lib.IntN.{ℤ, pos, natAbs, _+ℤ_, _-ℤ_}

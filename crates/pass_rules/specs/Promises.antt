@@ -1,5 +1,5 @@
--- What the two passes promise: document 01, "The two passes" and "What the promises must decide", and document 02, M-106, for the rounds of each angle. What
--- is given, what is lent, what is answered, and what everything lent holds in the end.
+-- What the two passes promise: document 01, "The two passes" and "What the promises must decide", and document 02, M-106, for the rounds
+-- of each angle. What is given, what is lent, what is answered, and what everything lent holds in the end.
 use Prim.Native.Nat.{ℕ}
 use mathlib.Core.List.{List, [], _∷_}
 use lib.IntN.{ℤ}

@@ -1,5 +1,5 @@
--- The second pass: document 01, "The two passes", and document 02, M-100 for the figure that has two sine conditions and M-106 for the rounds
--- of each angle. Angles and conditions are used by their indices, counted from 0.
+-- The second pass: document 01, "The two passes", and document 02, M-100 for the figure that has two sine conditions and M-106 for the
+-- rounds of each angle. Angles and conditions are used by their indices, counted from 0.
 use Prim.Native.Nat.{ℕ, _/_, _%_, _^_}
 use mathlib.Core.Bool.{cond}
 use mathlib.Core.List.{List, [], _∷_, _++_}
@@ -166,7 +166,8 @@ entryRows f tolerance angles rounds e lent =
     ∷ sineEntriesRow (e .logSines ++ e .logSides) (e .differences)
     ∷ []
 
--- 10, 9: what S or the determinant, and W and the sum of d² of each sine condition say; where a figure has only one, both are 0 for the other and 9 passes
+-- 10, 9: what S or the determinant, and W and the sum of d² of each sine condition say; where a figure has only one, both are 0 for the
+-- other and 9 passes
 abbrev pub sineRows : (tolerance : ℕ) → (divisor w differenceSquares sideW sideDifferenceSquares : ℤ) → List Row
 sineRows tolerance divisor w differenceSquares sideW sideDifferenceSquares =
     sumOfSquaresRow divisor

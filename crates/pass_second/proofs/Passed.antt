@@ -1,11 +1,11 @@
 -- Where number 7 passes, a rounded correction is the difference of two angles. Assumes nothing.
-use mathlib.Core.Path.{_≡_, sym, ap, _∙_, subst}
+use mathlib.Core.Path.{_≡_, sym, subst}
 use mathlib.Core.List.{List}
 use Prim.Native.Nat.{ℕ, _≤_, _<_, zero-le}
 use native.Mathlib.Decide.{decLt}
 use native.Mathlib.Omega.{arith}
 use lib.IntN.{ℤ, pos, natAbs, _+ℤ_, _-ℤ_}
-use lib.ListN.{length, getD, List·getD-eq-default}
+use lib.ListN.{length, List·getD-eq-default}
 use Rattle.whole.specs.Sums.{vector}
 use Rattle.whole.proofs.Lists.{length-listed}
 use Rattle.whole.proofs.Magnitudes.{natAbs-sub}

@@ -1,4 +1,5 @@
--- The sums of both sine conditions are those of the definitions: of a figure that has only the pole, and of one with known sides. Assumes nothing.
+-- The sums of both sine conditions are those of the definitions: of a figure that has only the pole, and of one with known sides. Assumes
+-- nothing.
 use mathlib.Core.Bool.{Bool, true, false, cond}
 use mathlib.Core.Path.{_≡_, sym, ap, _∙_}
 use mathlib.Core.List.{List, [], _∷_}

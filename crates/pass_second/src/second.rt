@@ -1,6 +1,5 @@
 // The second pass over lent slices: document 01, "The two passes", and document 02, M-100, and M-106 for the rounds of each angle.
 ghost use mathlib.Core.Path.{_≡_};
-ghost use Rattle.wide.specs.Wide.{sizeOf};
 ghost use Rattle.pass_rules.specs.Promises.{secondGiven, secondLent, SecondPromise, SecondPromiseOf};
 ghost use Rattle.pass_rules.specs.SecondPass.{sineEntries};
 ghost use Rattle.pass_second.specs.Steps.{answerBy};

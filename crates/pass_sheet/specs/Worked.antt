@@ -150,7 +150,8 @@ workedLook (Head kind f) sheet = workedRead (readingOf sheet (ownLengths kind f)
 unfoldable pub workedOf : List ℕ → WorkedSheet
 workedOf sheet = workedLook (lookOf sheet) sheet
 
--- ---- the order of a sheet worked through: the reader's rows, in slices of the right lengths, and then those of the pass that its kind is for
+-- ---- the order of a sheet worked through: the reader's rows, in slices of the right lengths, and then those of the pass that its kind
+-- is for
 
 abbrev pub rowsOfPass : Pass → Figure → (limitOrTolerance : ℕ) → Values → List Row
 rowsOfPass Pass.First f limit v = firstRows f limit (v .angles) (v .rounds) (v .fixed) (firstSheetLengths f (v .angles) (v .rounds) (v .fixed))

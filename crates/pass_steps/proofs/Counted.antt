@@ -1,4 +1,5 @@
--- The counts of a figure as its table gives them: what they are, and that the arrays of the longest figure can lend so many. Assumes nothing.
+-- The counts of a figure as its table gives them: what they are, and that the arrays of the longest figure can lend so many. Assumes
+-- nothing.
 use mathlib.Core.Path.{_≡_, ap}
 use Prim.Native.Nat.{_≤_}
 use native.Mathlib.Omega.{arith}

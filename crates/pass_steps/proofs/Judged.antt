@@ -11,9 +11,7 @@ use lib.IntN.{ℤ, pos, negsuc, negℤ, natAbs}
 use lib.ListN.{length, List·getD-eq-default}
 use lib.Signed.{_≤ℤ_}
 use Rattle.whole.specs.Sums.{vector}
-use Rattle.whole.proofs.Order.{zero-≤ℤ-pos, ≤ℤ-trans}
 use Rattle.refusals.specs.declared.Refusal.{Refusal}
-use Rattle.refusals.specs.declared.Lowest.{Lowest}
 use Rattle.refusals.specs.declared.Verdict.{Verdict}
 use Rattle.refusals.specs.declared.Verdict.the-variants.{Passed, Failed}
 use Rattle.refusals.specs.Numbers.{numbered, refusalOf}

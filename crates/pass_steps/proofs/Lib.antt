@@ -1,5 +1,5 @@
--- The steps that both passes share meet their contracts; and for the passes: how large sums and numerators are, what a step gives where what is lent fits,
--- the counts of a figure, and arrays that are lent in part.
+-- The steps that both passes share meet their contracts; and for the passes: how large sums and numerators are, what a step gives where
+-- what is lent fits, the counts of a figure, and arrays that are lent in part.
 pub mod Again
 mod AppliedRows
 pub mod Bounds

@@ -1,5 +1,5 @@
--- What is listed by a rule is the rule within the list; and a sum over a condition and a numerator look only at the figure's own angles and conditions. Assumes
--- nothing.
+-- What is listed by a rule is the rule within the list; and a sum over a condition and a numerator look only at the figure's own angles
+-- and conditions. Assumes nothing.
 use mathlib.Core.Path.{_≡_, refl, sym, ap, ap₂, _∙_, subst}
 use mathlib.Core.List.{List, [], _∷_}
 use Prim.Native.Nat.{ℕ, zero, suc, _≤_, _<_, zero-le}
@@ -14,9 +14,9 @@ use Rattle.whole.proofs.Computed.{and-left, and-right}
 use Rattle.whole.proofs.Lists.{length-listed, getD-listed, listed-ext}
 use Rattle.whole.proofs.Sums.{applied-ext}
 use Rattle.figures.specs.declared.Figure.{Figure}
-use Rattle.figures.specs.Figure.{Condition, description, angleCount, conditionCount, membersOf}
+use Rattle.figures.specs.Figure.{description, angleCount, conditionCount, membersOf}
 use Rattle.figures.specs.Numerators.{sumOver, conditionSum, numerator}
-use Rattle.figures.proofs.Figures.{isAmong, none, members-are-angles}
+use Rattle.figures.proofs.Figures.{isAmong, members-are-angles}
 use Rattle.pass_steps.specs.Premises.{Within}
 
 pub listed-at : (n : ℕ) (g : ℕ → ℤ) (i : ℕ) → i < n → vector (listed n g) i ≡ g i

@@ -1,4 +1,5 @@
-// The numerators of the exact corrections: document 01, "The two passes". Each figure's table as its type has it, by value, to one function.
+// The numerators of the exact corrections: document 01, "The two passes". Each figure's table as its type has it, by value, to one
+// function.
 ghost use mathlib.Core.Path.{_≡_};
 ghost use Prim.Native.Nat.{_+_, _*_, _^_, _≤_};
 ghost use lib.IntN.{natAbs, _*ℤ_};

@@ -1,4 +1,5 @@
--- How the code answers an order: one row after the other, each by its own promise, or one part of the order after the other. Assumes nothing.
+-- How the code answers an order: one row after the other, each by its own promise, or one part of the order after the other. Assumes
+-- nothing.
 use mathlib.Core.List.{List, [], _∷_, _++_, map, map-append}
 use mathlib.Core.Path.{_≡_, sym, ap, ap₂, _∙_}
 use Rattle.refusals.specs.declared.Refusal.{Refusal}

@@ -1,5 +1,5 @@
--- A search for the lowest place says p exactly if the test fails at p and at no lower place, and says that there is none exactly if it fails
--- at no place. By induction over the count of places; what a search says of the places determines its answer.
+-- A search for the lowest place says p exactly if the test fails at p and at no lower place, and says that there is none exactly if it
+-- fails at no place. By induction over the count of places; what a search says of the places determines its answer.
 use Prim.Native.Nat.{ℕ, zero, suc, _≤_, _<_}
 use mathlib.Core.Bool.{Bool, true, false, true≢false}
 use mathlib.Core.Logic.{_↔_, ⊎-elim}

@@ -1,5 +1,6 @@
--- The law of every order: number k at place p is answered if and only if its row holds at p, at no lower place, and no row before it holds anywhere; the
--- operation is done if and only if no row holds; and no number is given that does not stand in the order. Assumes nothing.
+-- The law of every order: number k at place p is answered if and only if its row holds at p, at no lower place, and no row before it
+-- holds anywhere; the operation is done if and only if no row holds; and no number is given that does not stand in the order. Assumes
+-- nothing.
 use Prim.Native.Nat.{ℕ, zero, suc, _≤_, _<_}
 use mathlib.Core.Bool.{Bool, true, false, cond, _&&_}
 use mathlib.Core.List.{List, [], _∷_, map}

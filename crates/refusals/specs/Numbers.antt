@@ -1,5 +1,5 @@
--- The table of document 01, "Numbers given when a sheet is turned back", with what document 02 adds to it: the number of each refusal, and its
--- place.
+-- The table of document 01, "Numbers given when a sheet is turned back", with what document 02 adds to it: the number of each refusal,
+-- and its place.
 use Prim.Native.Nat.{ℕ, zero, suc}
 use mathlib.Core.List.{List, [], _∷_}
 use lib.ListN.{getD}

@@ -1,6 +1,6 @@
--- How an operation answers: document 01, "Numbers given when a sheet is turned back". Its order is one list of rows, each with its number and its stated
--- case. The first row that holds anywhere is answered, at its lowest place. Places are counted from 1, as the paper counts angles and conditions; a row
--- without a place has place 0.
+-- How an operation answers: document 01, "Numbers given when a sheet is turned back". Its order is one list of rows, each with its number
+-- and its stated case. The first row that holds anywhere is answered, at its lowest place. Places are counted from 1, as the paper counts
+-- angles and conditions; a row without a place has place 0.
 use Prim.Native.Nat.{ℕ, zero, suc, _≤_, _<_}
 use mathlib.Core.Bool.{Bool, true, false, _&&_}
 use mathlib.Core.List.{List, [], _∷_, map}

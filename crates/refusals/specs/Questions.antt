@@ -1,5 +1,6 @@
--- What the table asks: document 01, "Numbers given when a sheet is turned back", the column "Given when". A question is data: `Holds` says what it
--- means that its case holds, and `asked` computes whether it does. That the two agree is one law, `decided` (proofs/Decided.antt).
+-- What the table asks: document 01, "Numbers given when a sheet is turned back", the column "Given when". A question is data: `Holds`
+-- says what it means that its case holds, and `asked` computes whether it does. That the two agree is one law, `decided`
+-- (proofs/Decided.antt).
 use Prim.Native.Nat.{ℕ, zero, suc, _≤_, _<_}
 use mathlib.Core.Bool.{Bool, true, false, not, _||_, _&&_}
 use mathlib.Core.List.{List, [], _∷_}

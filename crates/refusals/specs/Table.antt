@@ -83,14 +83,15 @@ sumOfAll (value ∷ others) = value + sumOfAll others
 abbrev pub fixedSumRow : (fixed : List ℕ) → Row
 fixedSumRow fixed = row 14 (unequal (sumOfAll fixed) (fixedSum (length fixed)))
 
--- 15: an offered choice breaks one of the two rules of document 02, M-104: at some angle it is not the whole tenth just below or just above the exact
--- correction, or at some condition the rest is not 0
+-- 15: an offered choice breaks one of the two rules of document 02, M-104: at some angle it is not the whole tenth just below or just
+-- above the exact correction, or at some condition the rest is not 0
 abbrev pub choiceRow : (below above offered rests : List ℤ) → Row
 choiceRow below above offered rests =
     row 15 (either
     (someAt (length offered) (λ p. outsideSigned (numbered below p (pos 0)) (numbered above p (pos 0)) (numbered offered p (pos 0))))
     (someAt (length rests) (λ p. outsideSigned (pos 0) (pos 0) (numbered rests p (pos 0)))))
 
--- 16: rounds outside range, document 02, M-106; its place is the angle. An angle has at most 255, and one of a kind of sheet without rounds exactly one
+-- 16: rounds outside range, document 02, M-106; its place is the angle. An angle has at most 255, and one of a kind of sheet without
+-- rounds exactly one
 abbrev pub roundsRow : (most : ℕ) → (rounds : List ℕ) → Row
 roundsRow most rounds = rowAt 16 (length rounds) (λ p. outside leastRounds most (numbered rounds p 0))

@@ -1,5 +1,5 @@
--- Whether a text that was laid by itself has room in what is lent, told by the position after it; and that 2048 bytes are room for every text.
--- Assumes nothing.
+-- Whether a text that was laid by itself has room in what is lent, told by the position after it; and that 2048 bytes are room for every
+-- text. Assumes nothing.
 use mathlib.Core.Path.{_≡_, refl, sym, ap, _∙_}
 use mathlib.Core.Bool.{Bool, true, false}
 use mathlib.Core.List.{List, _++_}

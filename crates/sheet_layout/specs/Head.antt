@@ -1,5 +1,5 @@
--- The head of a sheet: document 01, "Packed sheets" and "Numbers given when a sheet is turned back". What its numbers name, and the rows that reader and
--- writer begin with.
+-- The head of a sheet: document 01, "Packed sheets" and "Numbers given when a sheet is turned back". What its numbers name, and the rows
+-- that reader and writer begin with.
 use Prim.Native.Nat.{ℕ}
 use mathlib.Core.Bool.{cond}
 use mathlib.Core.List.{List, [], _∷_, map}

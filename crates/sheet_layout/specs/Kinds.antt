@@ -1,5 +1,6 @@
--- The kinds of packed sheets: document 01, "Packed sheets", and document 02, M-102 and M-106. A kind is data: its number, the pass that it is for
--- and whether each observed angle has its rounds after it, from which its fields follow (specs/Layout.antt), and what L or e of 0 stands for in it.
+-- The kinds of packed sheets: document 01, "Packed sheets", and document 02, M-102 and M-106. A kind is data: its number, the pass that
+-- it is for and whether each observed angle has its rounds after it, from which its fields follow (specs/Layout.antt), and what L or e of
+-- 0 stands for in it.
 use Prim.Native.Nat.{ℕ}
 use mathlib.Core.Bool.{Bool, true, false}
 use mathlib.Core.List.{List, [], _∷_}

@@ -1,6 +1,6 @@
--- The layout of a packed sheet: document 01, "Packed sheets". "Fields run on without gaps, most significant bit first; zero bits fill the last
--- byte." A kind's fields are one row of `layout`, by the pass that it is for and whether it carries rounds; the size of a sheet, the values that are
--- read off it and its bytes all follow from that row.
+-- The layout of a packed sheet: document 01, "Packed sheets". "Fields run on without gaps, most significant bit first; zero bits fill the
+-- last byte." A kind's fields are one row of `layout`, by the pass that it is for and whether it carries rounds; the size of a sheet, the
+-- values that are read off it and its bytes all follow from that row.
 use Prim.Native.Nat.{ℕ, _+_}
 use mathlib.Core.Bool.{Bool, cond, _&&_}
 use mathlib.Core.List.{List, [], _∷_, _++_, map}
@@ -57,8 +57,8 @@ head = theKind ∷ theCode ∷ theN ∷ []
 abbrev pub angleItems : (rounds : Bool) → ℕ → List Item
 angleItems rounds i = angle i ∷ cond rounds (angleRounds i ∷ []) []
 
--- for the first pass, kinds 1, 3 and 4: each angle, then the fixed angles. For the second, kinds 2 and 5: the known log sides (M-100, "after e"), then
--- per angle the angle, its log-sine and its sine difference; the rounds right after each angle
+-- for the first pass, kinds 1, 3 and 4: each angle, then the fixed angles. For the second, kinds 2 and 5: the known log sides (M-100,
+-- "after e"), then per angle the angle, its log-sine and its sine difference; the rounds right after each angle
 abbrev pub body : Pass → (rounds : Bool) → Figure → List Item
 body Pass.First rounds f = eachOf (angleCount f) (angleItems rounds) ++ eachOf (fixedCount f) (λ j. fixedAngle j ∷ [])
 body Pass.Second rounds f =

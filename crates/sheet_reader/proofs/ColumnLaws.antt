@@ -1,9 +1,9 @@
--- The columns of the reader are those of the layout, by tests that antt computes over all kinds and figures, and hold the values of the sheet.
--- Assumes nothing.
+-- The columns of the reader are those of the layout, by tests that antt computes over all kinds and figures, and hold the values of the
+-- sheet. Assumes nothing.
 use Prim.Native.Nat.{ℕ, suc, _+_, _*_, _≤_, _<_}
 use mathlib.Core.Bool.{Bool, true, false, cond, _&&_}
 use mathlib.Core.List.{List}
-use mathlib.Core.Path.{_≡_, refl, sym, ap, ap₂, subst, _∙_}
+use mathlib.Core.Path.{_≡_, sym, ap, ap₂, subst, _∙_}
 use native.Mathlib.Omega.{arith}
 use lib.Dec.{T, eqb, eqb→eq}
 use lib.IntN.{ℤ}

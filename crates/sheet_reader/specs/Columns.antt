@@ -1,5 +1,5 @@
--- Where the reader looks for the values of one sort: at start, start + step, start + 2·step and so on, each in the same width. That these are where
--- the layout has them is a law (proofs/ColumnLaws.antt).
+-- Where the reader looks for the values of one sort: at start, start + step, start + 2·step and so on, each in the same width. That
+-- these are where the layout has them is a law (proofs/ColumnLaws.antt).
 use Prim.Native.Nat.{ℕ, _+_, _*_, _≤_}
 use mathlib.Core.Bool.{Bool}
 use mathlib.Core.List.{List}

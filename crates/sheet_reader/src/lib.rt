@@ -1,4 +1,5 @@
-// The reader of packed sheets: document 01, "Packed sheets". What a sheet holds and when it is turned back are definitions of `sheet_rules`.
+// The reader of packed sheets: document 01, "Packed sheets". What a sheet holds and when it is turned back are definitions of
+// `sheet_rules`.
 mod columns;
 mod read;
 mod values;

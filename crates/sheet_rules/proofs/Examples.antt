@@ -42,7 +42,8 @@ printed = record {
       ∷ 0x20 ∷ 0x31 ∷ 0x70 ∷ 0x40 ∷ 0x62 ∷ 0xe0 ∷ 0x80 ∷ [];
 }
 
--- the values of sheets/point-in-triangle-first.sheet and so on, packed by tests/packed.py, one with the largest L and one with the largest e
+-- the values of sheets/point-in-triangle-first.sheet and so on, packed by tests/packed.py, one with the largest L and one with the
+-- largest e
 abbrev point-first : Sample
 point-first = record {
   kind = One;

@@ -1,4 +1,5 @@
--- Number 13, "a filling bit is 1": some bit after the last field is 1 exactly if the field that they make up does not hold 0. Assumes nothing.
+-- Number 13, "a filling bit is 1": some bit after the last field is 1 exactly if the field that they make up does not hold 0. Assumes
+-- nothing.
 use Prim.Native.Nat.{ℕ, _+_, _*_, _^_, _<_}
 use mathlib.Core.Bool.{Bool, true, false, not}
 use mathlib.Core.List.{List, [], _∷_}

@@ -1,5 +1,5 @@
--- Where each item of a layout stands, by tests that antt computes over all kinds and figures: no item stands twice, and each value that is counted
--- stands there. Assumes nothing.
+-- Where each item of a layout stands, by tests that antt computes over all kinds and figures: no item stands twice, and each value that
+-- is counted stands there. Assumes nothing.
 use Prim.Native.Nat.{ℕ, suc, _+_, _≤_, _<_, zero-le, suc-le-suc}
 use mathlib.Core.Bool.{Bool, true, false, cond, _&&_}
 use mathlib.Core.List.{List, [], _∷_, map}

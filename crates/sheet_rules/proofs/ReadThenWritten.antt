@@ -1,4 +1,5 @@
--- An accepted sheet, written again from the values that are read off it, has the same bytes: for every kind and figure, and sheets of every length.
+-- An accepted sheet, written again from the values that are read off it, has the same bytes: for every kind and figure, and sheets of
+-- every length.
 use Prim.Native.Nat.{ℕ, zero, suc, _*_, _≤_, _<_}
 use mathlib.Core.Bool.{Bool, true, false, cond, _&&_}
 use mathlib.Core.List.{List, [], _∷_, map}
@@ -25,7 +26,7 @@ use Rattle.figures.specs.Figure.{description, angleCount}
 use Rattle.figures.proofs.Naming.{named-exactly}
 use Rattle.sheet_layout.specs.declared.Kind.{Kind}
 use Rattle.sheet_layout.specs.Kinds.{numberOfKind, carriesRounds}
-use Rattle.sheet_layout.specs.Layout.{Item, theKind, theCode, theN, limit, tolerance, angle, angleRounds, fixedAngle, logSine, difference, logSide, widthOf, limitOrToleranceItem, layout, roundsIn, fixedIn, sineEntriesIn, sidesIn, bitCount, sheetSize, positionOf, held}
+use Rattle.sheet_layout.specs.Layout.{Item, theKind, theCode, theN, limit, tolerance, angle, angleRounds, fixedAngle, logSine, difference, logSide, widthOf, limitOrToleranceItem, layout, fixedIn, sineEntriesIn, sidesIn, bitCount, sheetSize, positionOf, held}
 use Rattle.sheet_layout.specs.Head.{kindNumberIn, codeIn, nIn}
 use Rattle.sheet_layout.proofs.Sizes.{bits-within}
 use Rattle.sheet_layout.proofs.Naming.{kind-exactly, own-head}

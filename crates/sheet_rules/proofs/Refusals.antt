@@ -1,5 +1,5 @@
--- The orders of a look, of the reader and of the writer, for demand 1: every row is in the table, what is answered tells what the rows are judged to be, and a
--- refusal leaves what was lent. Assumes nothing.
+-- The orders of a look, of the reader and of the writer, for demand 1: every row is in the table, what is answered tells what the rows
+-- are judged to be, and a refusal leaves what was lent. Assumes nothing.
 use Prim.Native.Nat.{ℕ}
 use mathlib.Core.List.{List, [], _++_}
 use mathlib.Core.Path.{_≡_, refl, ap, _∙_}

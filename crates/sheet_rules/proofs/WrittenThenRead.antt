@@ -6,7 +6,7 @@ use mathlib.Core.Path.{_≡_, refl, sym, ap, ap₂, subst, _∙_}
 use native.Mathlib.Nat.{lt-of-le-of-lt}
 use native.Mathlib.Omega.{arith}
 use lib.Dec.{T, leb, ltb, leb→le, ltb→lt, lit<, lit≤}
-use lib.IntN.{ℤ, pos}
+use lib.IntN.{pos}
 use lib.ListN.{length, getD, take, replicate, length-map, List·getD-map}
 use Rattle.whole.specs.Lists.{listed}
 use Rattle.whole.proofs.Computed.{and-right}
@@ -27,15 +27,15 @@ use Rattle.sheet_layout.specs.declared.Kind.{Kind}
 use Rattle.refusals.specs.Ranges.{mostLimit, mostTolerance, leastRounds, mostRounds}
 use Rattle.sheet_layout.specs.declared.Pass.{Pass}
 use Rattle.sheet_layout.specs.Kinds.{numberOfKind, passOf, carriesRounds, ofPass}
-use Rattle.sheet_layout.specs.Layout.{Item, theKind, theCode, theN, limit, tolerance, angle, angleRounds, fixedAngle, logSine, difference, logSide, widthOf, limitOrToleranceItem, layout, roundsIn, fixedIn, sineEntriesIn, sidesIn, bitCount, sheetSize, positionOf, held}
+use Rattle.sheet_layout.specs.Layout.{Item, theKind, theCode, theN, limit, tolerance, angle, angleRounds, fixedAngle, logSine, difference, logSide, widthOf, limitOrToleranceItem, layout, fixedIn, sineEntriesIn, sidesIn, bitCount, sheetSize, positionOf, held}
 use Rattle.sheet_layout.specs.declared.head.Look.the-variants.{Head}
 use Rattle.sheet_layout.specs.Head.{kindNumberIn, codeIn, nIn, headOf}
 use Rattle.sheet_layout.proofs.EachKind.{each-kind, each}
 use Rattle.sheet_layout.proofs.Naming.{kind-exactly}
 use Rattle.sheet_rules.specs.declared.Reading.{Reading}
 use Rattle.sheet_rules.specs.declared.Reading.the-variants.{Read}
-use Rattle.sheet_rules.specs.Sheet.{Values, valuesFrom, numberAt, fieldOf, packedSheet, valuesRead}
-use Rattle.sheet_rules.specs.Judging.{mostLimitOrTolerance, mostRoundsOf, valueRows, ownLengths, lengthsGiven, readingOf, afterReading, writingOf, writtenOf}
+use Rattle.sheet_rules.specs.Sheet.{Values, numberAt, fieldOf, packedSheet, valuesRead}
+use Rattle.sheet_rules.specs.Judging.{mostRoundsOf, valueRows, ownLengths, lengthsGiven, readingOf, afterReading, writingOf, writtenOf}
 use Rattle.sheet_rules.specs.Promises.{Slices, slicesOf, lengthsLent, readAnswer, readLeft}
 use Rattle.sheet_rules.proofs.Positions.{same-item, indexOf, position-by-index, item-at-index, none-among, counted, each-counted, narrow, kind-stands, code-stands, n-stands, limit-stands, angle-stands, rounds-stand, fixed-stands, log-sine-stands, difference-stands, log-side-stands, kind-in-head, code-in-head, n-in-head}
 use Rattle.sheet_rules.proofs.Accepted.{Accepted, AsMany, own-lengths, accepted-back, writer-accepted, sheet-written}
@@ -219,7 +219,8 @@ long-enough : (kind : Kind) (f : Figure) → 2 ≤ sheetSize kind f
 unfolding sheetSize byteCount bitCount layout totalWidth
 long-enough kind f = leb→le 2 (sheetSize kind f) (each (λ k g. leb 2 (sheetSize k g)) tt kind f)
 
--- what the reader answers to a sheet, and leaves in the slices that are lent to it: the kind and the figure that the numbers name, L or e, and the values
+-- what the reader answers to a sheet, and leaves in the slices that are lent to it: the kind and the figure that the numbers name, L or
+-- e, and the values
 pub record ReadsBack (kind code n : ℕ) (v : Values) (sheet : List ℕ) (lent : Slices) : Type 0 where
   pub kind-read : Kind
   pub figure-read : Figure

@@ -1,5 +1,6 @@
 -- How sheets are turned back: document 01, "Numbers given when a sheet is turned back", and document 02, M-101 for number 14 and M-106 for
--- number 16. The reader's order and the writer's, each as one list of rows. Both begin with the rows of the head (specs/Head.antt of `sheet_layout`).
+-- number 16. The reader's order and the writer's, each as one list of rows. Both begin with the rows of the head (specs/Head.antt of
+-- `sheet_layout`).
 use Prim.Native.Nat.{ℕ}
 use mathlib.Core.Bool.{Bool, cond}
 use mathlib.Core.List.{List, [], _∷_, _++_}

@@ -1,5 +1,5 @@
--- The values of a packed sheet and its bytes: document 01, "Packed sheets", and document 02, M-106, for the rounds. Both follow from the layout of
--- its kind and figure.
+-- The values of a packed sheet and its bytes: document 01, "Packed sheets", and document 02, M-106, for the rounds. Both follow from the
+-- layout of its kind and figure.
 use Prim.Native.Nat.{ℕ, suc}
 use mathlib.Core.Bool.{cond}
 use mathlib.Core.List.{List, map}

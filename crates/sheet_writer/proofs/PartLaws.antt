@@ -15,7 +15,7 @@ use Rattle.figures.specs.Rows.{eachOf}
 use Rattle.sheet_layout.specs.declared.Kind.{Kind}
 use Rattle.sheet_layout.specs.declared.Pass.{Pass}
 use Rattle.sheet_layout.specs.Kinds.{numberOfKind, passOf, carriesRounds, ofPass}
-use Rattle.sheet_layout.specs.Layout.{Item, limit, tolerance, angle, fixedAngle, logSine, difference, logSide, widthOf, limitOrToleranceItem, angleItems, body, layout, roundsBits, sheetSize}
+use Rattle.sheet_layout.specs.Layout.{Item, limit, tolerance, fixedAngle, logSine, difference, logSide, widthOf, limitOrToleranceItem, angleItems, body, layout, roundsBits, sheetSize}
 use Rattle.sheet_layout.proofs.Sizes.{bitsFor, pass-bits, bits-within}
 use Rattle.sheet_rules.specs.Sheet.{Values, valuesFrom, fieldOf, packedSheet}
 use Rattle.sheet_writer.specs.declared.packer.Packer.{Packer}

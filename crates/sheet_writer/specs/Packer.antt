@@ -1,4 +1,5 @@
--- Fields packed one after the other, as the writer holds them: whole bytes that are out, and the bits after them that do not yet fill four bytes.
+-- Fields packed one after the other, as the writer holds them: whole bytes that are out, and the bits after them that do not yet fill
+-- four bytes.
 use Prim.Native.Nat.{ℕ, _+_, _*_, _/_, _%_, _≤_, _<_}
 use mathlib.Core.Bool.{Bool}
 use mathlib.Core.List.{List, [], _∷_, _++_}

@@ -1,5 +1,5 @@
 -- What the parts of the writer compute, in the words of the whole (specs/Sheet.antt of `sheet_rules`).
-use Prim.Native.Nat.{ℕ, _+_, _*_, _≤_}
+use Prim.Native.Nat.{ℕ, _+_, _*_}
 use mathlib.Core.Bool.{Bool, cond}
 use mathlib.Core.List.{List, [], _∷_, _++_}
 use mathlib.Core.Path.{_≡_}
@@ -24,8 +24,8 @@ use Rattle.sheet_writer.specs.Packer.{HasRoom}
 abbrev pub fieldFrom : (width holds : ℕ) → Field
 fieldFrom w v = record { width = w; holds = v }
 
--- the fields of a sheet, part by part: the head; L or e; fixed angles for the first pass, or log sides for the second; an angle and its rounds, where
--- they are carried, and for the second pass its log-sine and its difference, angle by angle
+-- the fields of a sheet, part by part: the head; L or e; fixed angles for the first pass, or log sides for the second; an angle and its
+-- rounds, where they are carried, and for the second pass its log-sine and its difference, angle by angle
 abbrev pub headFields : (kind code n : ℕ) → List Field
 headFields kind code n = fieldFrom (widthOf theKind) kind ∷ fieldFrom (widthOf theCode) code ∷ fieldFrom (widthOf theN) n ∷ []
 

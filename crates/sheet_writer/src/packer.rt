@@ -1,5 +1,5 @@
-// Fields packed one after the other, without gaps: document 01, "Packed sheets". What does not yet fill four bytes is held as a number, so that bytes
-// go out whole, four at a time (M-103).
+// Fields packed one after the other, without gaps: document 01, "Packed sheets". What does not yet fill four bytes is held as a number,
+// so that bytes go out whole, four at a time (M-103).
 ghost use mathlib.Core.List.{[], _∷_, _++_};
 ghost use mathlib.Core.Path.{_≡_};
 ghost use Prim.Native.Nat.{_+_, _^_, _≤_, _<_};

@@ -1,5 +1,5 @@
--- Printed text: document 01, "Sheets worked through". A line's parts are words and numbers with one space between, "every line ends in one line
--- feed", and a number is decimal, with a minus sign and no plus, and no zeros before it. A text is the list of its bytes.
+-- Printed text: document 01, "Sheets worked through". A line's parts are words and numbers with one space between, "every line ends in
+-- one line feed", and a number is decimal, with a minus sign and no plus, and no zeros before it. A text is the list of its bytes.
 use mathlib.Core.Bool.{Bool, false, not, cond, _&&_}
 use mathlib.Core.List.{List, [], _∷_, _++_, map}
 use Prim.Native.Nat.{ℕ, zero, suc, _+_, _-_, _*_, _/_, _%_}
@@ -28,8 +28,8 @@ isDigit b = leb (digit 0) b && leb b (digit 9)
 
 -- ---- Numbers
 
--- The digits of n, the most significant first, none for 0. They are found from the last one backwards: `n % 10` is the last, and `n / 10` has
--- those before it. `places` only bounds how many are found.
+-- The digits of n, the most significant first, none for 0. They are found from the last one backwards: `n % 10` is the last, and `n / 10`
+-- has those before it. `places` only bounds how many are found.
 unfoldable pub digits : ℕ → ℕ → List ℕ
 digits zero n = []
 digits (suc places) zero = []
@@ -45,7 +45,8 @@ unfoldable pub decimal : ℤ → List ℕ
 decimal (pos n) = natural n
 decimal (negsuc n) = minus ∷ natural (suc n)
 
--- What a number's text says, as a reader takes it: after a minus sign the number below zero, else the number; each digit counts ten times less than the one before it.
+-- What a number's text says, as a reader takes it: after a minus sign the number below zero, else the number; each digit counts ten times
+-- less than the one before it.
 unfoldable pub readDigits : ℕ → List ℕ → ℕ
 readDigits before [] = before
 readDigits before (b ∷ bs) = readDigits (before * 10 + (b - digit 0)) bs
@@ -100,8 +101,8 @@ readLines t = map parts (splitLines t)
 
 -- ---- Laying text in a buffer
 
--- The text t laid at a position of the buffer: its bytes stand there one after the other, as far as the buffer reaches, and every other byte
--- is as it was.
+-- The text t laid at a position of the buffer: its bytes stand there one after the other, as far as the buffer reaches, and every other
+-- byte is as it was.
 unfoldable pub laid : List ℕ → ℕ → List ℕ → List ℕ
 laid buffer at t = take at buffer ++ take (length buffer - at) t ++ drop (at + length t) buffer
 

@@ -1,5 +1,5 @@
--- Laws of magnitudes: of sums, differences and products, of a sign given to one, and from a magnitude to the range of a signed machine number and back.
--- `omega` reads natural numbers only, so bounds on whole numbers are stated of their magnitudes.
+-- Laws of magnitudes: of sums, differences and products, of a sign given to one, and from a magnitude to the range of a signed machine
+-- number and back. `omega` reads natural numbers only, so bounds on whole numbers are stated of their magnitudes.
 use mathlib.Core.Path.{_≡_, refl, sym, ap, _∙_, subst}
 use mathlib.Core.Bool.{Bool, true, false, not, cond}
 use Prim.Native.Nat.{ℕ, zero, suc, _+_, _-_, _*_, _^_, _≤_, _<_, zero-le}

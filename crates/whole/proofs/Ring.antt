@@ -1,6 +1,6 @@
--- Identities of whole numbers by reflection: `ring n (λ x y .. . left ≐ right) tt x y ..` proves `left ≡ right` for the n numbers named after it,
--- where both sides are sums, differences and products of these and of fixed numbers. antt multiplies out the difference of the two sides and
--- sees that nothing is left; a false identity leaves something, and `tt` is refused. Assumes nothing.
+-- Identities of whole numbers by reflection: `ring n (λ x y .. . left ≐ right) tt x y ..` proves `left ≡ right` for the n numbers
+-- named after it, where both sides are sums, differences and products of these and of fixed numbers. antt multiplies out the difference
+-- of the two sides and sees that nothing is left; a false identity leaves something, and `tt` is refused. Assumes nothing.
 use mathlib.Core.Path.{_≡_, refl, sym, ap, ap₂, _∙_}
 use mathlib.Core.Bool.{Bool, true, false, cond, _&&_}
 use mathlib.Core.List.{List, [], _∷_}

@@ -1,5 +1,5 @@
--- Laws of finite sums and of tables (specs/Sums.antt): sums add, scale and may be taken in either order; a table of a table is applied as one;
--- a transposed table moves from one side of a sum of products to the other. Assumes nothing.
+-- Laws of finite sums and of tables (specs/Sums.antt): sums add, scale and may be taken in either order; a table of a table is applied as
+-- one; a transposed table moves from one side of a sum of products to the other. Assumes nothing.
 use mathlib.Core.Path.{_≡_, refl, sym, ap, ap₂, _∙_, subst}
 use mathlib.Core.Logic.{⊎-elim}
 use Prim.Native.Nat.{ℕ, zero, suc, _+_, _*_, _≤_, _<_, zero-le}

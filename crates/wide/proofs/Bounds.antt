@@ -1,7 +1,7 @@
 -- How a caller knows that two words hold a result, so that its promise is the exact value: the bounds of the numbers that it is made of are
--- multiplied out by antt, as `ring` of `whole` multiplies out an identity. `stays n (λ x y .. . result) x bound within y bound within .. tt`
--- says `held result ≡ result` of the n numbers named after it, each with its bound and a proof of it. A result that could pass two words is refused
--- at `tt`.
+-- multiplied out by antt, as `ring` of `whole` multiplies out an identity. `stays n (λ x y .. . result) x bound within y bound within ..
+-- tt` says `held result ≡ result` of the n numbers named after it, each with its bound and a proof of it. A result that could pass two
+-- words is refused at `tt`.
 use mathlib.Core.Path.{_≡_, ap}
 use mathlib.Core.List.{List, [], _∷_}
 use Prim.Native.Nat.{ℕ, zero, suc, _+_, _*_, _^_, _≤_, _<_}

@@ -1,5 +1,5 @@
--- Whole numbers wider than 64 bits: a sign, and a size of two words. What such a number is worth, and what is held of a result that two words
--- cannot hold.
+-- Whole numbers wider than 64 bits: a sign, and a size of two words. What such a number is worth, and what is held of a result that two
+-- words cannot hold.
 use mathlib.Core.Bool.{Bool, true, false, cond}
 use Prim.Native.Nat.{ℕ, _+_, _*_, _^_}
 use lib.Dec.{ltb}
@@ -36,6 +36,7 @@ heldSize n = cond (ltb n limit) n 0
 unfoldable pub held : ℤ → ℤ
 held z = withSign z (heldSize (natAbs z))
 
--- What one word with a sign holds of a number: the number from −2^63 to 2^63 − 1, and else 0. (`mag` counts 0, 1, 2, .. and −1, −2, −3, .. alike from 0.)
+-- What one word with a sign holds of a number: the number from −2^63 to 2^63 − 1, and else 0. (`mag` counts 0, 1, 2, .. and −1,
+-- −2, −3, .. alike from 0.)
 unfoldable pub narrowed : ℤ → ℤ
 narrowed z = cond (ltb (mag z) (2 ^ 63)) z (pos 0)

@@ -1,5 +1,5 @@
--- A number's digits spelled at the end of a room of 39 bytes, from the last one backwards: what the loop of `wide_text::spell` keeps, and its steps.
--- Assumes nothing.
+-- A number's digits spelled at the end of a room of 39 bytes, from the last one backwards: what the loop of `wide_text::spell` keeps, and
+-- its steps. Assumes nothing.
 use mathlib.Core.Path.{_≡_, sym, ap, _∙_}
 use mathlib.Core.List.{List, [], _∷_, _++_, append-nil}
 use Prim.Native.Nat.{ℕ, suc, _+_, _-_, _/_, _%_, _^_, _≤_, _<_}

@@ -24,7 +24,7 @@ lowWord (negsuc n) = radix - 1 - n % radix
 unfoldable pub wordsFrom : ℤ → Words
 wordsFrom z = record { high = highWord z; low = lowWord z }
 
--- What two words reach of a number: the number from −2^127 to 2^127 − 1, and else 0. (`mag` counts 0, 1, 2, .. and −1, −2, −3, .. alike
--- from 0.)
+-- What two words reach of a number: the number from −2^127 to 2^127 − 1, and else 0. (`mag` counts 0, 1, 2, .. and −1, −2, −3,
+-- .. alike from 0.)
 unfoldable pub reached : ℤ → ℤ
 reached z = cond (ltb (mag z) (2 ^ 127)) z (pos 0)

@@ -15,7 +15,8 @@ use Rattle.bits.proofs.Places.{lay-last, lay-none}
 use Rattle.bits.proofs.put_field.Statement.{statement}
 use Rattle.bits.proofs.put_field.Tie as tie
 
--- old and new: the bytes as they came, and as they are; left: how many bits of the value are still to write, rest: the number that holds them
+-- old and new: the bytes as they came, and as they are; left: how many bits of the value are still to write, rest: the number that holds
+-- them
 record Going (old : List ℕ) (at width value : ℕ) (new : List ℕ) (rest left : ℕ) : Type 0 where
   fewer : left ≤ width
   same : length new ≡ length old

@@ -1,4 +1,5 @@
--- `figures::figure_of` meets its contract: at the codes 1, 2 and 3 the definition computes to a test of n, and any other code passes every test of it.
+-- `figures::figure_of` meets its contract: at the codes 1, 2 and 3 the definition computes to a test of n, and any other code passes
+-- every test of it.
 use mathlib.Core.Path.{sym, ap, ap₂, _∙_}
 use borrow.Author.Needs.{needs}
 use borrow.Author.Tests.{ne-eqb}

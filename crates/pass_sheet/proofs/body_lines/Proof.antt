@@ -1,4 +1,5 @@
--- `pass_sheet::body_lines` meets its contract: the reader keeps its promise on the parts that are lent to it, and its values are worked from there.
+-- `pass_sheet::body_lines` meets its contract: the reader keeps its promise on the parts that are lent to it, and its values are worked
+-- from there.
 use mathlib.Core.Path.{_≡_, refl, sym, ap, _∙_, subst}
 use mathlib.Core.List.{List, [], _∷_, _++_}
 use Prim.Native.Nat.{ℕ, _+_, _≤_}

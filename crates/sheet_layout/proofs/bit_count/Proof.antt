@@ -1,4 +1,5 @@
--- `sheet_layout::bit_count` meets its contract: what the arms compute is the width of the layout, for every figure, and a figure has few angles.
+-- `sheet_layout::bit_count` meets its contract: what the arms compute is the width of the layout, for every figure, and a figure has few
+-- angles.
 use Prim.Native.Nat.{ℕ, _+_, _*_}
 use mathlib.Core.Path.{_≡_, sym, ap, ap₂, _∙_}
 use native.Mathlib.Omega.{arith}

@@ -1,5 +1,5 @@
--- `text::put_word` meets its contract: the bytes before `done` are in place and every other byte of the buffer is as it was; a turn lays the
--- next one (`paste-suc`), until the word or the room is at its end.
+-- `text::put_word` meets its contract: the bytes before `done` are in place and every other byte of the buffer is as it was; a turn lays
+-- the next one (`paste-suc`), until the word or the room is at its end.
 use mathlib.Core.Path.{_≡_, sym, ap, _∙_}
 use Prim.Native.Nat.{ℕ, _+_, _-_, _≤_}
 use native.Mathlib.Numerals.{add-one}

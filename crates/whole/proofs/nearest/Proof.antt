@@ -1,5 +1,5 @@
--- `whole::nearest` meets its contract: the remainder tells on which side of the half n / d lies, the quotient which way a half goes, and rounding up never
--- passes n.
+-- `whole::nearest` meets its contract: the remainder tells on which side of the half n / d lies, the quotient which way a half goes, and
+-- rounding up never passes n.
 use mathlib.Core.Path.{sym}
 use Prim.Native.Nat.{_<_}
 use native.Mathlib.Nat.{mod-lt}

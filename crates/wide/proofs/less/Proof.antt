@@ -1,4 +1,5 @@
--- `wide::less` meets its contract: by sizes where the signs are the same, the larger size the lesser below zero; else by the sign, unless both are 0.
+-- `wide::less` meets its contract: by sizes where the signs are the same, the larger size the lesser below zero; else by the sign, unless
+-- both are 0.
 use mathlib.Core.Path.{sym, ap, _∙_}
 use mathlib.Core.Bool.{not}
 use borrow.Author.Needs.{needs}

@@ -1,4 +1,5 @@
--- `wide::sum` meets its contract: with one sign the sizes add up, and with two the larger size keeps its own and loses the other, which two words hold.
+-- `wide::sum` meets its contract: with one sign the sizes add up, and with two the larger size keeps its own and loses the other, which
+-- two words hold.
 use mathlib.Core.Path.{sym, ap, _∙_}
 use Prim.Native.Nat.{_≤_, _<_}
 use native.Mathlib.Nat.{le-of-lt}

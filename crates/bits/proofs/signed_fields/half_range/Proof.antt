@@ -1,4 +1,5 @@
--- `bits::signed_fields::half_range` meets its contract: 2 to one less than the width, at a width from 1 to 32, where a shift of 1 loses no bit.
+-- `bits::signed_fields::half_range` meets its contract: 2 to one less than the width, at a width from 1 to 32, where a shift of 1 loses
+-- no bit.
 use mathlib.Core.Path.{_∙_, sym, ap}
 use Prim.Native.Nat.{_-_, _^_}
 use native.Mathlib.Nat.{one-mul}

@@ -1,4 +1,5 @@
--- `bits::signed_fields::signed` meets its contract: the lower half of the range stands for itself, and the upper half for as many numbers below 0.
+-- `bits::signed_fields::signed` meets its contract: the lower half of the range stands for itself, and the upper half for as many numbers
+-- below 0.
 use mathlib.Core.Path.{_≡_, refl, sym, ap, _∙_, subst}
 use Prim.Native.Nat.{ℕ, zero, suc, _-_, _*_, _^_, _<_}
 use native.Mathlib.Nat.{zero-add}

@@ -1,5 +1,5 @@
--- `bits::signed_fields::twos_complement` meets its contract: a number that is not negative stands for itself, and one below 0 for what is left of the
--- range above −1 − it.
+-- `bits::signed_fields::twos_complement` meets its contract: a number that is not negative stands for itself, and one below 0 for what is
+-- left of the range above −1 − it.
 use mathlib.Core.Bool.{Bool}
 use mathlib.Core.Path.{_≡_, sym, ap, _∙_}
 use native.Mathlib.Omega.{arith}

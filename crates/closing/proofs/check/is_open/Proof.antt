@@ -1,4 +1,5 @@
--- `closing::check::is_open` meets its contract: where the first comparison holds both sides are true, and where it fails both are the second.
+-- `closing::check::is_open` meets its contract: where the first comparison holds both sides are true, and where it fails both are the
+-- second.
 use mathlib.Core.Bool.{Bool, _||_}
 use mathlib.Core.Path.{sym, ap, _∙_}
 use lib.IntN.{ℤ, pos}

@@ -1,4 +1,5 @@
--- `closing::check::strays` meets its contract: where the first comparison holds both sides are true, and where it fails both are the second.
+-- `closing::check::strays` meets its contract: where the first comparison holds both sides are true, and where it fails both are the
+-- second.
 use Prim.Native.Nat.{ℕ}
 use mathlib.Core.Bool.{Bool, _||_}
 use mathlib.Core.Path.{_≡_, sym, ap, ap₂, _∙_}

@@ -1,4 +1,5 @@
--- `closing::directions::ceiling_quotient` meets its contract: the negation of a number of 32 bits is in range, and so is that of its quotient.
+-- `closing::directions::ceiling_quotient` meets its contract: the negation of a number of 32 bits is in range, and so is that of its
+-- quotient.
 use Prim.Native.Nat.{ℕ}
 use mathlib.Core.Path.{_≡_, ap, _∙_}
 use native.Mathlib.Omega.{arith}

@@ -1,4 +1,5 @@
--- `closing::directions::floor_quotient` meets its contract: below zero −1 − z is in range and not below zero, and so is −1 less its quotient.
+-- `closing::directions::floor_quotient` meets its contract: below zero −1 − z is in range and not below zero, and so is −1 less its
+-- quotient.
 use Prim.Native.Nat.{ℕ, _/_, _^_, _<_}
 use mathlib.Core.Path.{_≡_, sym, ap, subst, subst⁻¹, _∙_}
 use native.Mathlib.Nat.{lt-of-le-of-lt}

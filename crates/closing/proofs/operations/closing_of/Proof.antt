@@ -1,4 +1,5 @@
--- `closing::operations::closing_of` meets its contract: the rows in their order, and the choice from the numerators that the first pass left.
+-- `closing::operations::closing_of` meets its contract: the rows in their order, and the choice from the numerators that the first pass
+-- left.
 use Prim.Native.Nat.{ℕ}
 use mathlib.Core.List.{List, _++_}
 use mathlib.Core.Path.{_≡_, sym, ap, _∙_}

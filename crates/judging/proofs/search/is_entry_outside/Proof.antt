@@ -1,5 +1,5 @@
--- `judging::search::is_entry_outside` meets its contract: where the log-sine is outside both sides are true, and else both are what is said of the
--- difference.
+-- `judging::search::is_entry_outside` meets its contract: where the log-sine is outside both sides are true, and else both are what is
+-- said of the difference.
 use mathlib.Core.Bool.{Bool, _||_}
 use mathlib.Core.Path.{sym, ap, _∙_}
 use lib.IntN.{ℤ, pos, negsuc}

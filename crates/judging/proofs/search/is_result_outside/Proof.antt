@@ -1,5 +1,4 @@
 -- `judging::search::is_result_outside` meets its contract: an angle and a correction of 32 bits sum to less than 64.
-use mathlib.Core.Bool.{Bool}
 use mathlib.Core.Path.{_≡_, ap, ap₂, _∙_}
 use native.Mathlib.Omega.{arith}
 use borrow.Author.Needs.{needs}

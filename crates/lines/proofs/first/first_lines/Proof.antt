@@ -1,4 +1,5 @@
--- `lines::first::first_lines` meets its contract: the figure's line and those of its angles and of its conditions make the text (`text-laid`).
+-- `lines::first::first_lines` meets its contract: the figure's line and those of its angles and of its conditions make the text
+-- (`text-laid`).
 use Prim.Native.Nat.{_≤_}
 use borrow.Author.Needs.{needs}
 use Rattle.lines.specs.Lines.{firstLines, firstText}

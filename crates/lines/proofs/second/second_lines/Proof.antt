@@ -1,4 +1,5 @@
--- `lines::second::second_lines` meets its contract: the figure's line and those of its angles and of its conditions make the text (`text-laid`).
+-- `lines::second::second_lines` meets its contract: the figure's line and those of its angles and of its conditions make the text
+-- (`text-laid`).
 use mathlib.Core.Path.{ap₂}
 use Prim.Native.Nat.{_≤_}
 use borrow.Author.Needs.{needs}

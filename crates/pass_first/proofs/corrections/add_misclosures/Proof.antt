@@ -1,11 +1,11 @@
--- `pass_first::corrections::add_misclosures` meets its contract. The invariant: the rests passed are worked over, and the sums after them as they were.
+-- `pass_first::corrections::add_misclosures` meets its contract. The invariant: the rests passed are worked over, and the sums after them
+-- as they were.
 use mathlib.Core.Path.{_≡_, ap₂, _∙_}
-use mathlib.Core.List.{List}
 use Prim.Native.Nat.{ℕ, _-_}
 use native.Mathlib.Nat.{le-refl}
 use native.Mathlib.Omega.{arith}
 use denote.Ref.{now}
-use lib.IntN.{ℤ, pos, natAbs, _+ℤ_}
+use lib.IntN.{ℤ, pos, _+ℤ_}
 use lib.ListN.{length}
 use mir.Syntax.{w32}
 use mir.Val.{SFits, toZ, ofZ}

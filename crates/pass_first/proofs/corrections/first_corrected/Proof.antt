@@ -1,4 +1,5 @@
--- `pass_first::corrections::first_corrected` meets its contract: number 7 is asked of the results, and everything is stored where it passes.
+-- `pass_first::corrections::first_corrected` meets its contract: number 7 is asked of the results, and everything is stored where it
+-- passes.
 use mathlib.Core.Path.{_≡_, sym, ap, _∙_}
 use mathlib.Core.List.{List, [], _∷_, _++_}
 use Prim.Native.Nat.{ℕ, _≤_}

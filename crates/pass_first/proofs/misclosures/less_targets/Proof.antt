@@ -1,6 +1,6 @@
--- `pass_first::misclosures::less_targets` meets its contract. The invariant: the misclosures passed are worked over, and the sums after them as they were.
+-- `pass_first::misclosures::less_targets` meets its contract. The invariant: the misclosures passed are worked over, and the sums after
+-- them as they were.
 use mathlib.Core.Path.{_≡_, ap₂, _∙_}
-use mathlib.Core.List.{List}
 use Prim.Native.Nat.{ℕ, suc, _-_}
 use native.Mathlib.Nat.{le-refl}
 use native.Mathlib.Omega.{arith}

@@ -1,4 +1,5 @@
--- `pass_second::corrections::second_corrected` meets its contract: number 7 is asked of the results, and everything is stored where it passes.
+-- `pass_second::corrections::second_corrected` meets its contract: number 7 is asked of the results, and everything is stored where it
+-- passes.
 use mathlib.Core.Bool.{Bool, cond}
 use mathlib.Core.Path.{_≡_, sym, ap, _∙_}
 use mathlib.Core.List.{List, [], _∷_, _++_}

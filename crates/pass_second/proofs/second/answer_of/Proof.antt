@@ -1,5 +1,6 @@
--- `pass_second::second::answer_of` meets its contract: both misclosures and the divisor's words where the verdict passed, and else its refusal.
-use mathlib.Core.Path.{_≡_, sym, ap, ap₂, _∙_}
+-- `pass_second::second::answer_of` meets its contract: both misclosures and the divisor's words where the verdict passed, and else its
+-- refusal.
+use mathlib.Core.Path.{sym, ap, ap₂, _∙_}
 use borrow.Author.Needs.{needs}
 use lib.IntN.{ℤ}
 use mir.Syntax.{w64}

@@ -1,4 +1,5 @@
--- `pass_second::sines::reduced_from` meets its contract. The invariant: the places passed are worked over, those after them as they were, and the total is the sum of the squares.
+-- `pass_second::sines::reduced_from` meets its contract. The invariant: the places passed are worked over, those after them as they were,
+-- and the total is the sum of the squares.
 use mathlib.Core.Path.{_≡_, refl, ap, ap₂, _∙_}
 use mathlib.Core.List.{List}
 use Prim.Native.Nat.{ℕ, _-_, _*_, _≤_}

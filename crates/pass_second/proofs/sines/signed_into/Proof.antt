@@ -1,4 +1,5 @@
--- `pass_second::sines::signed_into` meets its contract. The invariant: the differences passed are filled in, and the totals are the sums of what was passed.
+-- `pass_second::sines::signed_into` meets its contract. The invariant: the differences passed are filled in, and the totals are the sums
+-- of what was passed.
 use mathlib.Core.Path.{_≡_, refl, _∙_, ap}
 use mathlib.Core.List.{List}
 use Prim.Native.Nat.{ℕ, _-_, _*_, _≤_}

@@ -1,8 +1,7 @@
 -- `pass_second::sines::sine_verdict` meets its contract: numbers 10 and 9, in their order.
-use mathlib.Core.Path.{_≡_, refl, ap, ap₂, _∙_}
+use mathlib.Core.Path.{ap₂, _∙_}
 use borrow.Author.Needs.{needs}
 use lib.IntN.{ℤ, pos}
-use Prim.Native.Nat.{ℕ, _+_, _*_, _^_}
 use mir.Syntax.{w64}
 use mir.Facts.{toZ-ofZ}
 use Rattle.wide.specs.Wide.{sizeOf, radix}

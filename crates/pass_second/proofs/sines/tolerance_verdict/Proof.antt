@@ -1,4 +1,5 @@
--- `pass_second::sines::tolerance_verdict` meets its contract. W is below 2³², so that its square fits 64 bits; a hundredfold of it is not taken here.
+-- `pass_second::sines::tolerance_verdict` meets its contract. W is below 2³², so that its square fits 64 bits; a hundredfold of it is
+-- not taken here.
 use mathlib.Core.Path.{_≡_, sym, ap, _∙_}
 use mathlib.Core.Bool.{Bool}
 use Prim.Native.Nat.{_-_, _*_, _^_, _≤_}

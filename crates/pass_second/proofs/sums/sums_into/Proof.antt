@@ -1,22 +1,20 @@
 -- `pass_second::sums::sums_into` meets its contract: both sine conditions by their signs.
 use mathlib.Core.Bool.{Bool, true, false, cond}
-use mathlib.Core.Path.{_≡_, refl, sym, ap, ap₂, _∙_, subst}
+use mathlib.Core.Path.{_≡_, refl, sym, ap, _∙_}
 use mathlib.Core.List.{List, [], _∷_}
-use Prim.Native.Nat.{ℕ, _*_, _≤_, _<_}
+use Prim.Native.Nat.{ℕ}
 use native.Mathlib.Omega.{arith}
 use borrow.Author.Needs.{needs}
 use denote.Ref.{now}
-use lib.IntN.{ℤ, natAbs}
+use lib.IntN.{ℤ}
 use lib.ListN.{length}
 use mir.Syntax.{w64}
 use mir.Val.{toZ, ofZ}
 use mir.ValLaws.{toZ-ofZ}
 use Rattle.whole.specs.Lists.{listed}
 use Rattle.whole.specs.Sums.{dot, vector}
-use Rattle.refusals.specs.Ranges.{mostLogSine}
 use Rattle.figures.specs.declared.Figure.{Figure}
-use Rattle.figures.specs.Figure.{SineCondition, angleCount, pole, side, hasSide}
-use Rattle.figures.specs.Numerators.{mostAngles}
+use Rattle.figures.specs.Figure.{angleCount, pole, side, hasSide}
 use Rattle.figures.proofs.Figures.{angle-bound, pole-signed, side-signed, side-none, side-some}
 use Rattle.pass_rules.specs.SecondPass.{SineEntries, sineEntries, sideMisclosure, sharedProducts, reducedIn, reducedOf}
 use Rattle.pass_steps.specs.Premises.{Within, mostReduced}
@@ -24,7 +22,7 @@ use Rattle.pass_steps.proofs.StepLaws.{listed-within, length-of}
 use Rattle.pass_second.specs.declared.sines.Sines.{Sines}
 use Rattle.pass_second.specs.Sines.{aloneOf, togetherOf, withSides}
 use Rattle.pass_second.proofs.SineBounds.{angles-magnitude, reduced-magnitude}
-use Rattle.pass_second.proofs.SineSteps.{conditionSines, anglesPart, sign-small, sines-are, reduced-by}
+use Rattle.pass_second.proofs.SineSteps.{conditionSines, sign-small, sines-are, reduced-by}
 use Rattle.pass_second.proofs.SumSteps.{alone-are, none-reduced, two-sides, both-misclosure, both-reduced, shared-are, together-are}
 use Rattle.pass_second.proofs.sums.sums_into.Statement.{statement}
 use Rattle.pass_second.proofs.sums.sums_into.Tie as tie

@@ -1,9 +1,9 @@
--- `pass_steps::numerators::numerators_into` meets its contract: no product is taken where a count is not the figure's own or a misclosure is too great.
+-- `pass_steps::numerators::numerators_into` meets its contract: no product is taken where a count is not the figure's own or a misclosure
+-- is too great.
 use mathlib.Core.Path.{_≡_, sym, ap, _∙_}
 use borrow.Author.Needs.{needs}
 use denote.Ref.{now}
 use lib.ListN.{length}
-use Rattle.refusals.specs.declared.Verdict.{Verdict}
 use Rattle.refusals.specs.Order.{verdictOf}
 use Rattle.refusals.specs.Promise.{stored}
 use Rattle.refusals.specs.Table.{misclosuresRow}

@@ -1,5 +1,5 @@
 -- `pass_steps::stores::store_signed` meets its contract: nothing is copied where the lengths differ.
-use mathlib.Core.Path.{_≡_, sym, _∙_}
+use mathlib.Core.Path.{sym, _∙_}
 use borrow.Author.Needs.{needs}
 use denote.Ref.{now}
 use Rattle.pass_steps.proofs.Fitting.{copied, not-copied}

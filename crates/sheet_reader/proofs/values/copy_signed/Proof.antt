@@ -1,4 +1,5 @@
--- `sheet_reader::values::copy_signed` meets its contract. As of `copy`, the loop's invariant: the values passed so far are copied. The measure is how many are left.
+-- `sheet_reader::values::copy_signed` meets its contract. As of `copy`, the loop's invariant: the values passed so far are copied. The
+-- measure is how many are left.
 use mathlib.Core.Path.{refl, ap, _∙_}
 use Prim.Native.Nat.{ℕ, _-_}
 use native.Mathlib.Omega.{arith}

@@ -1,10 +1,9 @@
--- `sheet_writer::packer::finish` meets its contract. The loop's invariant: the bytes that are out and the bits of `rest` are what was packed, with zero
--- bits after it. The measure is how many bytes are left.
+-- `sheet_writer::packer::finish` meets its contract. The loop's invariant: the bytes that are out and the bits of `rest` are what was
+-- packed, with zero bits after it. The measure is how many bytes are left.
 use mathlib.Core.List.{List}
 use mathlib.Core.Path.{_≡_, ap₂, subst}
 use Prim.Native.Nat.{ℕ, _-_, _*_, _%_, _^_, _≤_, _<_}
 use native.Mathlib.Omega.{arith}
-use borrow.Author.Needs.{needs}
 use denote.Ref.{now}
 use lib.ListN.{length}
 use lib.Pow.{pow-pos}

@@ -3,7 +3,6 @@ use mathlib.Core.Path.{_∙_}
 use Prim.Native.Nat.{_^_}
 use native.Mathlib.Nat.{one-mul}
 use native.Mathlib.Omega.{arith}
-use borrow.Author.Needs.{needs}
 use lib.Pow.{shl-exact}
 use Rattle.sheet_writer.proofs.packer.power_of_two.Statement.{statement}
 use Rattle.sheet_writer.proofs.packer.power_of_two.Tie as tie

@@ -1,5 +1,5 @@
--- `sheet_writer::write::put_column` meets its contract. The loop's invariant: the fields of the values passed so far are packed. The measure is how many are
--- left.
+-- `sheet_writer::write::put_column` meets its contract. The loop's invariant: the fields of the values passed so far are packed. The
+-- measure is how many are left.
 use Prim.Native.Nat.{ℕ, _-_}
 use mathlib.Core.List.{List, [], _∷_}
 use native.Mathlib.Omega.{arith}

@@ -1,6 +1,6 @@
 -- `sheet_writer::write::put_head` meets its contract: each field is packed after the one before it.
 use mathlib.Core.List.{[], _∷_}
-use mathlib.Core.Path.{_≡_, ap}
+use mathlib.Core.Path.{ap}
 use native.Mathlib.Omega.{arith}
 use borrow.Author.Needs.{needs}
 use denote.Ref.{now}

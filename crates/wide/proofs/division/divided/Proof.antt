@@ -1,4 +1,5 @@
--- `wide::division::divided` meets its contract: by a divisor of one word the high word is divided first, and by any other the quotient has no high word.
+-- `wide::division::divided` meets its contract: by a divisor of one word the high word is divided first, and by any other the quotient
+-- has no high word.
 use mathlib.Core.Logic.{⊎-elim}
 use native.Mathlib.Omega.{arith}
 use Rattle.wide.specs.Wide.{sizeOf}

@@ -1,5 +1,5 @@
--- `wide::division::times_at_least` meets its contract: a size without a high word is divided as a word, and of any other the leading bits are, by
--- one more than those of the divisor, which is never too much.
+-- `wide::division::times_at_least` meets its contract: a size without a high word is divided as a word, and of any other the leading bits
+-- are, by one more than those of the divisor, which is never too much.
 use mathlib.Core.Path.{_≡_}
 use Prim.Native.Nat.{_-_, _^_, _≤_}
 use native.Mathlib.Nat.{mul-le-mul-right, lt-of-le-of-lt}

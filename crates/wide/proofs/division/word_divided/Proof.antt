@@ -1,5 +1,5 @@
--- `wide::division::word_divided` meets its contract: the divisor times what has been counted, and what is left, are the size that is divided. A turn
--- counts one or more, so that what is left gets less.
+-- `wide::division::word_divided` meets its contract: the divisor times what has been counted, and what is left, are the size that is
+-- divided. A turn counts one or more, so that what is left gets less.
 use mathlib.Core.Path.{_≡_, sym, _∙_}
 use Prim.Native.Nat.{_+_, _*_, _≤_, _<_}
 use native.Mathlib.Nat.{mul-le-mul-left}

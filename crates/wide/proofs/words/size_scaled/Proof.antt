@@ -1,5 +1,5 @@
--- `wide::words::size_scaled` meets its contract: the products of the words, the high one moved up by a word; where that one passes a word, two
--- words cannot hold the product.
+-- `wide::words::size_scaled` meets its contract: the products of the words, the high one moved up by a word; where that one passes a
+-- word, two words cannot hold the product.
 use mathlib.Core.Path.{sym, ap, _∙_}
 use native.Mathlib.Omega.{arith}
 use borrow.Author.Needs.{needs}

@@ -1,5 +1,5 @@
--- `wide::words::sizes_sum` meets its contract: the sums of the words, with the carry of the low ones, are the sum where nothing is carried past
--- the high word; where something is, two words cannot hold it.
+-- `wide::words::sizes_sum` meets its contract: the sums of the words, with the carry of the low ones, are the sum where nothing is
+-- carried past the high word; where something is, two words cannot hold it.
 use mathlib.Core.Path.{sym, _∙_}
 use native.Mathlib.Omega.{arith}
 use borrow.Author.Needs.{needs}

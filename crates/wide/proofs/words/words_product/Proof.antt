@@ -1,4 +1,5 @@
--- `wide::words::words_product` meets its contract: the columns of the product by halves, each with its carries, are the product, and none passes a word.
+-- `wide::words::words_product` meets its contract: the columns of the product by halves, each with its carries, are the product, and none
+-- passes a word.
 use Prim.Native.Nat.{_^_, _<_}
 use native.Mathlib.Nat.{le-add-right, lt-of-le-of-lt}
 use native.Mathlib.Omega.{arith}

@@ -1,5 +1,5 @@
-// The values of a sheet: taken off it once, and stored last. Of each sort there are as many as the kind and the figure have. Arrays for them are
-// lent, since one that is answered would be copied.
+// The values of a sheet: taken off it once, and stored last. Of each sort there are as many as the kind and the figure have. Arrays for
+// them are lent, since one that is answered would be copied.
 ghost use mathlib.Core.Path.{_≡_};
 ghost use lib.ListN.{length, take, replicate};
 ghost use Rattle.figures.specs.declared.Figure.{Figure};

@@ -1,7 +1,7 @@
 -- What the reader promises once kind and figure are known, from what its parts answer. Assumes nothing.
 use Prim.Native.Nat.{ℕ, _≤_}
 use mathlib.Core.List.{List}
-use mathlib.Core.Path.{_≡_, refl, sym, ap, ap₂, subst, _∙_}
+use mathlib.Core.Path.{_≡_, refl, sym, ap, subst, _∙_}
 use native.Mathlib.Omega.{arith}
 use lib.ListN.{length, getD}
 use Rattle.refusals.specs.declared.Refusal.{Refusal}
@@ -25,6 +25,23 @@ use Rattle.refusals.proofs.InSteps.{judged-after-pass, judged-after-failure}
 use Rattle.sheet_rules.proofs.Accepted.{head-refused, head-found, kept}
 use Rattle.sheet_reader.specs.Parts.{shapeRows, answered, valuesOf, afterVerdict, ValuesPromise, bodyAnswer, BodyPromise}
 use Rattle.sheet_reader.proofs.ColumnLaws.{few-of-each}
+
+-- slices that have the lengths of their sorts
+module _ (kind : Kind) (f : Figure) (entry : Slices) (right : lengthsLent entry ≡ ownLengths kind f) where
+  pub as-many : (i : ℕ) → getD (lengthsLent entry) i 0 ≡ getD (ownLengths kind f) i 0
+  as-many i = ap (λ (l : List ℕ). getD l i 0) right
+
+  -- the arrays have room for each sort
+  pub have-room : (length (entry .angles) ≤ 24) × (length (entry .rounds) ≤ 24) × (length (entry .fixed) ≤ 4) × (length (entry .logSines) ≤ 24)
+      × (length (entry .differences) ≤ 24) × (length (entry .logSides) ≤ 2)
+  have-room = omega (arith, few-of-each kind f, as-many 0, as-many 1, as-many 2, as-many 3, as-many 4, as-many 5)
+
+-- the same promise of what is the same
+pub values-are : (kind : Kind) (f : Figure) (entry : Slices) {l m : ℕ} {taken values : Slices} {reading : Reading} {exit : Slices} → l ≡ m → taken ≡ values
+    → ValuesPromise kind f l taken entry reading exit → ValuesPromise kind f m values entry reading exit
+values-are kind f entry {l} {m} {taken} {values} {reading} {exit} limit all promise =
+    subst (λ (n : ℕ). ValuesPromise kind f n values entry reading exit) limit
+    (subst (λ (t : Slices). ValuesPromise kind f l t entry reading exit) all promise)
 
 -- what was taken, judged: stored where it passes, and else nothing
 module _ (kind : Kind) (f : Figure) (l : ℕ) (taken entry : Slices) {verdict : Verdict} {reading : Reading}
@@ -57,35 +74,30 @@ module _ (kind : Kind) (f : Figure) (s : List ℕ) (entry : Slices) where
     pub right-lengths : lengthsLent entry ≡ ownLengths kind f
     right-lengths = same-lengths (lengthsLent entry) (ownLengths kind f) (none-holds (shapeRows kind f s (lengthsLent entry)) (sym is-shape ∙ passes) .1 .0)
 
-    pub as-many : (i : ℕ) → getD (lengthsLent entry) i 0 ≡ getD (ownLengths kind f) i 0
-    as-many i = ap (λ (l : List ℕ). getD l i 0) right-lengths
-
-    -- the arrays have room for each sort
-    pub have-room : (length (entry .angles) ≤ 24) × (length (entry .rounds) ≤ 24) × (length (entry .fixed) ≤ 4) × (length (entry .logSines) ≤ 24)
-        × (length (entry .differences) ≤ 24) × (length (entry .logSides) ≤ 2)
-    have-room = omega (arith, few-of-each kind f, as-many 0, as-many 1, as-many 2, as-many 3, as-many 4, as-many 5)
-
     -- and what was taken decides
-    module _ {l : ℕ} {taken : Slices} (limit : l ≡ valuesRead kind f s .limitOrTolerance) (all : taken ≡ slicesOf (valuesRead kind f s)) where
-      rows : judged (valueRows kind (valuesOf l taken)) ≡ judged (bodyRows kind f s (lengthsLent entry))
-      unfolding bodyRows valuesRead
-      rows =
-          ap₂ (λ (n : ℕ) (t : Slices). judged (valueRows kind (valuesOf n t))) limit all
-          ∙ sym (judged-after-pass (shapeRows kind f s (lengthsLent entry)) (valueRows kind (valuesRead kind f s)) (sym is-shape ∙ passes))
+    rows : judged (valueRows kind (valuesRead kind f s)) ≡ judged (bodyRows kind f s (lengthsLent entry))
+    unfolding bodyRows
+    rows = sym (judged-after-pass (shapeRows kind f s (lengthsLent entry)) (valueRows kind (valuesRead kind f s)) (sym is-shape ∙ passes))
 
-      read : (v : Verdict) → answered v kind f l ≡ readingAfter v kind f s
-      read Passed = ap (Read kind f) limit
-      read (Failed r) = refl
+    pub values-decide : {reading : Reading} {exit : Slices}
+        → ValuesPromise kind f (valuesRead kind f s .limitOrTolerance) (slicesOf (valuesRead kind f s)) entry reading exit
+        → BodyPromise kind f s entry reading exit
+    values-decide promise = record {
+      answered = promise .answered ∙ ap (λ (v : Verdict). answered v kind f (valuesRead kind f s .limitOrTolerance)) rows ∙ read decided;
+      leaves = promise .leaves ∙ ap (λ (v : Verdict). afterVerdict v (slicesOf (valuesRead kind f s)) entry) rows ∙ left decided;
+    }
+      where
+        decided : Verdict
+        decided = judged (bodyRows kind f s (lengthsLent entry))
 
-      left : (v : Verdict) → afterVerdict v taken entry ≡ afterReading (readingAfter v kind f s) (λ k g. slicesOf (valuesRead k g s)) entry
-      left Passed = all
-      left (Failed r) = refl
+        read : (v : Verdict) → answered v kind f (valuesRead kind f s .limitOrTolerance) ≡ readingAfter v kind f s
+        read Passed = refl
+        read (Failed r) = refl
 
-      pub values-decide : {reading : Reading} {exit : Slices} → ValuesPromise kind f l taken entry reading exit → BodyPromise kind f s entry reading exit
-      values-decide promise = record {
-        answered = promise .answered ∙ ap (λ (v : Verdict). answered v kind f l) rows ∙ read (judged (bodyRows kind f s (lengthsLent entry)));
-        leaves = promise .leaves ∙ ap (λ (v : Verdict). afterVerdict v taken entry) rows ∙ left (judged (bodyRows kind f s (lengthsLent entry)));
-      }
+        left : (v : Verdict)
+            → afterVerdict v (slicesOf (valuesRead kind f s)) entry ≡ afterReading (readingAfter v kind f s) (λ k g. slicesOf (valuesRead k g s)) entry
+        left Passed = refl
+        left (Failed r) = refl
 
 -- ---- the reader, by what a look at the sheet has found
 

@@ -4,8 +4,9 @@ ghost use lib.ListN.{length};
 ghost use Rattle.refusals.specs.Order.{verdictOf, judged};
 ghost use Rattle.refusals.specs.Table.{fillingRow};
 ghost use Rattle.sheet_layout.specs.Layout.{sheetSize};
-ghost use Rattle.sheet_rules.specs.Judging.{fillingBits};
-ghost use Rattle.sheet_rules.specs.Promises.{slices, lengthsLent, ReaderPromise};
+ghost use Rattle.sheet_rules.specs.Sheet.{valuesRead};
+ghost use Rattle.sheet_rules.specs.Judging.{ownLengths, fillingBits};
+ghost use Rattle.sheet_rules.specs.Promises.{slices, slicesOf, lengthsLent, ReaderPromise};
 ghost use Rattle.sheet_reader.specs.Parts.{shapeRows, answered, ValuesPromise, BodyPromise};
 use crate::values::limit_or_tolerance_in;
 use crate::values::store;
@@ -140,6 +141,64 @@ fn judge_and_store(
     reading
 }
 
+// The values of a sheet that has its shape.
+fn read_values(
+    sheet: &[u8],
+    kind: Kind,
+    figure: Figure,
+    angles: &mut [u32],
+    rounds: &mut [u8],
+    fixed: &mut [u32],
+    log_sines: &mut [u32],
+    differences: &mut [i32],
+    log_sides: &mut [u32],
+) -> Reading
+    requires { ⌜ lengthsLent (slices (now angles) (now rounds) (now fixed) (now «log_sines») (now differences) (now «log_sides»))
+        ≡ ownLengths kind figure ⌝ }
+    ensures { λ reading. ⌜ ValuesPromise kind figure (valuesRead kind figure (now (sheet .entry)) .limitOrTolerance)
+        (slicesOf (valuesRead kind figure (now (sheet .entry))))
+        (slices (now (angles .entry)) (now (rounds .entry)) (now (fixed .entry)) (now («log_sines» .entry))
+        (now (differences .entry)) (now («log_sides» .entry))) reading
+        (slices (now (angles .exit)) (now (rounds .exit)) (now (fixed .exit)) (now («log_sines» .exit))
+        (now (differences .exit)) (now («log_sides» .exit))) ⌝ }
+{
+    let bound = limit_or_tolerance_in(sheet, kind);
+    let mut a = [0u32; MOST_ANGLES];
+    let mut r = [1u8; MOST_ANGLES];
+    let mut f = [0u32; MOST_FIXED];
+    let mut l = [0u32; MOST_ANGLES];
+    let mut d = [0i32; MOST_ANGLES];
+    let mut s = [0u32; MOST_SIDES];
+    take_values(
+        sheet,
+        kind,
+        figure,
+        &mut a[..angles.len()],
+        &mut r[..rounds.len()],
+        &mut f[..fixed.len()],
+        &mut l[..log_sines.len()],
+        &mut d[..differences.len()],
+        &mut s[..log_sides.len()],
+    );
+    judge_and_store(
+        kind,
+        figure,
+        bound,
+        &a[..angles.len()],
+        &r[..rounds.len()],
+        &f[..fixed.len()],
+        &l[..log_sines.len()],
+        &d[..differences.len()],
+        &s[..log_sides.len()],
+        angles,
+        rounds,
+        fixed,
+        log_sines,
+        differences,
+        log_sides,
+    )
+}
+
 // Reads the sheet of a kind and a figure that are known: what follows the head.
 pub fn read_body(
     sheet: &[u8],
@@ -170,34 +229,10 @@ pub fn read_body(
     if let Verdict::Failed(refusal) = shape {
         return Reading::Refused(refusal);
     }
-    let bound = limit_or_tolerance_in(sheet, kind);
-    let mut a = [0u32; MOST_ANGLES];
-    let mut r = [1u8; MOST_ANGLES];
-    let mut f = [0u32; MOST_FIXED];
-    let mut l = [0u32; MOST_ANGLES];
-    let mut d = [0i32; MOST_ANGLES];
-    let mut s = [0u32; MOST_SIDES];
-    take_values(
+    read_values(
         sheet,
         kind,
         figure,
-        &mut a[..angles.len()],
-        &mut r[..rounds.len()],
-        &mut f[..fixed.len()],
-        &mut l[..log_sines.len()],
-        &mut d[..differences.len()],
-        &mut s[..log_sides.len()],
-    );
-    judge_and_store(
-        kind,
-        figure,
-        bound,
-        &a[..angles.len()],
-        &r[..rounds.len()],
-        &f[..fixed.len()],
-        &l[..log_sines.len()],
-        &d[..differences.len()],
-        &s[..log_sides.len()],
         angles,
         rounds,
         fixed,

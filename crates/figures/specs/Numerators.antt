@@ -28,7 +28,7 @@ numerator f w i = applied (conditionCount f) (table (description f .rows)) w i
 unfoldable pub reducedCoefficient : Figure → (ℕ → ℤ) → ℕ → ℤ
 reducedCoefficient f d i = pos (denominator f) *ℤ d i +ℤ numerator f (conditionSum f d) i
 
--- no figure has more conditions, more angles, more angles in a condition, or more known sides
+-- no figure has more conditions, more angles, more angles in a condition, more fixed angles, or more known sides
 abbrev pub mostConditions : ℕ
 mostConditions = 9
 
@@ -37,6 +37,9 @@ mostAngles = 24
 
 abbrev pub mostMembers : ℕ
 mostMembers = 8
+
+abbrev pub mostFixed : ℕ
+mostFixed = 4
 
 abbrev pub mostSides : ℕ
 mostSides = 2

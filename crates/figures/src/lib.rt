@@ -49,6 +49,8 @@ pub const MOST_ANGLES: usize = 24;
 
 pub const MOST_CONDITIONS: usize = 9;
 
+pub const MOST_FIXED: usize = 4;
+
 pub const MOST_SIDES: usize = 2;
 
 // A figure's coefficient rows, one type for all figures: an array of arrays, with 0 where a figure has no angle or no condition.

@@ -2,12 +2,11 @@
 use Prim.Native.Nat.{_≤_}
 use lib.Dec.{leb, leb→le}
 use Rattle.figures.specs.declared.Figure.{Figure}
-use Rattle.figures.specs.Numerators.{mostAngles, mostSides}
+use Rattle.figures.specs.Numerators.{mostAngles, mostFixed, mostSides}
 use Rattle.figures.proofs.Figures.{angle-bound}
 use Rattle.sheet_layout.specs.declared.Kind.{Kind}
 use Rattle.sheet_layout.specs.Layout.{lengthsOf}
 use Rattle.sheet_layout.proofs.EachKind.{each}
-use Rattle.pass_sheet.specs.Worked.{mostFixed}
 
 pub angles-few : (kind : Kind) (f : Figure) → lengthsOf kind f .angles ≤ mostAngles
 angles-few kind f = angle-bound f

@@ -25,10 +25,6 @@ use Rattle.pass_rules.specs.Pass.{inForce}
 use Rattle.pass_rules.specs.FirstPass.{firstResultLengths, firstRows, misclosuresOf, numeratorsOf, roundedOf, correctedOf, restsOf}
 use Rattle.pass_rules.specs.SecondPass.{SineEntries, sineEntries, sineMisclosure, sideMisclosure, divisor, secondNumerator, secondResultLengths, secondRows, reducedOf, sideReducedOf, secondRoundedOf, adjustedOf, secondRestsOf}
 
--- no figure has more fixed angles
-abbrev pub mostFixed : ℕ
-mostFixed = 4
-
 -- ---- what is shown of a sheet
 
 -- what became of it

@@ -7,6 +7,7 @@ ghost use Rattle.pass_sheet.specs.Worked.{firstSheet, secondSheet, worke
 use figures::Figure;
 use figures::MOST_ANGLES;
 use figures::MOST_CONDITIONS;
+use figures::MOST_FIXED;
 use figures::MOST_SIDES;
 use lines::first_lines;
 use lines::refused_lines;
@@ -23,9 +24,6 @@ use sheet_rules::Pass;
 use sheet_rules::Reading;
 use sheet_rules::default_of;
 use sheet_rules::pass_of;
-
-// No figure has more fixed angles.
-const MOST_FIXED: usize = 4;
 
 // A sheet for the first pass.
 fn first_sheet(

@@ -3,7 +3,7 @@ use mathlib.Core.Path.{_≡_}
 use mathlib.Core.List.{List, _++_}
 use Prim.Native.Nat.{ℕ, _≤_}
 use lib.ListN.{length, take, drop}
-use Rattle.pass_steps.proofs.Lending.{part-again, still-few, again-length}
+use Rattle.whole.proofs.Lending.{part-again, still-few, again-length}
 
 pub record Again {A : Type 0} (n : ℕ) (whole part : List A) : Type 0 where
   pub few : n ≤ length (part ++ drop n whole)

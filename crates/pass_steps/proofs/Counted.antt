@@ -9,7 +9,7 @@ use Rattle.figures.specs.declared.Counts.{Counts}
 use Rattle.figures.specs.declared.Figure.{Figure}
 use Rattle.figures.specs.Figure.{angleCount, conditionCount, countsOf}
 use Rattle.figures.proofs.Figures.{angle-bound, condition-bound}
-use Rattle.pass_steps.proofs.Lending.{lent-length}
+use Rattle.whole.proofs.Lending.{lent-length}
 
 pub record Counted (f : Figure) (counts : Counts) : Type 0 where
   pub own-angles : counts .angles ≡ angleCount f

@@ -1,13 +1,12 @@
--- The steps of a loop that takes the values of a column, for values of any sort, and the arrays that they are taken into. Assumes nothing.
+-- The steps of a loop that takes the values of a column, for values of any sort. Assumes nothing.
 use Prim.Native.Nat.{ℕ, zero, suc, _+_, _*_, _≤_, _<_}
-use mathlib.Core.List.{List, [], _∷_, _++_}
+use mathlib.Core.List.{List, [], _∷_}
 use mathlib.Core.Path.{_≡_, refl, sym, ap, _∙_}
 use native.Mathlib.Nat.{le-of-suc-le-suc, not-suc-le-zero, add-assoc, mul-suc, mul-zero, add-zero, mul-le-mul-left}
 use native.Mathlib.Numerals.{add-one}
 use native.Mathlib.Omega.{arith}
 use lib.IntN.{ℤ}
-use lib.ListN.{length, getD, take, drop, set, length-append}
-use lib.Seq.{length-take-le, take-at}
+use lib.ListN.{length, getD, take, set}
 use Rattle.whole.specs.Lists.{listed}
 use Rattle.whole.proofs.Lists.{Filled, filled-none, filled-more, filled-all, listed-getD}
 use Rattle.sheet_rules.specs.Promises.{slices}
@@ -62,17 +61,3 @@ same-slices p n q r s t = rw (p, n, q, r, s, t)
 pub same-counts : {a b c d e f g h i j k l : ℕ} → a ≡ b → c ≡ d → e ≡ f → g ≡ h → i ≡ j → k ≡ l
     → a ∷ c ∷ e ∷ g ∷ i ∷ k ∷ [] ≡ b ∷ d ∷ f ∷ h ∷ j ∷ l ∷ []
 same-counts p q r s t u = rw (p, q, r, s, t, u)
-
--- the first n of an array, lent and put back: what was lent stands again at the start
-module _ {A : Type 0} (n : ℕ) (whole part : List A) (few : n ≤ length whole) (kept : length part ≡ length (take n whole)) where
-  part-length : length part ≡ n
-  part-length = kept ∙ length-take-le n whole few
-
-  pub part-again : take n (part ++ drop n whole) ≡ part
-  part-again = take-at part (drop n whole) n part-length
-
-  pub still-few : n ≤ length (part ++ drop n whole)
-  still-few = omega (arith, length-append part (drop n whole), part-length)
-
-  pub again-length : n ≡ length (take n (part ++ drop n whole))
-  again-length = sym part-length ∙ sym (ap length part-again)

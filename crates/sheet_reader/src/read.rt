@@ -14,6 +14,7 @@ use crate::values::take_values;
 use bits::field;
 use figures::Figure;
 use figures::MOST_ANGLES;
+use figures::MOST_FIXED;
 use figures::MOST_SIDES;
 use judging::lengths_verdict;
 use refusals::Refusal;
@@ -26,9 +27,6 @@ use sheet_layout::look_at;
 use sheet_layout::sheet_size;
 use sheet_rules::Reading;
 use sheet_rules::values_verdict;
-
-// The most fixed angles of a figure.
-const MOST_FIXED: usize = 4;
 
 // Number 13, of a sheet that has its size: the bits after the last field.
 fn filling_verdict(sheet: &[u8], kind: Kind, figure: Figure) -> Verdict

@@ -2,14 +2,15 @@
 -- from there.
 use mathlib.Core.Path.{_≡_, refl, sym, ap, _∙_, subst}
 use mathlib.Core.List.{List, [], _∷_, _++_}
-use Prim.Native.Nat.{ℕ, _+_, _≤_}
+use Prim.Native.Nat.{ℕ, _≤_}
 use borrow.Author.Needs.{needs}
 use lib.IntN.{ℤ, pos}
-use lib.ListN.{length, take, drop, replicate, length-append, take-append-drop}
+use lib.ListN.{length, take, drop, replicate}
 use denote.Ref.{now}
 use lib.Seq.{length-take-le, take-at}
+use Rattle.whole.proofs.Lending.{still-few}
 use Rattle.figures.specs.declared.Figure.{Figure}
-use Rattle.figures.specs.Numerators.{mostAngles, mostSides}
+use Rattle.figures.specs.Numerators.{mostAngles, mostFixed, mostSides}
 use Rattle.sheet_layout.specs.declared.Lengths.{Lengths}
 use Rattle.sheet_layout.specs.declared.Kind.{Kind}
 use Rattle.sheet_rules.specs.declared.Reading.{Reading}
@@ -22,7 +23,7 @@ use Rattle.sheet_rules.specs.Sheet.{valuesRead}
 use Rattle.text.specs.Holds.{Holds}
 use Rattle.pass_rules.specs.SecondPass.{sineEntries}
 use Rattle.pass_sheet.specs.Texts.{textOf}
-use Rattle.pass_sheet.specs.Worked.{mostFixed, WorkedSheet, workedKind, workedReading, workedRead}
+use Rattle.pass_sheet.specs.Worked.{WorkedSheet, workedKind, workedReading, workedRead}
 use Rattle.pass_sheet.proofs.SheetBounds.{angles-few, fixed-few, log-sines-few, log-sides-few}
 use Rattle.pass_sheet.proofs.body_lines.Statement.{statement}
 use Rattle.pass_sheet.proofs.body_lines.Tie as tie
@@ -68,17 +69,6 @@ at-start : {A : Type 0} (reading : Reading) (values : Kind → Figure → List A
 at-start (Read k g e) values n part old rest size read = take-at part rest n size ∙ read
 at-start (Reading.Refused r) values n part old rest size read = refl
 
--- a part put back at the start of the whole leaves its length
-put-back : {A : Type 0} (n : ℕ) (part whole : List A) → length part ≡ length (take n whole)
-    → length (part ++ drop n whole) ≡ length whole
-put-back n part whole size =
-    length-append part (drop n whole) ∙ ap (λ (m : ℕ). m + length (drop n whole)) size
-    ∙ sym (length-append (take n whole) (drop n whole)) ∙ ap length (take-append-drop n whole)
-
-still-few : {A : Type 0} (n : ℕ) (part whole : List A) → length part ≡ length (take n whole) → n ≤ length whole
-    → n ≤ length (part ++ drop n whole)
-still-few n part whole size few = rw (put-back n part whole size) few
-
 -- what the reader leaves in one of the slices
 left-of : {A : Type 0} (pick : Slices → List A) (kind : Kind) (f : Figure) (sheet : List ℕ) (lent left : Slices) (reading : Reading)
     → BodyPromise kind f sheet lent reading left
@@ -112,31 +102,31 @@ module _ (call : tie.After-read-body) where
 
   angles-held : lengths called .angles ≤ length (call .read-body .last .1 .1 .1 .0 ++ drop (lengths called .angles) (replicate mostAngles 0))
   angles-held =
-      still-few (lengths called .angles) (call .read-body .last .1 .1 .1 .0) (replicate mostAngles 0) (call .read-body .kept .1 .1 .1 .0) (few-angles called)
+      still-few (lengths called .angles) (replicate mostAngles 0) (few-angles called) (call .read-body .last .1 .1 .1 .0) (call .read-body .kept .1 .1 .1 .0)
 
   rounds-held : lengths called .angles ≤ length (call .read-body .last .1 .1 .1 .1 .0 ++ drop (lengths called .angles) (replicate mostAngles 0))
   rounds-held =
-      still-few (lengths called .angles) (call .read-body .last .1 .1 .1 .1 .0) (replicate mostAngles 0) (call .read-body .kept .1 .1 .1 .1 .0) (few-angles called)
+      still-few (lengths called .angles) (replicate mostAngles 0) (few-angles called) (call .read-body .last .1 .1 .1 .1 .0) (call .read-body .kept .1 .1 .1 .1 .0)
 
   fixed-held : lengths called .fixed ≤ length (call .read-body .last .1 .1 .1 .1 .1 .0 ++ drop (lengths called .fixed) (replicate mostFixed 0))
   fixed-held =
-      still-few (lengths called .fixed) (call .read-body .last .1 .1 .1 .1 .1 .0) (replicate mostFixed 0) (call .read-body .kept .1 .1 .1 .1 .1 .0) (few-fixed called)
+      still-few (lengths called .fixed) (replicate mostFixed 0) (few-fixed called) (call .read-body .last .1 .1 .1 .1 .1 .0) (call .read-body .kept .1 .1 .1 .1 .1 .0)
 
   log-sines-held :
       lengths called .«log_sines» ≤ length (call .read-body .last .1 .1 .1 .1 .1 .1 .0 ++ drop (lengths called .«log_sines») (replicate mostAngles 0))
   log-sines-held =
-      still-few (lengths called .«log_sines») (call .read-body .last .1 .1 .1 .1 .1 .1 .0) (replicate mostAngles 0) (call .read-body .kept .1 .1 .1 .1 .1 .1 .0) (few-log-sines called)
+      still-few (lengths called .«log_sines») (replicate mostAngles 0) (few-log-sines called) (call .read-body .last .1 .1 .1 .1 .1 .1 .0) (call .read-body .kept .1 .1 .1 .1 .1 .1 .0)
 
   differences-held :
       lengths called .«log_sines»
       ≤ length (call .read-body .last .1 .1 .1 .1 .1 .1 .1 .0 ++ drop (lengths called .«log_sines») (replicate mostAngles (pos 0)))
   differences-held =
-      still-few (lengths called .«log_sines») (call .read-body .last .1 .1 .1 .1 .1 .1 .1 .0) (replicate mostAngles (pos 0)) (call .read-body .kept .1 .1 .1 .1 .1 .1 .1 .0) (few-log-sines called)
+      still-few (lengths called .«log_sines») (replicate mostAngles (pos 0)) (few-log-sines called) (call .read-body .last .1 .1 .1 .1 .1 .1 .1 .0) (call .read-body .kept .1 .1 .1 .1 .1 .1 .1 .0)
 
   log-sides-held :
       lengths called .«log_sides» ≤ length (call .read-body .last .1 .1 .1 .1 .1 .1 .1 .1 .0 ++ drop (lengths called .«log_sides») (replicate mostSides 0))
   log-sides-held =
-      still-few (lengths called .«log_sides») (call .read-body .last .1 .1 .1 .1 .1 .1 .1 .1 .0) (replicate mostSides 0) (call .read-body .kept .1 .1 .1 .1 .1 .1 .1 .1 .0) (few-log-sides called)
+      still-few (lengths called .«log_sides») (replicate mostSides 0) (few-log-sides called) (call .read-body .last .1 .1 .1 .1 .1 .1 .1 .1 .0) (call .read-body .kept .1 .1 .1 .1 .1 .1 .1 .1 .0)
 
   abbrev kind : Kind
   kind = called .before .before .before .args .kind

@@ -13,7 +13,7 @@ use Rattle.pass_rules.specs.FirstPass.{firstResultLengths}
 use Rattle.pass_rules.specs.Promises.{FirstLent, firstLent, firstResultsLent}
 use Rattle.pass_steps.proofs.Again.{Again, again}
 use Rattle.pass_steps.proofs.Counted.{Counted, counted}
-use Rattle.pass_steps.proofs.Lending.{lent-length}
+use Rattle.whole.proofs.Lending.{lent-length}
 use Rattle.pass_sheet.proofs.Sheets.{first-refused, first-worked}
 use Rattle.pass_sheet.proofs.first_sheet.Statement.{statement}
 use Rattle.pass_sheet.proofs.first_sheet.Tie as tie

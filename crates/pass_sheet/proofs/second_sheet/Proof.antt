@@ -20,7 +20,7 @@ use Rattle.figures.proofs.Figures.{angle-bound, condition-bound}
 use Rattle.pass_rules.specs.SecondPass.{SineEntries, sineEntries, sideReducedCount, secondResultLengths}
 use Rattle.pass_rules.specs.Promises.{SecondLent, secondLent, secondResultsLent}
 use Rattle.pass_steps.proofs.Again.{Again, again}
-use Rattle.pass_steps.proofs.Lending.{lent-length}
+use Rattle.whole.proofs.Lending.{lent-length}
 use Rattle.pass_sheet.proofs.Sheets.{second-refused, second-worked}
 use Rattle.pass_sheet.proofs.second_sheet.Statement.{statement}
 use Rattle.pass_sheet.proofs.second_sheet.Tie as tie

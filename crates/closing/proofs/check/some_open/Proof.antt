@@ -14,7 +14,7 @@ use Rattle.figures.specs.Numerators.{conditionSum}
 use Rattle.figures.proofs.Figures.{condition-bound}
 use Rattle.pass_steps.proofs.Again.{Again, again}
 use Rattle.pass_steps.proofs.Held.{totals-within, sums-are}
-use Rattle.pass_steps.proofs.Lending.{lent-length}
+use Rattle.whole.proofs.Lending.{lent-length}
 use Rattle.pass_steps.proofs.StepLaws.{listed-after, length-of}
 use Rattle.closing.specs.Steps.{someOpen}
 use Rattle.closing.proofs.check.some_open.Statement.{statement}

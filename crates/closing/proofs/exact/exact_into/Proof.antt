@@ -10,7 +10,7 @@ use lib.ListN.{length, take, replicate}
 use Rattle.figures.proofs.Figures.{angle-bound, condition-bound}
 use Rattle.pass_rules.specs.FirstPass.{firstResultLengths}
 use Rattle.pass_rules.specs.Promises.{FirstLent, firstLent, firstResultsLent}
-use Rattle.pass_steps.proofs.Lending.{lent-length}
+use Rattle.whole.proofs.Lending.{lent-length}
 use Rattle.closing.proofs.Promised.{pass-answered, pass-leaves}
 use Rattle.closing.proofs.exact.exact_into.Statement.{statement}
 use Rattle.closing.proofs.exact.exact_into.Tie as tie

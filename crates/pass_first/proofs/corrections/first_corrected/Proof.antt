@@ -16,7 +16,7 @@ use Rattle.figures.proofs.Figures.{angle-bound}
 use Rattle.pass_steps.specs.Premises.{mostSummed}
 use Rattle.pass_steps.specs.Steps.{numeratorsFrom, resultsRows, resultsFrom}
 use Rattle.pass_steps.proofs.Judged.{lengths-pass, first-passes, kept, written, taken}
-use Rattle.pass_steps.proofs.Lending.{lent-length, part-again, still-few, again-length}
+use Rattle.whole.proofs.Lending.{lent-length, part-again, still-few, again-length}
 use Rattle.pass_steps.proofs.StepLaws.{length-of}
 use Rattle.pass_first.specs.Steps.{tenthsOf, restsFrom, firstWork, workLent, workLengths, firstFrom}
 use Rattle.pass_first.proofs.FirstSteps.{tenths-within}

@@ -16,7 +16,7 @@ use Rattle.pass_rules.specs.FirstPass.{limitOf, givenRows, misclosuresOf}
 use Rattle.pass_rules.specs.Promises.{FirstLent, firstLent, firstSlices}
 use Rattle.pass_first.specs.Steps.{workLent, workLengths}
 use Rattle.pass_first.proofs.FirstPromised.{workOf, refused-before, length-at, small-angles, small-fixed, refused-misclosure, small-misclosures, by-results}
-use Rattle.pass_steps.proofs.Lending.{lent-length, part-again, still-few, again-length}
+use Rattle.whole.proofs.Lending.{lent-length, part-again, still-few, again-length}
 use Rattle.pass_first.proofs.first.first_pass_of.Statement.{statement}
 use Rattle.pass_first.proofs.first.first_pass_of.Tie as tie
 

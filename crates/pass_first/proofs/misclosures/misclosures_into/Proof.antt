@@ -18,7 +18,7 @@ use Rattle.pass_rules.specs.FirstPass.{shouldBe, misclosure, misclosuresOf}
 use Rattle.pass_rules.specs.Pass.{given}
 use Rattle.pass_steps.specs.Premises.{Within, mostSummed}
 use Rattle.pass_steps.proofs.Held.{totals-within, sums-are}
-use Rattle.pass_steps.proofs.Lending.{lent-length, part-again, still-few, again-length}
+use Rattle.whole.proofs.Lending.{lent-length, part-again, still-few, again-length}
 use Rattle.pass_steps.proofs.StepLaws.{listed-at, listed-within, listed-after, length-of, condition-ext}
 use Rattle.pass_first.proofs.misclosures.misclosures_into.Statement.{statement}
 use Rattle.pass_first.proofs.misclosures.misclosures_into.Tie as tie

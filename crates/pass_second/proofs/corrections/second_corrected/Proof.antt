@@ -21,7 +21,7 @@ use Rattle.figures.specs.Numerators.{conditionSum}
 use Rattle.figures.proofs.Figures.{angle-bound, side-some}
 use Rattle.pass_steps.specs.Steps.{resultsRows, resultsFrom}
 use Rattle.pass_steps.proofs.Judged.{lengths-pass, first-passes, kept, written, taken}
-use Rattle.pass_steps.proofs.Lending.{lent-length, part-again, still-few, again-length}
+use Rattle.whole.proofs.Lending.{lent-length, part-again, still-few, again-length}
 use Rattle.pass_second.specs.Steps.{highsFrom, lowsFrom, tenthsFrom, SecondWork, secondWork, workLent, workLengths, secondFrom}
 use Rattle.pass_second.proofs.Passed.{passed-small}
 use Rattle.pass_second.proofs.SineBounds.{denominator-bound}

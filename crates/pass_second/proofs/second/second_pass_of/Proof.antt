@@ -19,7 +19,7 @@ use Rattle.figures.specs.Figure.{angleCount, sideCount}
 use Rattle.figures.proofs.Figures.{each-figure, angle-bound}
 use Rattle.pass_rules.specs.SecondPass.{SineEntries, sineEntries, reducedOf, sideReducedOf, sideReducedCount, entryRows, sineRowsOf}
 use Rattle.pass_rules.specs.Promises.{SecondLent, secondLent, secondSlices}
-use Rattle.pass_steps.proofs.Lending.{lent-length, part-again, still-few, again-length}
+use Rattle.whole.proofs.Lending.{lent-length, part-again, still-few, again-length}
 use Rattle.pass_second.specs.declared.sums.Sums.{Sums}
 use Rattle.pass_second.specs.Sines.{pairOf, sumsOf}
 use Rattle.pass_second.specs.Steps.{SmallPair, divisorFrom, workLent, workLengths, answerBy}

@@ -24,7 +24,7 @@ use Rattle.pass_steps.proofs.Fitting.{fits}
 use Rattle.pass_steps.proofs.Held.{sums-are}
 use Rattle.pass_steps.proofs.Judged as Judged
 use Rattle.pass_steps.proofs.Judged.{misclosures-pass}
-use Rattle.pass_steps.proofs.Lending.{lent-length, part-again, still-few, again-length}
+use Rattle.whole.proofs.Lending.{lent-length, part-again, still-few, again-length}
 use Rattle.pass_steps.proofs.StepLaws.{listed-within}
 use Rattle.pass_second.proofs.SineBounds.{denominator-bound, sums-magnitude, taken-magnitude}
 use Rattle.pass_second.proofs.SineSteps.{taken-are, reduced-are, squares-are}

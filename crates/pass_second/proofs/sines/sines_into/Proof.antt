@@ -17,7 +17,7 @@ use Rattle.figures.specs.declared.Figure.{Figure}
 use Rattle.figures.specs.Figure.{angleCount}
 use Rattle.figures.proofs.Figures.{angle-bound}
 use Rattle.pass_second.specs.declared.sines.SignedSums.{SignedSums}
-use Rattle.pass_steps.proofs.Lending.{lent-length, part-again, still-few, again-length}
+use Rattle.whole.proofs.Lending.{lent-length, part-again, still-few, again-length}
 use Rattle.pass_second.specs.Sines.{signedBy}
 use Rattle.pass_second.proofs.SineSteps.{own-reduced, own-squares, own-small}
 use Rattle.pass_second.proofs.Exact.{product-magnitude}

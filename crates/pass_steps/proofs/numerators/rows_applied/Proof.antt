@@ -11,7 +11,7 @@ use Rattle.whole.specs.Sums.{applied, table, vector}
 use Rattle.pass_steps.specs.Premises.{Within, mostApplied}
 use Rattle.pass_steps.proofs.Again.{Again, again}
 use Rattle.pass_steps.proofs.AppliedRows.{all-applied}
-use Rattle.pass_steps.proofs.Lending.{lent-length}
+use Rattle.whole.proofs.Lending.{lent-length}
 use Rattle.pass_steps.proofs.numerators.rows_applied.Statement.{statement}
 use Rattle.pass_steps.proofs.numerators.rows_applied.Tie as tie
 

@@ -8,7 +8,8 @@ use lib.Seq.{length-take-le}
 use Rattle.sheet_rules.specs.Sheet.{valuesRead}
 use Rattle.sheet_rules.specs.Promises.{Slices, slices, slicesOf}
 use Rattle.sheet_reader.proofs.BodyLaws.{as-many, have-room, values-are}
-use Rattle.sheet_reader.proofs.Taking.{same-slices, same-counts, part-again, still-few, again-length}
+use Rattle.sheet_reader.proofs.Taking.{same-slices, same-counts}
+use Rattle.whole.proofs.Lending.{part-again, still-few, again-length}
 use Rattle.sheet_reader.proofs.read.read_values.Statement.{statement}
 use Rattle.sheet_reader.proofs.read.read_values.Tie as tie
 
@@ -110,49 +111,49 @@ module _ (c : tie.After-take-values) where
       (take log-sides-count (log-sides ++ drop log-sides-count log-sides-array))
       ≡ slicesOf (valuesRead (given bounded .args .kind) (given bounded .args .figure) (given bounded .args .sheet .now))
   all =
-      same-slices (part-again angles-count angles-array angles (room bounded .0) angles-kept)
-      (part-again rounds-count rounds-array rounds (room bounded .1) rounds-kept)
-      (part-again fixed-count fixed-array fixed (room bounded .2) fixed-kept)
-      (part-again log-sines-count log-sines-array log-sines (room bounded .3) log-sines-kept)
-      (part-again differences-count differences-array differences (room bounded .4) differences-kept)
-      (part-again log-sides-count log-sides-array log-sides (room bounded .5) log-sides-kept)
+      same-slices (part-again angles-count angles-array (room bounded .0) angles angles-kept)
+      (part-again rounds-count rounds-array (room bounded .1) rounds rounds-kept)
+      (part-again fixed-count fixed-array (room bounded .2) fixed fixed-kept)
+      (part-again log-sines-count log-sines-array (room bounded .3) log-sines log-sines-kept)
+      (part-again differences-count differences-array (room bounded .4) differences differences-kept)
+      (part-again log-sides-count log-sides-array (room bounded .5) log-sides log-sides-kept)
       ∙ c .take-values .ensures
 
   angles-few : angles-count ≤ length (angles ++ drop angles-count angles-array)
-  angles-few = still-few angles-count angles-array angles (room bounded .0) angles-kept
+  angles-few = still-few angles-count angles-array (room bounded .0) angles angles-kept
 
   angles-again : angles-count ≡ length (take angles-count (angles ++ drop angles-count angles-array))
-  angles-again = again-length angles-count angles-array angles (room bounded .0) angles-kept
+  angles-again = again-length angles-count angles-array (room bounded .0) angles angles-kept
 
   rounds-few : rounds-count ≤ length (rounds ++ drop rounds-count rounds-array)
-  rounds-few = still-few rounds-count rounds-array rounds (room bounded .1) rounds-kept
+  rounds-few = still-few rounds-count rounds-array (room bounded .1) rounds rounds-kept
 
   rounds-again : rounds-count ≡ length (take rounds-count (rounds ++ drop rounds-count rounds-array))
-  rounds-again = again-length rounds-count rounds-array rounds (room bounded .1) rounds-kept
+  rounds-again = again-length rounds-count rounds-array (room bounded .1) rounds rounds-kept
 
   fixed-few : fixed-count ≤ length (fixed ++ drop fixed-count fixed-array)
-  fixed-few = still-few fixed-count fixed-array fixed (room bounded .2) fixed-kept
+  fixed-few = still-few fixed-count fixed-array (room bounded .2) fixed fixed-kept
 
   fixed-again : fixed-count ≡ length (take fixed-count (fixed ++ drop fixed-count fixed-array))
-  fixed-again = again-length fixed-count fixed-array fixed (room bounded .2) fixed-kept
+  fixed-again = again-length fixed-count fixed-array (room bounded .2) fixed fixed-kept
 
   log-sines-few : log-sines-count ≤ length (log-sines ++ drop log-sines-count log-sines-array)
-  log-sines-few = still-few log-sines-count log-sines-array log-sines (room bounded .3) log-sines-kept
+  log-sines-few = still-few log-sines-count log-sines-array (room bounded .3) log-sines log-sines-kept
 
   log-sines-again : log-sines-count ≡ length (take log-sines-count (log-sines ++ drop log-sines-count log-sines-array))
-  log-sines-again = again-length log-sines-count log-sines-array log-sines (room bounded .3) log-sines-kept
+  log-sines-again = again-length log-sines-count log-sines-array (room bounded .3) log-sines log-sines-kept
 
   differences-few : differences-count ≤ length (differences ++ drop differences-count differences-array)
-  differences-few = still-few differences-count differences-array differences (room bounded .4) differences-kept
+  differences-few = still-few differences-count differences-array (room bounded .4) differences differences-kept
 
   differences-again : differences-count ≡ length (take differences-count (differences ++ drop differences-count differences-array))
-  differences-again = again-length differences-count differences-array differences (room bounded .4) differences-kept
+  differences-again = again-length differences-count differences-array (room bounded .4) differences differences-kept
 
   log-sides-few : log-sides-count ≤ length (log-sides ++ drop log-sides-count log-sides-array)
-  log-sides-few = still-few log-sides-count log-sides-array log-sides (room bounded .5) log-sides-kept
+  log-sides-few = still-few log-sides-count log-sides-array (room bounded .5) log-sides log-sides-kept
 
   log-sides-again : log-sides-count ≡ length (take log-sides-count (log-sides ++ drop log-sides-count log-sides-array))
-  log-sides-again = again-length log-sides-count log-sides-array log-sides (room bounded .5) log-sides-kept
+  log-sides-again = again-length log-sides-count log-sides-array (room bounded .5) log-sides log-sides-kept
 
 take-values-requires : tie.Need-take-values-requires
 take-values-requires c κs =

@@ -12,6 +12,7 @@ use Rattle.refusals.specs.Promise.{Promised}
 use Rattle.refusals.proofs.Nowhere.{same-lengths}
 use Rattle.refusals.proofs.Rows.{none-holds}
 use Rattle.figures.specs.declared.Figure.{Figure}
+use Rattle.figures.specs.Numerators.{mostAngles, mostFixed, mostSides}
 use Rattle.sheet_layout.specs.declared.Kind.{Kind}
 use Rattle.sheet_layout.specs.declared.head.Look.{Look}
 use Rattle.sheet_layout.specs.declared.head.Look.the-variants.{Head}
@@ -31,8 +32,8 @@ module _ (kind : Kind) (f : Figure) (entry : Slices) (right : lengthsLent entry 
   as-many i = ap (λ (l : List ℕ). getD l i 0) right
 
   -- the arrays have room for each sort
-  pub have-room : (length (entry .angles) ≤ 24) × (length (entry .rounds) ≤ 24) × (length (entry .fixed) ≤ 4) × (length (entry .logSines) ≤ 24)
-      × (length (entry .differences) ≤ 24) × (length (entry .logSides) ≤ 2)
+  pub have-room : (length (entry .angles) ≤ mostAngles) × (length (entry .rounds) ≤ mostAngles) × (length (entry .fixed) ≤ mostFixed) × (length (entry .logSines) ≤ mostAngles)
+      × (length (entry .differences) ≤ mostAngles) × (length (entry .logSides) ≤ mostSides)
   have-room = omega (arith, few-of-each kind f, as-many 0, as-many 1, as-many 2, as-many 3, as-many 4, as-many 5)
 
 -- the same promise of what is the same

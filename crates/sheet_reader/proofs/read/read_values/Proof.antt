@@ -5,6 +5,7 @@ use mathlib.Core.Path.{_≡_, sym, ap, _∙_}
 use lib.IntN.{ℤ, pos}
 use lib.ListN.{length, take, drop, replicate}
 use lib.Seq.{length-take-le}
+use Rattle.figures.specs.Numerators.{mostAngles, mostFixed, mostSides}
 use Rattle.sheet_rules.specs.Sheet.{valuesRead}
 use Rattle.sheet_rules.specs.Promises.{Slices, slices, slicesOf}
 use Rattle.sheet_reader.proofs.BodyLaws.{as-many, have-room, values-are}
@@ -22,8 +23,8 @@ module _ (c : tie.After-limit-or-tolerance-in) where
   abbrev given : tie.Start
   given = c .before .before .before .before .before .before .before
 
-  room : (length (given .args .angles .now) ≤ 24) × (length (given .args .rounds .now) ≤ 24) × (length (given .args .fixed .now) ≤ 4)
-      × (length (given .args .log-sines .now) ≤ 24) × (length (given .args .differences .now) ≤ 24) × (length (given .args .log-sides .now) ≤ 2)
+  room : (length (given .args .angles .now) ≤ mostAngles) × (length (given .args .rounds .now) ≤ mostAngles) × (length (given .args .fixed .now) ≤ mostFixed)
+      × (length (given .args .log-sines .now) ≤ mostAngles) × (length (given .args .differences .now) ≤ mostAngles) × (length (given .args .log-sides .now) ≤ mostSides)
   room = have-room (given .args .kind) (given .args .figure) (lent given) (given .pre)
 
 -- the values that were taken, where they were lent
@@ -38,7 +39,7 @@ module _ (c : tie.After-take-values) where
   angles-count = length (given bounded .args .angles .now)
 
   abbrev angles-array : List ℕ
-  angles-array = replicate 24 0
+  angles-array = replicate mostAngles 0
 
   angles-kept : length angles ≡ length (take angles-count angles-array)
   angles-kept = c .take-values .kept .1 .1 .1 .0
@@ -50,7 +51,7 @@ module _ (c : tie.After-take-values) where
   rounds-count = length (given bounded .args .rounds .now)
 
   abbrev rounds-array : List ℕ
-  rounds-array = replicate 24 1
+  rounds-array = replicate mostAngles 1
 
   rounds-kept : length rounds ≡ length (take rounds-count rounds-array)
   rounds-kept = c .take-values .kept .1 .1 .1 .1 .0
@@ -62,7 +63,7 @@ module _ (c : tie.After-take-values) where
   fixed-count = length (given bounded .args .fixed .now)
 
   abbrev fixed-array : List ℕ
-  fixed-array = replicate 4 0
+  fixed-array = replicate mostFixed 0
 
   fixed-kept : length fixed ≡ length (take fixed-count fixed-array)
   fixed-kept = c .take-values .kept .1 .1 .1 .1 .1 .0
@@ -74,7 +75,7 @@ module _ (c : tie.After-take-values) where
   log-sines-count = length (given bounded .args .log-sines .now)
 
   abbrev log-sines-array : List ℕ
-  log-sines-array = replicate 24 0
+  log-sines-array = replicate mostAngles 0
 
   log-sines-kept : length log-sines ≡ length (take log-sines-count log-sines-array)
   log-sines-kept = c .take-values .kept .1 .1 .1 .1 .1 .1 .0
@@ -86,7 +87,7 @@ module _ (c : tie.After-take-values) where
   differences-count = length (given bounded .args .differences .now)
 
   abbrev differences-array : List ℤ
-  differences-array = replicate 24 (pos 0)
+  differences-array = replicate mostAngles (pos 0)
 
   differences-kept : length differences ≡ length (take differences-count differences-array)
   differences-kept = c .take-values .kept .1 .1 .1 .1 .1 .1 .1 .0
@@ -98,7 +99,7 @@ module _ (c : tie.After-take-values) where
   log-sides-count = length (given bounded .args .log-sides .now)
 
   abbrev log-sides-array : List ℕ
-  log-sides-array = replicate 2 0
+  log-sides-array = replicate mostSides 0
 
   log-sides-kept : length log-sides ≡ length (take log-sides-count log-sides-array)
   log-sides-kept = c .take-values .kept .1 .1 .1 .1 .1 .1 .1 .1 .0
@@ -166,7 +167,7 @@ take-values-requires c κs =
           (length-take-le _ _ (room b .4))
           (length-take-le _ _ (room b .5))
           ∙ given b .pre,
-      ap (λ (n : ℕ). take n (replicate 24 1)) (as-many (a .kind) (a .figure) (lent (given b)) (given b .pre) 1),
+      ap (λ (n : ℕ). take n (replicate mostAngles 1)) (as-many (a .kind) (a .figure) (lent (given b)) (given b .pre) 1),
     )
 
 judge-and-store-requires : tie.Need-judge-and-store-requires

@@ -314,21 +314,26 @@ def try_scripts(folder):
 
 
 def try_wrong_programs(folder):
-    """In a repository of one crate: an edit that changes nothing but a comment is told, and so is one that does not fit."""
-    crate, proved = Path("crates") / "refusals", Path("target") / "rlib" / "refusals.rlib"
-    for part in (Path("tests"), crate, proved):
+    """In a repository of one crate: an edit of a comment is told, also where it is tried beside a wrong program, and so is one that does not fit."""
+    crate, proved = Path("crates") / "refusals", Path("target") / "rlib"
+    for part in (Path("tests"), crate, proved / "vocabulary.rlib", proved / "refusals.rlib"):
         shutil.copytree(ROOT / part, folder / part)
-    (folder / "crates.txt").write_text("refusals:\n", encoding="ascii")
+    (folder / "crates.txt").write_text("refusals: vocabulary\n", encoding="ascii")
     for edit in (folder / crate / "must-fail").iterdir():
         edit.unlink()
-    for name, old in (("a comment", "// What a test says."), ("no such text", "// What no test says.")):
-        text = f"file: src/lib.rt\nold: {old}\nnew: // Another.\n"
-        (folder / crate / "must-fail" / f"{name}.edit").write_text(text, encoding="ascii")
+    edits = (
+        ("a comment", "// What a test says.", "// Another.", "NOT REFUSED"),
+        ("a comment in a body", "Refusal::NoSuchFigure => 1,", "Refusal::NoSuchFigure => 1, // as it was", "NOT REFUSED"),
+        ("a failure lost", "Verdict::Passed => later,", "Verdict::Passed => earlier,", "refused, as it must be"),
+        ("no such text", "// None.", "// Another.", "BAD EDIT: '// None.' does not stand once in src/lib.rt"),
+    )
+    for name, old, new, _ in edits:
+        (folder / crate / "must-fail" / f"{name}.edit").write_text(f"file: src/lib.rt\nold: {old}\nnew: {new}\n", encoding="ascii")
     words = ["python3", folder / "tests" / "must_fail.py"]
     status, text, _ = call(words)
-    told = [line.partition("refusals/")[2].partition(" (")[0] for line in text.splitlines()[:-1]]
-    right = ["a comment: NOT REFUSED", "no such text: BAD EDIT: '// What no test says.' does not stand once in src/lib.rt"]
-    expect("wrong programs that are not", (status, told, text.splitlines()[-1]), (1, right, "0 passed, 2 failed"))
+    told = sorted(line.partition("refusals/")[2].partition(" (")[0] for line in text.splitlines()[:-1])
+    right = sorted(f"{name}: {said}" for name, _, _, said in edits)
+    expect("wrong programs that are not", (status, told, text.splitlines()[-1]), (1, right, "1 passed, 3 failed"))
     status, text, message = call([*words, "nosuch"])
     expect("wrong programs of no crate", (status, text, message.startswith("usage: tests/must_fail.py ")), (2, "", True))
 

@@ -1,12 +1,15 @@
 #!/usr/bin/env python3
-"""Tries the wrong programs: each crates/NAME/must-fail/LABEL.edit is made in a copy of its crate, and the checker must refuse the copy.
+"""Tries the wrong programs: each crates/NAME/must-fail/LABEL.edit is made in a copy of its crate, and the checker must refuse what it changed.
 
     tests/must_fail.py [NAME..]
 
 The crates must have been proved. `rt must-fail` answers the same, and proves a whole crate again for each edit. Here the modules that an edit does
-not reach are taken as the crate's own proof left them in target/rlib, and the checker proves again those that it reaches.
-Each crate is first checked in this way without an edit, and must be proved: what is refused after that is refused for its edit.
-What the checker says of an edit is kept in target/must-fail/NAME/LABEL/.log. RT_JOBS is how many are tried at once.
+not reach are taken as the crate's own proof left them in target/rlib, and edits in the bodies of different functions of a crate are tried together:
+a function is proved from its own body and the contracts of those that it calls, and the checker says of each whether it is proved, or not only for a
+call of one that is not. Such an edit is refused where its function is not proved for an error in its own proof; every function without an edit must be
+proved, or not for a call alone. What is left unsaid so is tried alone, and so is an edit of a definition or of a constant. A crate that has only edits
+of this second kind is first checked without one, and must be proved.
+What the checker says is kept in target/must-fail/NAME, of an edit in LABEL.log. RT_JOBS is how many checks run at once.
 """
 
 import os
@@ -17,6 +20,7 @@ import sys
 import tempfile
 import time
 from concurrent.futures import ThreadPoolExecutor
+from dataclasses import dataclass
 from pathlib import Path
 
 import kit
@@ -25,7 +29,27 @@ ROOT = Path(__file__).resolve().parent.parent
 TARGET = ROOT / "target"
 PARTS = ("src", "specs", "proofs")
 LINE_OF_EDIT = re.compile(r"(file|old|new):(?: |$)(.*)")
+HEAD_OF_FUNCTION = re.compile(r'^( *)(?:pub(?:\(crate\))? )?(?:extern "C" )?fn (\w+)', re.M)
+HEAD_OF_METHODS = re.compile(r"^impl (\w+)", re.M)
+SAID_OF_FUNCTION = re.compile(r"^fn (\S+): (?:(proved)|not proved(; it calls .*)?|no proof: .*)$", re.M)
+# What rests on a thing that was refused is "not admitted", which is no error of its own.
+ERROR_OF_ITS_OWN = re.compile(r"^\S+: error: (?!.* was not admitted \()", re.M)
 PROVED, NOT_PROVED = 0, 1  # statuses of the checker
+
+
+@dataclass
+class Edit:
+    crate: str
+    label: str
+    changes: list  # of a file, a start, an end and the new text
+    function: str | None  # as the checker names it, where all changes lie in one body
+
+
+@dataclass
+class Tried:
+    refused: list  # of an edit, the place of its first error and seconds
+    faults: list  # of an edit and what to say of it
+    left: list  # edits of which this check says nothing
 
 
 def crates():
@@ -42,35 +66,59 @@ def edits_of(name):
     return sorted((ROOT / "crates" / name / "must-fail").glob("*.edit"))
 
 
-def library(name):
-    """A library as it was proved, of the repository or of the kit."""
-    own = TARGET / "rlib" / f"{name}.rlib"
-    return own if own.exists() else kit.of_this_machine() / "rlib" / f"{name}.rlib"
+def function_at(crate, file, text, start, end):
+    """The function whose body holds a part of a source file."""
+    heads = [head for head in HEAD_OF_FUNCTION.finditer(text) if head.start() <= start]
+    if not heads or not file.startswith("src/"):
+        return None
+    indent, name = heads[-1].groups()
+    body = re.compile(rf"^{indent}\{{$|^(?:{indent}\)|{indent}\S[^{{]*fn )[^{{]*\{{$", re.M).search(text, heads[-1].start())
+    close = body and re.compile(rf"^{indent}\}}$", re.M).search(text, body.end())
+    if not close or start < body.end() or close.start() < end:
+        return None
+    module = file.removeprefix("src/").removesuffix(".rt").replace("/", "::")
+    owner = HEAD_OF_METHODS.findall(text, 0, start)[-1:] if indent else []
+    return "::".join([crate, *([] if module in ("lib", "main") else [module]), *owner, name])
 
 
-def copy_crate(name, to):
-    for part in PARTS:
-        if (ROOT / "crates" / name / part).is_dir():
-            shutil.copytree(ROOT / "crates" / name / part, to / part)
-
-
-def make_edit(edit, crate):
+def read_edit(path):
     """A line 'file:' holds for the pairs of 'old:' and 'new:' after it; an old text stands exactly once in its file."""
-    made, at = 0, {}
-    for line in edit.read_text(encoding="utf-8").splitlines():
+    crate, at, changes, functions = path.parent.parent.name, {}, [], set()
+    for line in path.read_text(encoding="utf-8").splitlines():
         part = LINE_OF_EDIT.match(line)
         if not part:
             continue
         at[part[1]] = part[2]
         if part[1] == "new":
-            path = crate / at["file"]
-            text = path.read_text(encoding="utf-8")
+            text = (path.parent.parent / at["file"]).read_text(encoding="utf-8")
             if not at["old"] or text.count(at["old"]) != 1:
                 raise ValueError(f"{at['old']!r} does not stand once in {at['file']}")
-            path.write_text(text.replace(at["old"], at["new"]), encoding="utf-8")
-            made += 1
-    if not made:
+            start = text.index(at["old"])
+            end = start + len(at["old"])
+            changes.append((at["file"], start, end, at["new"]))
+            functions.add(function_at(crate, at["file"], text, start, end))
+    if not changes:
         raise ValueError("it has no pair of 'old:' and 'new:'")
+    return Edit(crate, path.stem, changes, functions.pop() if len(functions) == 1 else None)
+
+
+def in_groups(edits):
+    """Edits that are tried together: of one crate, and each of another function."""
+    groups = []
+    for edit in edits:
+        for group in groups:
+            if edit.function and all(other.crate == edit.crate and other.function not in (None, edit.function) for other in group):
+                group.append(edit)
+                break
+        else:
+            groups.append([edit])
+    return groups
+
+
+def library(name):
+    """A library as it was proved, of the repository or of the kit."""
+    own = TARGET / "rlib" / f"{name}.rlib"
+    return own if own.exists() else kit.of_this_machine() / "rlib" / f"{name}.rlib"
 
 
 def check(name, crate, kept, log):
@@ -78,7 +126,7 @@ def check(name, crate, kept, log):
     own = kit.of_this_machine()
     main = crate / "src" / "main.rt"
     words = [own / "bin" / "rattle", "check", "--crate-name", name, main if main.exists() else main.with_name("lib.rt")]
-    for used in ["std", *USED[name]]:
+    for used in ["std", *USED.get(name, [])]:
         words += ["--extern", f"{used}={library(used)}"]
     words += ["-L", f"dependency={TARGET / 'rlib'}", "-L", f"dependency={own / 'rlib'}"]
     words += ["--antt-project", kit.home() / "logic" / "antt-project.json", "--logic-built", own / "logic-built"]
@@ -86,42 +134,106 @@ def check(name, crate, kept, log):
         return subprocess.run([*words, "--incremental", kept], stdout=said, stderr=subprocess.STDOUT, check=False).returncode
 
 
-def try_unchanged(name, room, kept_in=None):
-    """Checks a crate as it is. What is kept starts from the library's own modules, where the folder that the checker keeps them in is known."""
-    kept = room / name / "kept"
-    kept.mkdir(parents=True)
+def folder_of_kept(room):
+    """The folder in which the checker keeps modules: it makes one for a crate without code."""
+    crate, kept = room / "empty", room / "kept"
+    (crate / "src").mkdir(parents=True)
+    (crate / "src" / "lib.rt").touch()
+    kept.mkdir()
+    check("empty", crate, kept, room / "log")
+    return next((folder.name for folder in kept.iterdir()), None)
+
+
+def check_over_proved(name, crate, log, room, kept_in):
+    """As `check`, over the modules of the crate as they were proved."""
     proved = library(name) / "toolchain" / "checked"
-    if kept_in and proved.is_dir():
-        shutil.copytree(proved, kept / kept_in)
-    log = room / name / "log"
-    status = check(name, ROOT / "crates" / name, kept, log)
-    return None if status == PROVED else f"must-fail {name}: NOT PROVED without an edit\n{log.read_text(encoding='utf-8')}"
-
-
-def first_error(said, crate):
-    found = re.search(r"^(\S+): error", said, re.M) or re.search(r"^note: (\S+:\d+:\d+):", said, re.M)
-    return found[1].removeprefix(f"{crate}/") if found else "a place that the checker does not name"
-
-
-def try_edit(edit, room):
-    """Whether an edit is refused, and what to print of it."""
-    name, label = edit.parent.parent.name, edit.stem
-    crate = TARGET / "must-fail" / name / label
-    shutil.rmtree(crate, ignore_errors=True)
-    copy_crate(name, crate)
-    try:
-        make_edit(edit, crate)
-    except (KeyError, OSError, ValueError) as fault:
-        return False, f"must-fail {name}/{label}: BAD EDIT: {fault}"
-    began, log = time.monotonic(), crate / ".log"
     with tempfile.TemporaryDirectory(dir=room) as kept:
-        shutil.copytree(room / name / "kept", kept, dirs_exist_ok=True)
+        if kept_in and proved.is_dir():
+            shutil.copytree(proved, Path(kept) / kept_in)
         status = check(name, crate, kept, log)
-    took, said = time.monotonic() - began, log.read_text(encoding="utf-8")
-    if status == NOT_PROVED and re.search(r"^logic=not-proved", said, re.M):
-        return True, f"must-fail {name}/{label}: refused, as it must be (first at {first_error(said, crate)}; {took:.0f} s)"
-    fault = "NOT REFUSED" if status == PROVED else f"BAD EDIT: it did not reach the prover (status {status})"
-    return False, f"must-fail {name}/{label}: {fault}"
+    return status, log.read_text(encoding="utf-8")
+
+
+def copy_with(edits, folder):
+    """A copy of the edits' crate in which they are made."""
+    shutil.rmtree(folder, ignore_errors=True)
+    for part in PARTS:
+        if (ROOT / "crates" / edits[0].crate / part).is_dir():
+            shutil.copytree(ROOT / "crates" / edits[0].crate / part, folder / part)
+    changes = [change for edit in edits for change in edit.changes]
+    for file, start, end, new in sorted(changes, key=lambda change: change[1], reverse=True):
+        text = (folder / file).read_text(encoding="utf-8")
+        (folder / file).write_text(text[:start] + new + text[end:], encoding="utf-8")
+
+
+def said_of(function, said):
+    """What the checker says of a function and of its proof."""
+    place = "/proofs/" + "/".join(function.split("::")[1:]) + "/"
+    of_proof = rf"^\S*{re.escape(place)}\S*: .*\n(?:[ \t].*\n)*"
+    return "".join(re.findall(rf"{of_proof}|^fn {re.escape(function)}: .*\n", said, re.M))
+
+
+def first_error(said, folder):
+    found = re.search(r"^(\S+): error", said, re.M) or re.search(r"^note: (\S+:\d+:\d+):", said, re.M)
+    unfound = re.search(r"^fn (\S+): no proof", said, re.M)
+    if not found and unfound:
+        return f"the search for a proof of {unfound[1]}"
+    return found[1].removeprefix(f"{folder}/") if found else "a place that the checker does not name"
+
+
+def judged_by_function(edits, said):
+    """For each edit whether its function is refused by itself, or None where that is not said; None for all unless nothing else is refused."""
+    told = {}
+    for function, proved, call in SAID_OF_FUNCTION.findall(said):
+        own = ERROR_OF_ITS_OWN.search(said_of(function, said))
+        told[function] = not proved and (True if own or not call else None)
+    edited = {edit.function for edit in edits}
+    if not edited <= told.keys() or any(refused for function, refused in told.items() if function not in edited):
+        return None
+    return [told[edit.function] for edit in edits]
+
+
+def judged(edits, status, said):
+    """For each edit whether it is refused, or None where that is not said."""
+    reached = status == PROVED or (status == NOT_PROVED and re.search(r"^logic=not-proved", said, re.M))
+    answers = judged_by_function(edits, said) if reached else None
+    alone = reached and len(edits) == 1
+    return answers or [status == NOT_PROVED if alone else None for _ in edits]
+
+
+def try_together(edits, room, kept_in):
+    name = edits[0].crate
+    folder = TARGET / "must-fail" / name / edits[0].label
+    copy_with(edits, folder)
+    began = time.monotonic()
+    status, said = check_over_proved(name, folder, folder / ".log", room, kept_in)
+    seconds = (time.monotonic() - began) / len(edits)
+    tried = Tried([], [], [])
+    for edit, refused in zip(edits, judged(edits, status, said)):
+        own = (edit.function and said_of(edit.function, said)) or said
+        (folder.parent / f"{edit.label}.log").write_text(own, encoding="utf-8")
+        if refused:
+            tried.refused.append((edit, first_error(own, folder), seconds))
+        elif refused is None and len(edits) > 1:
+            tried.left.append(edit)
+        else:
+            fault = "NOT REFUSED" if refused is False else f"BAD EDIT: it did not reach the prover (status {status})"
+            tried.faults.append((edit, fault))
+    return tried
+
+
+def try_unchanged(name, room, kept_in):
+    log = room / f"{name}.log"
+    status, said = check_over_proved(name, ROOT / "crates" / name, log, room, kept_in)
+    return None if status == PROVED else f"must-fail {name}: NOT PROVED without an edit\n{said}"
+
+
+def tell(tried):
+    for edit, place, seconds in tried.refused:
+        print(f"must-fail {edit.crate}/{edit.label}: refused, as it must be (first at {place}; {seconds:.0f} s)", flush=True)
+    for edit, fault in tried.faults:
+        print(f"must-fail {edit.crate}/{edit.label}: {fault}", flush=True)
+    return len(tried.refused), len(tried.faults)
 
 
 def main():
@@ -130,19 +242,31 @@ def main():
     if not names or not USED.keys() >= set(asked):
         print("usage: tests/must_fail.py [NAME..], the names of crates, one of which at least has edits", file=sys.stderr)
         return 2
-    jobs = int(os.environ.get("RT_JOBS") or os.cpu_count() or 1)
     passed = failed = 0
+    edits = {name: [] for name in names}
+    for path in (path for name in names for path in edits_of(name)):
+        try:
+            edits[path.parent.parent.name].append(read_edit(path))
+        except (KeyError, OSError, ValueError) as fault:
+            failed += 1
+            print(f"must-fail {path.parent.parent.name}/{path.stem}: BAD EDIT: {fault}")
+    # The crates at the top take longest: they come first, so that no check is left alone at the end.
+    groups = in_groups([edit for name in reversed(names) for edit in edits[name]])
+    uncontrolled = [name for name in names if not any(edit.function for edit in edits[name])]
+    jobs = int(os.environ.get("RT_JOBS") or os.cpu_count() or 1)
     with tempfile.TemporaryDirectory() as room, ThreadPoolExecutor(jobs) as pool:
         room = Path(room)
-        faults = [try_unchanged(names[0], room)]
-        kept_in = next((folder.name for folder in (room / names[0] / "kept").iterdir()), None)
-        faults += pool.map(lambda name: try_unchanged(name, room, kept_in), names[1:])
-        for fault in filter(None, faults):
+        kept_in = folder_of_kept(room)
+        for fault in filter(None, pool.map(lambda name: try_unchanged(name, room, kept_in), uncontrolled)):
             failed += 1
             print(fault)
-        for refused, line in pool.map(lambda edit: try_edit(edit, room), [edit for name in names for edit in edits_of(name)]):
-            passed, failed = passed + refused, failed + (not refused)
-            print(line, flush=True)
+        while groups:
+            left = []
+            for tried in pool.map(lambda group: try_together(group, room, kept_in), groups):
+                refused, faults = tell(tried)
+                passed, failed = passed + refused, failed + faults
+                left += tried.left
+            groups = [[edit] for edit in left]
     print(f"{passed} passed, {failed} failed")
     return 1 if failed or not passed else 0
 

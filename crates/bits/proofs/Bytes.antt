@@ -1,13 +1,8 @@
 -- Bytes and their bits: each is had back from the other, but for the zero bits that fill the last byte. Assumes nothing.
-use mathlib.Core.Bool.{Bool, false}
-use mathlib.Core.List.{List, [], _∷_, _++_, append-assoc, append-nil}
-use mathlib.Core.Path.{_≡_, refl, sym, ap, ap₂, _∙_, subst}
-use Prim.Native.Nat.{ℕ, zero, suc, _+_, _-_, _*_, _/_, _^_, _≤_, _<_}
-use native.Mathlib.Decide.{decLe}
-use native.Mathlib.Nat.{lt-of-not-le}
-use native.Mathlib.Omega.{arith}
-use lib.ListN.{length, take, drop, getD, length-append, length-take, length-drop, length-replicate, replicate, replicate-append-replicate, take-append-drop, drop-of-length-le}
-use lib.Seq.{take-at, drop-at, take-append-le, take-append-add, length-take-le}
+use Rattle.vocabulary.specs.{Bool, false, List, [], _∷_, _++_, append-assoc, append-nil, _≡_, refl, sym, ap, ap₂, _∙_, subst, ℕ, zero, suc}
+use Rattle.vocabulary.specs.{_+_, _-_, _*_, _/_, _^_, _≤_, _<_, decLe, lt-of-not-le, arith, length, take, drop, getD, length-append}
+use Rattle.vocabulary.specs.{length-take, length-drop, length-replicate, replicate, replicate-append-replicate, take-append-drop}
+use Rattle.vocabulary.specs.{drop-of-length-le, take-at, drop-at, take-append-le, take-append-add, length-take-le}
 use Rattle.bits.specs.Bits.{bits, value, bitsOf, firstByte, bytesFrom, byteCount, fillingWidth, bytesOf}
 use Rattle.bits.proofs.Numbers.{length-bits, value-bits, value-lt, bits-value}
 

@@ -1,15 +1,7 @@
 -- Two's complement: a number that w bits hold is had back from what stands for it, and the other way round. Assumes nothing.
-use mathlib.Core.Bool.{Bool, true, false, cond, _&&_, and-true, and-false, true≢false, false≢true}
-use mathlib.Core.Path.{_≡_, refl, sym, ap, _∙_, subst}
-use Prim.Native.Nat.{ℕ, zero, suc, _-_, _*_, _^_, _≤_, _<_}
-use native.Mathlib.Decide.{decLe}
-use native.Mathlib.Nat.{two-pow-succ, lt-of-not-le}
-use native.Mathlib.Omega.{arith}
-use borrow.Author.Tests.{lt-ltb, le-ltb, le-leb, lt-leb}
-use lib.Dec.{leb, ltb, leb·zero, leb·suc-suc}
-use lib.IntN.{ℤ, pos, negsuc, negℤ, _-ℤ_}
-use lib.Pow.{pow-pos, pow-mono}
-use lib.Signed.{mag, leZ, ltZ}
+use Rattle.vocabulary.specs.{Bool, true, false, cond, _&&_, and-true, and-false, true≢false, false≢true, _≡_, refl, sym, ap, _∙_, subst, ℕ}
+use Rattle.vocabulary.specs.{zero, suc, _-_, _*_, _^_, _≤_, _<_, decLe, two-pow-succ, lt-of-not-le, arith, lt-ltb, le-ltb, le-leb, lt-leb}
+use Rattle.vocabulary.specs.{leb, ltb, leb·zero, leb·suc-suc, ℤ, pos, negsuc, negℤ, _-ℤ_, pow-pos, pow-mono, mag, leZ, ltZ}
 use Rattle.bits.specs.Complement.{halfRange, signedOf, fitsSigned, twosComplement}
 
 -- ---- the range of a width

@@ -1,8 +1,5 @@
 -- The definitions of `specs/Bits.antt` and `specs/Complement.antt` at work on small numbers, each computed. Assumes nothing.
-use mathlib.Core.Bool.{true, false}
-use mathlib.Core.List.{[], _∷_}
-use mathlib.Core.Path.{_≡_, refl}
-use lib.IntN.{negsuc}
+use Rattle.vocabulary.specs.{true, false, [], _∷_, _≡_, refl, negsuc}
 use Rattle.bits.specs.Bits.{odd, bits, digit, value, bitsOf, firstByte, bytesFrom, byteCount, bytesOf, inside, fieldAt, withField, packedBits}
 use Rattle.bits.specs.Complement.{halfRange, signedOf, fitsSigned, twosComplement}
 

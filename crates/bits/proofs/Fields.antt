@@ -1,14 +1,7 @@
 -- A field read and written, by the bits that it is. Assumes nothing.
-use mathlib.Core.Bool.{Bool, true, false, cond, and-eq-true-iff, and-false}
-use mathlib.Core.List.{List, _++_}
-use mathlib.Core.Path.{_≡_, refl, sym, ap, ap₂, _∙_, subst}
-use Prim.Native.Nat.{ℕ, _+_, _*_, _^_, _≤_, _<_}
-use native.Mathlib.Omega.{arith}
-use borrow.Author.Tests.{leb-true, le-leb, lt-leb}
-use lib.Dec.{leb}
-use lib.ListN.{length, take, drop, length-append, length-drop}
-use lib.Pow.{pow-pos}
-use lib.Seq.{take-at, drop-at, take-add, length-take-le}
+use Rattle.vocabulary.specs.{Bool, true, false, cond, and-eq-true-iff, and-false, List, _++_, _≡_, refl, sym, ap, ap₂, _∙_, subst, ℕ, _+_}
+use Rattle.vocabulary.specs.{_*_, _^_, _≤_, _<_, arith, leb-true, le-leb, lt-leb, leb, length, take, drop, length-append, length-drop}
+use Rattle.vocabulary.specs.{pow-pos, take-at, drop-at, take-add, length-take-le}
 use Rattle.bits.specs.Bits.{bits, value, bitsOf, bytesOf, byteCount, inside, fieldAt, withField}
 use Rattle.bits.proofs.Bytes.{AreBytes, length-bitsOf, bitsOf-bytesOf-whole, bytesOf-bytes, length-bytesOf}
 use Rattle.bits.proofs.Numbers.{length-bits, bits-value, value-lt}

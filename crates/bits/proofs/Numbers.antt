@@ -1,15 +1,8 @@
 -- Numbers and their bits: each is had back from the other. Assumes nothing.
-use mathlib.Core.Bool.{Bool, true, false}
-use mathlib.Core.List.{List, [], _∷_, _++_, append-assoc, append-nil}
-use mathlib.Core.Path.{_≡_, refl, sym, ap, ap₂, _∙_}
-use Prim.Native.Nat.{ℕ, zero, suc, _+_, _*_, _/_, _%_, _^_, _<_}
-use native.Mathlib.Nat.{add-zero, add-suc, add-mul, mod-one, pow-suc, mod-eq-of-lt, mul-assoc}
-use native.Mathlib.Numerals.{add-one, one-add}
-use native.Mathlib.Omega.{arith}
-use lib.Bits.{block-half, block-odd}
-use lib.Dec.{eqb}
-use lib.ListN.{length, length-append, replicate, replicate-append-replicate}
-use lib.Pow.{pow-add, mod-pow-add}
+use Rattle.vocabulary.specs.{Bool, true, false, List, [], _∷_, _++_, append-assoc, append-nil, _≡_, refl, sym, ap, ap₂, _∙_, ℕ, zero, suc}
+use Rattle.vocabulary.specs.{_+_, _*_, _/_, _%_, _^_, _<_, add-zero, add-suc, add-mul, mod-one, pow-suc, mod-eq-of-lt, mul-assoc, add-one}
+use Rattle.vocabulary.specs.{one-add, arith, block-half, block-odd, eqb, length, length-append, replicate, replicate-append-replicate}
+use Rattle.vocabulary.specs.{pow-add, mod-pow-add}
 use Rattle.bits.specs.Bits.{odd, bits, digit, value}
 
 pub length-bits : (w n : ℕ) → length (bits w n) ≡ w

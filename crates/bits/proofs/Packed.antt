@@ -1,14 +1,9 @@
 -- Fields that run on without gaps: read off and packed again they are the same, both ways, and each one stands at the offset that the
 -- widths before it add up to. Assumes nothing.
-use mathlib.Core.Bool.{Bool, true, false}
-use mathlib.Core.List.{List, [], _∷_, _++_, append-assoc, append-nil}
-use mathlib.Core.Path.{_≡_, refl, sym, ap, ap₂, _∙_}
-use Prim.Native.Nat.{ℕ, zero, suc, _+_, _*_, _≤_, _<_}
-use native.Mathlib.Nat.{zero-add, add-assoc, le-of-suc-le-suc}
-use native.Mathlib.Omega.{arith}
-use lib.ListN.{length, take, drop, getD, length-append, length-drop, length-map, length-replicate, replicate, take-append-drop}
-use lib.Pow.{pow-pos}
-use lib.Seq.{take-at, drop-at, take-add, drop-drop, length-take-le, take-all}
+use Rattle.vocabulary.specs.{Bool, true, false, List, [], _∷_, _++_, append-assoc, append-nil, _≡_, refl, sym, ap, ap₂, _∙_, ℕ, zero, suc}
+use Rattle.vocabulary.specs.{_+_, _*_, _≤_, _<_, zero-add, add-assoc, le-of-suc-le-suc, arith, length, take, drop, getD, length-append}
+use Rattle.vocabulary.specs.{length-drop, length-map, length-replicate, replicate, take-append-drop, pow-pos, take-at, drop-at, take-add}
+use Rattle.vocabulary.specs.{drop-drop, length-take-le, take-all}
 use Rattle.bits.specs.Bits.{bits, value, bitsOf, bytesOf, byteCount, fillingWidth, inside, fieldAt, withField, Field, widths, totalWidth, packedBits, readFields, AllFit}
 use Rattle.bits.proofs.Bytes.{AreBytes, length-bitsOf, bitsOf-injective, bytesOf-bytes, length-bytesOf, bitsOf-bytesOf}
 use Rattle.bits.proofs.Fields.{is-inside, fieldAt-is, bits-fieldAt, bitsOf-withField, laid-start, room}

@@ -1,19 +1,11 @@
 -- One bit of a number, and one bit of bytes: where it stands, and the number or the bytes with another bit in its place.
 -- In j + 1 + m bits the bit at place j counts 2 ^ m. Assumes nothing.
-use mathlib.Core.Bool.{Bool}
-use mathlib.Core.List.{List, [], _∷_, _++_}
-use mathlib.Core.Path.{_≡_, sym, ap, ap₂, _∙_, subst}
-use Prim.Native.Nat.{ℕ, zero, suc, _+_, _-_, _*_, _/_, _%_, _^_, _≤_, _<_}
-use native.Mathlib.Nat.{zero-add, add-zero, add-suc, suc-add, mod-lt, pow-suc}
-use native.Mathlib.Omega.{arith}
-use lib.Arith.{digits-lt}
-use lib.Dec.{eqb}
-use lib.ListN.{length, take, drop, getD, set, take-append-drop}
-use lib.Pow.{pow-pos, pow-add, shr-lt, split}
-use lib.Seq.{append-snoc, set-at, split-at, set-split, set-append-left, take-set-le, drop-at, length-take-le}
+use Rattle.vocabulary.specs.{Bool, List, [], _∷_, _++_, _≡_, sym, ap, ap₂, _∙_, subst, ℕ, zero, suc, _+_, _-_, _*_, _/_, _%_, _^_, _≤_}
+use Rattle.vocabulary.specs.{_<_, zero-add, add-zero, add-suc, suc-add, mod-lt, pow-suc, arith, digits-lt, eqb, length, take, drop, getD}
+use Rattle.vocabulary.specs.{set, take-append-drop, pow-pos, pow-add, shr-lt, split, append-snoc, set-at, split-at, set-split}
+use Rattle.vocabulary.specs.{set-append-left, take-set-le, drop-at, length-take-le}
 use Rattle.bits.specs.Bits.{odd, bits, bitsOf}
-use Rattle.bits.proofs.Bytes.{length-bitsOf-take, bitsOf-append}
-use Rattle.bits.proofs.Fields.{laid}
+use Rattle.bits.proofs.{Bytes.length-bitsOf-take, Bytes.bitsOf-append, Fields.laid}
 use Rattle.bits.proofs.Numbers.{length-bits, bits-append, half-below}
 
 -- ---- a bit of a number

@@ -1,18 +1,10 @@
 -- Whole bytes as one number, and a field as a part of it. Assumes nothing.
-use mathlib.Core.Bool.{Bool}
-use mathlib.Core.List.{List, [], _∷_, _++_, append-nil}
-use mathlib.Core.Path.{_≡_, refl, sym, ap, ap₂, _∙_}
-use Prim.Native.Nat.{ℕ, _+_, _-_, _*_, _/_, _%_, _^_, _≤_, _<_}
-use native.Mathlib.Nat.{add-zero, lt-of-lt-of-le}
-use native.Mathlib.Numerals.{add-one}
-use native.Mathlib.Omega.{arith}
-use lib.Arith.{digits-div, digits-mod}
-use lib.ListN.{length, take, drop, getD, length-drop, take-append-drop}
-use lib.Pow.{pow-mono}
-use lib.Seq.{take-suc, take-add, take-append-le, drop-append-le, drop-at, drop-drop, getD-drop, length-take-le}
+use Rattle.vocabulary.specs.{Bool, List, [], _∷_, _++_, append-nil, _≡_, refl, sym, ap, ap₂, _∙_, ℕ, _+_, _-_, _*_, _/_, _%_, _^_, _≤_}
+use Rattle.vocabulary.specs.{_<_, add-zero, lt-of-lt-of-le, add-one, arith, digits-div, digits-mod, length, take, drop, getD, length-drop}
+use Rattle.vocabulary.specs.{take-append-drop, pow-mono, take-suc, take-add, take-append-le, drop-append-le, drop-at, drop-drop, getD-drop}
+use Rattle.vocabulary.specs.{length-take-le}
 use Rattle.bits.specs.Bits.{bits, value, bitsOf, fieldAt}
-use Rattle.bits.proofs.Bytes.{AreBytes, length-bitsOf-take, bitsOf-append}
-use Rattle.bits.proofs.Fields.{is-inside, fieldAt-is}
+use Rattle.bits.proofs.{Bytes.AreBytes, Bytes.length-bitsOf-take, Bytes.bitsOf-append, Fields.is-inside, Fields.fieldAt-is}
 use Rattle.bits.proofs.Numbers.{length-bits, value-append, value-bits, value-lt}
 
 -- ---- a part of a run of bits

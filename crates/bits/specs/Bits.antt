@@ -3,11 +3,8 @@
 --
 -- A bit is a Bool: true is 1, false is 0. A run of bits is a list, the most significant first. A byte is a number below 256.
 -- Positions are counted in bits from 0, the most significant bit of the first byte.
-use mathlib.Core.Bool.{Bool, true, false, cond, _&&_}
-use mathlib.Core.List.{List, [], _∷_, _++_, map}
-use Prim.Native.Nat.{ℕ, zero, suc, _+_, _-_, _*_, _/_, _%_, _^_, _<_}
-use lib.Dec.{leb, eqb}
-use lib.ListN.{length, take, drop, replicate}
+use Rattle.vocabulary.specs.{Bool, true, false, cond, _&&_, List, [], _∷_, _++_, map, ℕ, zero, suc, _+_, _-_, _*_, _/_, _%_, _^_, _<_, leb}
+use Rattle.vocabulary.specs.{eqb, length, take, drop, replicate}
 
 -- ---- numbers and their bits
 

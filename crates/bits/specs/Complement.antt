@@ -1,9 +1,5 @@
 -- What two's complement of a width from 1 to 32 is. Document 01, "Packed sheets", of kind 2: "15 sine difference in two's complement".
-use mathlib.Core.Bool.{cond, Bool, _&&_}
-use Prim.Native.Nat.{ℕ, _-_, _*_, _^_}
-use lib.Dec.{leb, ltb}
-use lib.IntN.{ℤ, pos, negℤ, _-ℤ_, natAbs}
-use lib.Signed.{leZ, ltZ, nonNeg}
+use Rattle.vocabulary.specs.{cond, Bool, _&&_, ℕ, _-_, _*_, _^_, leb, ltb, ℤ, pos, negℤ, _-ℤ_, natAbs, leZ, ltZ, nonNeg}
 
 -- half the range of a width: of its numbers as many are negative as are not. No other width has any
 unfoldable pub halfRange : ℕ → ℕ

@@ -1,7 +1,5 @@
 -- What the comparisons of the cases answer.
-use mathlib.Core.Path.{_≡_}
-use mathlib.Core.Bool.{Bool, true, false}
-use Prim.Native.Nat.{ℕ}
+use Rattle.vocabulary.specs.{_≡_, Bool, true, false, ℕ}
 
 -- an answer that says whether something holds
 abbrev pub Tells : Bool → Type 0 → Type 0

@@ -1,10 +1,6 @@
 -- Tests over places, as a loop makes them: what was found at one holds over all, and what was found at none. Assumes nothing.
-use Prim.Native.Nat.{ℕ, zero, suc, _+_, _≤_, _<_}
-use mathlib.Core.Bool.{Bool, true, false, _||_, true≢false}
-use mathlib.Core.Path.{_≡_, refl, sym, ap, ap₂, _∙_}
-use native.Mathlib.Decide.{decLt}
-use native.Mathlib.Numerals.{add-one}
-use native.Mathlib.Omega.{arith}
+use Rattle.vocabulary.specs.{ℕ, zero, suc, _+_, _≤_, _<_, Bool, true, false, _||_, true≢false, _≡_, refl, sym, ap, ap₂, _∙_, decLt}
+use Rattle.vocabulary.specs.{add-one, arith}
 use Rattle.refusals.specs.Questions.{anyPlace}
 
 either-true : (a : Bool) → (a || true) ≡ true

@@ -1,32 +1,17 @@
 -- Our own choice keeps both rules, and number 15 asks exactly whether one of them is broken. Assumes nothing.
-use Prim.Native.Nat.{ℕ, zero, suc, _≤_, _<_, zero-le, suc-le-suc}
-use mathlib.Core.Bool.{Bool, true, false}
-use mathlib.Core.List.{List}
-use mathlib.Core.Logic.{_↔_, _⊎_, inl, inr, ⊎-elim}
-use mathlib.Core.Path.{_≡_, refl, sym, ap, subst, _∙_}
-use native.Mathlib.Omega.{arith}
-use lib.IntN.{ℤ, pos, negsuc, natAbs, _+ℤ_, _*ℤ_}
-use lib.ListN.{length}
-use lib.Signed.{_≤ℤ_, _<ℤ_, ≤ℤ-refl, clashℤ}
+use Rattle.vocabulary.specs.{ℕ, zero, suc, _≤_, _<_, zero-le, suc-le-suc, Bool, true, false, List, _↔_, _⊎_, inl, inr, ⊎-elim, _≡_, refl}
+use Rattle.vocabulary.specs.{sym, ap, subst, _∙_, arith, ℤ, pos, negsuc, natAbs, _+ℤ_, _*ℤ_, length, _≤ℤ_, _<ℤ_, ≤ℤ-refl, clashℤ}
 use Rattle.whole.specs.Sums.{vector}
 use Rattle.whole.proofs.Lists.{length-listed}
-use Rattle.refusals.specs.declared.Refusal.{Refusal}
-use Rattle.refusals.specs.declared.Verdict.the-variants.{Passed, Failed}
-use Rattle.refusals.specs.Numbers.{numbered}
-use Rattle.refusals.specs.Order.{failsIf, verdictOf}
+use Rattle.refusals.specs.{declared.Refusal.Refusal, declared.Verdict.the-variants.Passed, declared.Verdict.the-variants.Failed}
+use Rattle.refusals.specs.{Numbers.numbered, Order.failsIf, Order.verdictOf}
 use Rattle.refusals.specs.Questions.{Question, Holds, asked, lessSigned, either, someAt, outsideSigned}
-use Rattle.refusals.proofs.Decided.{decided, decided-not, not-less-signed}
-use Rattle.refusals.proofs.Nowhere.{between}
-use Rattle.figures.specs.declared.Figure.{Figure}
-use Rattle.figures.specs.Figure.{denominator, angleCount, conditionCount}
-use Rattle.figures.specs.Numerators.{conditionSum}
-use Rattle.figures.proofs.Figures.{denominator-positive}
-use Rattle.figures.proofs.Theorem.{condition-agrees}
+use Rattle.refusals.proofs.{Decided.decided, Decided.decided-not, Decided.not-less-signed, Nowhere.between}
+use Rattle.figures.specs.{declared.Figure.Figure, Figure.denominator, Figure.angleCount, Figure.conditionCount, Numerators.conditionSum}
+use Rattle.figures.proofs.{Figures.denominator-positive, Theorem.condition-agrees}
 use Rattle.pass_rules.specs.FirstPass.{misclosure, firstNumerator, misclosuresOf, numeratorsOf}
 use Rattle.pass_steps.proofs.StepLaws.{listed-at}
-use Rattle.closing.specs.Choice.{choice}
-use Rattle.closing.specs.Floor.{floorQuotient, ceilingQuotient}
-use Rattle.closing.specs.Promises.{rulesRow}
+use Rattle.closing.specs.{Choice.choice, Floor.floorQuotient, Floor.ceilingQuotient, Promises.rulesRow}
 use Rattle.closing.specs.Rules.{BelowOrAbove, BothRules, restWith, choiceOf, tenthsUnder, tenthsOver, restsLeft}
 use Rattle.closing.proofs.Closes.{rest-zero, choice-low, choice-high}
 use Rattle.closing.proofs.FloorLaws.{one-of-both, floor-under, floor-of-whole, ceiling-of-whole}

@@ -1,23 +1,15 @@
 -- The choice is the whole tenth just below or just above the exact correction, a whole value stays, and every rest is 0: once over the
 -- figure. In each condition every angle ends where the next begins, up to a multiple of D: one test over the rows, which antt computes
 -- for all figures. Assumes nothing.
-use Prim.Native.Nat.{ℕ, zero, suc, _+_, _-_, _<_}
-use mathlib.Core.Bool.{Bool, true, false, _&&_}
-use mathlib.Core.List.{List, [], _∷_}
-use mathlib.Core.Path.{_≡_, refl, sym, ap, ap₂, _∙_}
-use lib.Dec.{T, eqb, eqb→eq}
-use lib.IntN.{ℤ, pos, negℤ, _+ℤ_, _-ℤ_, _*ℤ_, +ℤ-idr}
-use lib.Signed.{_≤ℤ_}
-use Rattle.whole.specs.Lists.{every, everyBelow}
-use Rattle.whole.specs.Sums.{dot, applied, table}
+use Rattle.vocabulary.specs.{ℕ, zero, suc, _+_, _-_, _<_, Bool, true, false, _&&_, List, [], _∷_, _≡_, refl, sym, ap, ap₂, _∙_, T, eqb}
+use Rattle.vocabulary.specs.{eqb→eq, ℤ, pos, negℤ, _+ℤ_, _-ℤ_, _*ℤ_, +ℤ-idr, _≤ℤ_}
+use Rattle.whole.specs.{Lists.every, Lists.everyBelow, Sums.dot, Sums.applied, Sums.table}
 use Rattle.whole.proofs.Computed.{and-left, and-right, every-at, every-below}
 use Rattle.whole.proofs.Ring.{constant, _⊕_, _⊖_, _⊗_, ⊝_, _≐_, ring}
 use Rattle.whole.proofs.Sums.{dot-ext, dot-comm, dot-add, dot-scale, dot-zero}
-use Rattle.figures.specs.declared.Figure.{Figure}
+use Rattle.figures.specs.{declared.Figure.Figure, Numerators.sumOver, Numerators.conditionSum, Numerators.numerator}
 use Rattle.figures.specs.Figure.{Condition, description, allFigures, denominator, conditionCount, membersOf}
-use Rattle.figures.specs.Numerators.{sumOver, conditionSum, numerator}
-use Rattle.figures.proofs.Figures.{none, each-figure, denominator-positive}
-use Rattle.figures.proofs.Theorem.{numerators-cancel}
+use Rattle.figures.proofs.{Figures.none, Figures.each-figure, Figures.denominator-positive, Theorem.numerators-cancel}
 use Rattle.closing.specs.Choice.{startOf, endOf, before, chosen, choice}
 use Rattle.closing.specs.Floor.{floorQuotient, ceilingQuotient, floorRemainder}
 use Rattle.closing.proofs.FloorLaws.{remainder-below, divided, remainder-shifted, multiple, same-multiple, not-under, not-over}

@@ -1,12 +1,8 @@
 -- Division downwards and upwards: a number is its quotient times d and what is left over, in one way; what is between the two quotients
 -- is one of them. Assumes nothing.
-use Prim.Native.Nat.{ℕ, zero, suc, _+_, _-_, _*_, _/_, _%_, _≤_, _<_}
-use mathlib.Core.Logic.{_⊎_, inl, inr, ⊎-elim}
-use mathlib.Core.Path.{_≡_, refl, sym, ap, ap₂, subst, _∙_}
-use native.Mathlib.Nat.{mod-lt, div-add-mod, mul-suc, mul-zero, mul-le-mul-right}
-use native.Mathlib.Omega.{arith}
-use lib.IntN.{ℤ, pos, negsuc, negℤ, natAbs, _+ℤ_, _-ℤ_, _*ℤ_, +ℤ-idr}
-use lib.Signed.{_≤ℤ_}
+use Rattle.vocabulary.specs.{ℕ, zero, suc, _+_, _-_, _*_, _/_, _%_, _≤_, _<_, _⊎_, inl, inr, ⊎-elim, _≡_, refl, sym, ap, ap₂, subst, _∙_}
+use Rattle.vocabulary.specs.{mod-lt, div-add-mod, mul-suc, mul-zero, mul-le-mul-right, arith, ℤ, pos, negsuc, negℤ, natAbs, _+ℤ_, _-ℤ_}
+use Rattle.vocabulary.specs.{_*ℤ_, +ℤ-idr, _≤ℤ_}
 use Rattle.whole.proofs.Magnitudes.{natAbs-neg, natAbs-mul, natAbs-distance}
 use Rattle.whole.proofs.Order.{pos-injective, natural, zero-≤ℤ-pos, ≤ℤ-difference, ≤ℤ-from-difference}
 use Rattle.whole.proofs.Ring.{constant, _⊕_, _⊖_, _⊗_, ⊝_, _≐_, ring, difference-zero}
@@ -61,8 +57,7 @@ module _ (d : ℕ) (positive : 0 < d) where
 
   -- equal multiples are of one number
   pub same-multiple : (q k : ℤ) → pos d *ℤ q ≡ pos d *ℤ k → q ≡ k
-  same-multiple q k e =
-      divided-once q k 0 0 positive positive (+ℤ-idr (pos d *ℤ q) ∙ e ∙ sym (+ℤ-idr (pos d *ℤ k))) .0
+  same-multiple q k e = divided-once q k 0 0 positive positive (+ℤ-idr (pos d *ℤ q) ∙ e ∙ sym (+ℤ-idr (pos d *ℤ k))) .0
 
   -- a multiple that is more than −d is not below 0
   not-below : (k : ℤ) (a b : ℕ) → b < d → pos d *ℤ k ≡ pos a -ℤ pos b → pos 0 ≤ℤ k

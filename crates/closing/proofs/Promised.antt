@@ -1,53 +1,28 @@
 -- From what the steps promise to what the two operations do. Assumes nothing.
-use Prim.Native.Nat.{ℕ, _≤_, _<_, zero-le}
-use mathlib.Core.Bool.{Bool, true, false, not, _&&_, _||_, true≢false}
-use mathlib.Core.List.{List, [], _∷_}
-use mathlib.Core.Path.{_≡_, refl, sym, ap, ap₂, subst, _∙_}
-use native.Mathlib.Decide.{decLt}
-use native.Mathlib.Nat.{le-trans}
-use native.Mathlib.Omega.{arith}
-use borrow.Author.Tests.{ne-eqb}
-use lib.Dec.{lit≤}
-use lib.IntN.{ℤ, pos, natAbs, _+ℤ_, _-ℤ_}
-use lib.ListN.{length, List·getD-eq-default}
-use lib.Signed.{ltZ}
-use Rattle.whole.specs.Lists.{listed}
-use Rattle.whole.specs.Sums.{vector}
+use Rattle.vocabulary.specs.{ℕ, _≤_, _<_, zero-le, Bool, true, false, not, _&&_, _||_, true≢false, List, [], _∷_, _≡_, refl, sym, ap, ap₂}
+use Rattle.vocabulary.specs.{subst, _∙_, decLt, le-trans, arith, ne-eqb, lit≤, ℤ, pos, natAbs, _+ℤ_, _-ℤ_, length, List·getD-eq-default}
+use Rattle.vocabulary.specs.{ltZ}
+use Rattle.whole.specs.{Lists.listed, Sums.vector}
 use Rattle.whole.proofs.Lists.{listed-ext}
-use Rattle.refusals.specs.declared.Refusal.{Refusal}
-use Rattle.refusals.specs.declared.Verdict.{Verdict}
-use Rattle.refusals.specs.declared.Verdict.the-variants.{Passed, Failed}
-use Rattle.refusals.specs.Numbers.{numbered}
+use Rattle.refusals.specs.{declared.Refusal.Refusal, declared.Verdict.Verdict, Numbers.numbered, Promise.stored, Ranges.mostLimit}
+use Rattle.refusals.specs.{declared.Verdict.the-variants.Passed, declared.Verdict.the-variants.Failed, Table.lengthsRow, Table.choiceRow}
 use Rattle.refusals.specs.Order.{Row, verdictOf, failsIf, judged}
-use Rattle.refusals.specs.Promise.{stored}
 use Rattle.refusals.specs.Questions.{asked, outsideSigned, anyPlace}
-use Rattle.refusals.specs.Ranges.{mostLimit}
-use Rattle.refusals.specs.Table.{lengthsRow, choiceRow}
-use Rattle.refusals.proofs.Answers.{answer-of-one}
-use Rattle.refusals.proofs.Decided.{not-less-signed}
-use Rattle.refusals.proofs.InSteps.{judged-after-pass, judged-after-failure}
-use Rattle.figures.specs.declared.Figure.{Figure}
-use Rattle.figures.specs.declared.Named.{Named}
-use Rattle.figures.specs.declared.Named.the-variants.{As, Nothing}
+use Rattle.refusals.proofs.{Answers.answer-of-one, Decided.not-less-signed, InSteps.judged-after-pass, InSteps.judged-after-failure}
+use Rattle.figures.specs.{declared.Figure.Figure, declared.Named.Named, declared.Named.the-variants.As, declared.Named.the-variants.Nothing}
 use Rattle.figures.specs.Figure.{denominator, angleCount, conditionCount, figureOf, ofNamed}
 use Rattle.figures.proofs.Figures.{denominator-positive}
 use Rattle.pass_rules.specs.FirstPass.{misclosure, firstNumerator, misclosuresOf, numeratorsOf, firstResultLengths, firstRows}
 use Rattle.pass_rules.specs.Promises.{FirstGiven, FirstLent, firstResultsLent, firstValuesOf, firstVerdictOf, FirstPromiseOf}
-use Rattle.pass_rules.proofs.FirstAccepted.{Accepted, accepted}
-use Rattle.pass_rules.proofs.PassRows.{none-judged, one-judged}
+use Rattle.pass_rules.proofs.{FirstAccepted.Accepted, FirstAccepted.accepted, PassRows.none-judged, PassRows.one-judged}
 use Rattle.pass_first.proofs.FirstBounds.{misclosure-small, first-numerator-small}
 use Rattle.pass_steps.specs.Premises.{Within, mostSummed}
-use Rattle.pass_steps.proofs.Judged.{lengths-pass, kept, written}
-use Rattle.pass_steps.proofs.StepLaws.{listed-at, listed-within}
-use Rattle.closing.specs.Choice.{startOf, chosen, choice}
-use Rattle.closing.specs.Floor.{floorQuotient, ceilingQuotient}
-use Rattle.closing.specs.Premises.{mostNumerator}
+use Rattle.pass_steps.proofs.{Judged.lengths-pass, Judged.kept, Judged.written, StepLaws.listed-at, StepLaws.listed-within}
+use Rattle.closing.specs.{Choice.startOf, Choice.chosen, Choice.choice, Floor.floorQuotient, Floor.ceilingQuotient}
+use Rattle.closing.specs.{Premises.mostNumerator, Steps.someStrays, Steps.someOpen}
 use Rattle.closing.specs.Promises.{closingRowsFor, closingAnswer, ClosingPromise, closingAnswerOf, ClosingPromiseOf, rulesRow, checkRowsFor, checkAnswer, checkAnswerOf}
 use Rattle.closing.specs.Rules.{passRows, choiceOf, tenthsUnder, tenthsOver, restsLeft}
-use Rattle.closing.specs.Steps.{someStrays, someOpen}
-use Rattle.closing.proofs.Anywhere.{any-agrees, not-found}
-use Rattle.closing.proofs.FloorLaws.{between-small}
-use Rattle.closing.proofs.Starts.{start-agrees, end-is}
+use Rattle.closing.proofs.{Anywhere.any-agrees, Anywhere.not-found, FloorLaws.between-small, Starts.start-agrees, Starts.end-is}
 
 left-false : (a b : Bool) → (a || b) ≡ false → a ≡ false
 left-false true b e = absurd (true≢false e)

@@ -1,36 +1,20 @@
 -- The orders of the two operations: they refuse exactly where the first pass does, never with 15 our own, and the check with 15 after
 -- that. Assumes nothing.
-use Prim.Native.Nat.{ℕ}
-use mathlib.Core.Bool.{Bool, not}
-use mathlib.Core.List.{List, [], _∷_}
-use mathlib.Core.Logic.{_↔_, _⊎_, inl, inr, ⊎-elim}
-use mathlib.Core.Path.{_≡_, refl, sym, ap, subst, _∙_}
-use native.Mathlib.Omega.{arith}
-use lib.Dec.{T, eqb}
-use borrow.Author.Tests.{eq-eqb}
-use lib.IntN.{ℤ}
-use lib.ListN.{length}
-use Rattle.whole.specs.Sums.{vector}
-use Rattle.whole.specs.Lists.{every}
-use Rattle.whole.proofs.Computed.{and-left, and-right}
-use Rattle.whole.proofs.Lists.{length-listed}
-use Rattle.refusals.specs.declared.Refusal.{Refusal}
-use Rattle.refusals.specs.declared.Verdict.the-variants.{Passed, Failed}
-use Rattle.refusals.specs.Numbers.{told, verdictTold}
+use Rattle.vocabulary.specs.{ℕ, Bool, not, List, [], _∷_, _↔_, _⊎_, inl, inr, ⊎-elim, _≡_, refl, sym, ap, subst, _∙_, arith, T, eqb}
+use Rattle.vocabulary.specs.{eq-eqb, ℤ, length}
+use Rattle.whole.specs.{Sums.vector, Lists.every}
+use Rattle.whole.proofs.{Computed.and-left, Computed.and-right, Lists.length-listed}
+use Rattle.refusals.specs.{declared.Refusal.Refusal, declared.Verdict.the-variants.Passed, declared.Verdict.the-variants.Failed}
+use Rattle.refusals.specs.{Numbers.told, Numbers.verdictTold, Table.lengthsRow}
 use Rattle.refusals.specs.Order.{Row, number, Stands, allInTable, verdictOf, judged}
-use Rattle.refusals.specs.Table.{lengthsRow}
-use Rattle.refusals.proofs.InSteps.{both-parts}
-use Rattle.refusals.proofs.Rows.{answers-exactly, answered-stands}
-use Rattle.figures.specs.declared.Figure.{Figure}
-use Rattle.figures.specs.declared.Named.{Named}
-use Rattle.figures.specs.declared.Named.the-variants.{As, Nothing}
+use Rattle.refusals.proofs.{InSteps.both-parts, Rows.answers-exactly, Rows.answered-stands}
+use Rattle.figures.specs.{declared.Figure.Figure, declared.Named.Named, declared.Named.the-variants.As, declared.Named.the-variants.Nothing}
 use Rattle.figures.specs.Figure.{angleCount, figureOf, ofNamed}
 use Rattle.pass_rules.specs.FirstPass.{misclosure, firstRows, firstPassRows, firstPassVerdict}
 use Rattle.pass_rules.specs.Promises.{FirstGiven, FirstLent, firstLengthsLent, firstAnswer}
 use Rattle.pass_rules.proofs.PassRows.{rows-in-table, none-judged, one-judged}
-use Rattle.closing.specs.Choice.{choice}
+use Rattle.closing.specs.{Choice.choice, Rules.passRows, Rules.BothRules, Rules.choiceOf}
 use Rattle.closing.specs.Promises.{closingRowsFor, closingRows, closingAnswer, rulesRow, checkRowsFor, checkRows, checkAnswer, Fitting}
-use Rattle.closing.specs.Rules.{passRows, BothRules, choiceOf}
 use Rattle.closing.proofs.BothRules.{choice-keeps-rules, row-passes-exactly, row-fails-exactly, row-either}
 use Rattle.closing.proofs.Promised.{length-right, check-asked, check-refused}
 

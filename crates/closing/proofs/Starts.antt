@@ -1,23 +1,12 @@
 -- Where angles start: the number of the angle at whose end one starts, by its index, for each family of figures; and sums along the way
 -- to it. One computed test each. Assumes nothing.
-use Prim.Native.Nat.{ℕ, zero, suc, _+_, _-_, _*_, _%_, _≤_, _<_, zero-le}
-use mathlib.Core.Bool.{Bool, true, false, cond, not, _||_}
-use mathlib.Core.List.{List}
-use mathlib.Core.Path.{_≡_, refl, sym, ap₂, subst}
-use native.Mathlib.Numerals.{unary-clauses}
-use native.Mathlib.Omega.{arith}
-use lib.Dec.{T, eqb, eqb→eq, leb, leb→le}
-use lib.IntN.{ℤ, pos, natAbs, _+ℤ_}
-use lib.ListN.{getD}
+use Rattle.vocabulary.specs.{ℕ, zero, suc, _+_, _-_, _*_, _%_, _≤_, _<_, zero-le, Bool, true, false, cond, not, _||_, List, _≡_, refl, sym}
+use Rattle.vocabulary.specs.{ap₂, subst, unary-clauses, arith, T, eqb, eqb→eq, leb, leb→le, ℤ, pos, natAbs, _+ℤ_, getD}
 use Rattle.whole.specs.Lists.{every, everyBelow}
-use Rattle.whole.proofs.Computed.{every-below}
-use Rattle.whole.proofs.Magnitudes.{natAbs-add}
-use Rattle.figures.specs.declared.Figure.{Figure}
-use Rattle.figures.specs.declared.Figure.the-variants.{Quadrilateral}
-use Rattle.figures.specs.Figure.{allFigures, angleCount}
+use Rattle.whole.proofs.{Computed.every-below, Magnitudes.natAbs-add}
+use Rattle.figures.specs.{declared.Figure.Figure, declared.Figure.the-variants.Quadrilateral, Figure.allFigures, Figure.angleCount}
 use Rattle.figures.specs.Numerators.{sumOver}
-use Rattle.figures.proofs.Families.{isPointInside, isPolygon}
-use Rattle.figures.proofs.Figures.{each-figure}
+use Rattle.figures.proofs.{Families.isPointInside, Families.isPolygon, Figures.each-figure}
 use Rattle.closing.specs.Choice.{startsAt, chain, startOf, endOf}
 
 -- ---- by the index, as the code finds it

@@ -1,15 +1,10 @@
 -- Which whole tenth is chosen for each angle: document 02, M-104. An angle is the difference of two directions. A figure's angles are
 -- laid off one from another, the exact corrections with them, and the directions are rounded downwards, not the angles. Angles and
 -- conditions by their index, counted from 0, but for `startsAt`, which has the numbers of the figure.
-use Prim.Native.Nat.{ℕ, zero, suc, _-_}
-use mathlib.Core.List.{List, [], _∷_}
-use lib.IntN.{ℤ, _-ℤ_}
-use lib.ListN.{getD}
-use Rattle.figures.specs.declared.Figure.{Figure}
+use Rattle.vocabulary.specs.{ℕ, zero, suc, _-_, List, [], _∷_, ℤ, _-ℤ_, getD}
+use Rattle.figures.specs.{declared.Figure.Figure, Figure.denominator, Figure.angleCount, Figure.inner, Figure.left, Figure.right}
 use Rattle.figures.specs.declared.Figure.the-variants.{Quadrilateral, PointInTriangle, PointInQuadrilateral, CentralTriangle, CentralQuadrilateral, CentralPentagon, CentralHexagon, CentralHeptagon, CentralOctagon}
-use Rattle.figures.specs.Figure.{denominator, angleCount, inner, left, right}
-use Rattle.figures.specs.Numerators.{sumOver, numerator}
-use Rattle.figures.specs.Rows.{eachOf}
+use Rattle.figures.specs.{Numerators.sumOver, Numerators.numerator, Rows.eachOf}
 use Rattle.closing.specs.Floor.{floorQuotient}
 
 -- ---- at whose end each angle starts: the number of an angle, and 0 for the first direction

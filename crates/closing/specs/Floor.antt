@@ -1,6 +1,5 @@
 -- Division downwards, also below zero: what it gives, and what it leaves over, from 0 to d − 1. Division upwards is that turned round.
-use Prim.Native.Nat.{ℕ, _-_, _/_, _%_}
-use lib.IntN.{ℤ, pos, negsuc, negℤ}
+use Rattle.vocabulary.specs.{ℕ, _-_, _/_, _%_, ℤ, pos, negsuc, negℤ}
 
 -- −1 − n is −1 − n / d times d, and what is over
 abbrev pub floorQuotient : ℤ → (d : ℕ) → ℤ

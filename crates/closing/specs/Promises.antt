@@ -1,16 +1,9 @@
 -- What the two operations promise: document 02, M-104. "Our own operation refuses exactly where the first pass does, by the same number
 -- (7 by ordinary rounding), never 15; so does the check, before 15."
-use Prim.Native.Nat.{ℕ}
-use mathlib.Core.List.{List, [], _∷_, _++_}
-use mathlib.Core.Path.{_≡_}
-use lib.IntN.{ℤ}
-use lib.ListN.{length}
-use Rattle.refusals.specs.declared.Verdict.{Verdict}
-use Rattle.refusals.specs.Order.{Row, judged}
-use Rattle.refusals.specs.Promise.{Promised, stored}
+use Rattle.vocabulary.specs.{ℕ, List, [], _∷_, _++_, _≡_, ℤ, length}
+use Rattle.refusals.specs.{declared.Verdict.Verdict, Order.Row, Order.judged, Promise.Promised, Promise.stored}
 use Rattle.refusals.specs.Table.{figureRow, lengthsRow, choiceRow}
-use Rattle.figures.specs.declared.Figure.{Figure}
-use Rattle.figures.specs.declared.Named.the-variants.{As}
+use Rattle.figures.specs.{declared.Figure.Figure, declared.Named.the-variants.As}
 use Rattle.figures.specs.Figure.{angleCount, figureOf, figureNames, ofNamed}
 use Rattle.pass_rules.specs.FirstPass.{misclosuresOf, numeratorsOf, firstResultLengths}
 use Rattle.pass_rules.specs.Promises.{FirstGiven, FirstLent, firstResultsLent}

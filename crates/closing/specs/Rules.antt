@@ -1,21 +1,12 @@
 -- The two rules of document 02, M-104, and what the first pass says. First rule: each correction is the whole tenth just below or just
 -- above the exact one, numerator / D; a whole value stays, being both. Second rule: every rest is 0. Angles and conditions by their
 -- index, counted from 0.
-use Prim.Native.Nat.{ℕ, _<_}
-use mathlib.Core.List.{List, _∷_}
-use mathlib.Core.Logic.{_⊎_}
-use mathlib.Core.Path.{_≡_}
-use lib.IntN.{ℤ, pos, _+ℤ_}
-use lib.ListN.{length}
-use Rattle.whole.specs.Lists.{listed}
-use Rattle.whole.specs.Sums.{vector}
+use Rattle.vocabulary.specs.{ℕ, _<_, List, _∷_, _⊎_, _≡_, ℤ, pos, _+ℤ_, length}
+use Rattle.whole.specs.{Lists.listed, Sums.vector}
 use Rattle.refusals.specs.Order.{Row}
-use Rattle.figures.specs.declared.Figure.{Figure}
-use Rattle.figures.specs.Figure.{denominator, angleCount, conditionCount}
-use Rattle.figures.specs.Numerators.{conditionSum}
+use Rattle.figures.specs.{declared.Figure.Figure, Figure.denominator, Figure.angleCount, Figure.conditionCount, Numerators.conditionSum}
 use Rattle.pass_rules.specs.FirstPass.{misclosure, firstNumerator, firstResultLengths, firstRows}
-use Rattle.closing.specs.Choice.{choice}
-use Rattle.closing.specs.Floor.{floorQuotient, ceilingQuotient}
+use Rattle.closing.specs.{Choice.choice, Floor.floorQuotient, Floor.ceilingQuotient}
 
 -- the rows of the first pass, whose slices for results have the figure's lengths
 abbrev pub passRows : Figure → (limit : ℕ) → (angles rounds fixed : List ℕ) → List Row

@@ -1,13 +1,7 @@
 -- What the steps of the check answer: whether a rule is broken.
-use Prim.Native.Nat.{ℕ}
-use mathlib.Core.Bool.{Bool}
-use mathlib.Core.List.{List}
-use lib.IntN.{ℤ, pos, _+ℤ_}
-use lib.ListN.{length}
-use Rattle.whole.specs.Lists.{listed}
-use Rattle.whole.specs.Sums.{vector}
-use Rattle.refusals.specs.Numbers.{numbered}
-use Rattle.refusals.specs.Questions.{asked, someAt, outsideSigned}
+use Rattle.vocabulary.specs.{ℕ, Bool, List, ℤ, pos, _+ℤ_, length}
+use Rattle.whole.specs.{Lists.listed, Sums.vector}
+use Rattle.refusals.specs.{Numbers.numbered, Questions.asked, Questions.someAt, Questions.outsideSigned}
 use Rattle.closing.specs.Floor.{floorQuotient, ceilingQuotient}
 
 -- at some angle the offered correction is not the whole tenth just below or just above

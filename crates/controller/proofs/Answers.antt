@@ -1,20 +1,11 @@
 -- What an answer tells: number and place can be taken apart again, and it is 0 exactly if all is done. Assumes nothing.
-use Prim.Native.Nat.{ℕ, _+_, _*_, _/_, _%_, _<_}
-use mathlib.Core.List.{List}
-use mathlib.Core.Path.{_≡_, refl, sym, ap, ap₂, _∙_}
-use native.Mathlib.Nat.{lt-of-le-of-lt}
-use native.Mathlib.Omega.{arith}
-use lib.Dec.{T, lit<}
-use Rattle.refusals.specs.declared.Refusal.{Refusal}
-use Rattle.refusals.specs.declared.Verdict.{Verdict}
+use Rattle.vocabulary.specs.{ℕ, _+_, _*_, _/_, _%_, _<_, List, _≡_, refl, sym, ap, ap₂, _∙_, lt-of-le-of-lt, arith, T, lit<}
+use Rattle.refusals.specs.{declared.Refusal.Refusal, declared.Verdict.Verdict, Order.Row, Order.allInTable, Order.judged}
 use Rattle.refusals.specs.declared.Verdict.the-variants.{Passed, Failed}
 use Rattle.refusals.specs.Numbers.{placeOf, Told, told, refusalTold, verdictTold}
-use Rattle.refusals.specs.Order.{Row, allInTable, judged}
-use Rattle.refusals.proofs.PlaceBounds.{PlacesWithin, place-within}
-use Rattle.refusals.proofs.Rows.{passed-told}
+use Rattle.refusals.proofs.{PlaceBounds.PlacesWithin, PlaceBounds.place-within, Rows.passed-told}
 use Rattle.figures.specs.Numerators.{mostAngles}
-use Rattle.controller.specs.Answer.{placeStep, answerNumber, answerTold}
-use Rattle.controller.specs.Promises.{answerBy}
+use Rattle.controller.specs.{Answer.placeStep, Answer.answerNumber, Answer.answerTold, Promises.answerBy}
 
 -- number and place of an answer
 pub told-again : (t : Told) → t .place < placeStep → answerTold (answerNumber t) ≡ t

@@ -1,25 +1,12 @@
 -- A slice that C lends beside those of the operation, of the right length and of the wrong one; and what a refusal leaves. Assumes nothing.
-use Prim.Native.Nat.{ℕ}
-use mathlib.Core.Bool.{Bool, true, false, cond, _&&_}
-use mathlib.Core.List.{List, [], _∷_}
-use mathlib.Core.Path.{_≡_, refl, sym, ap}
-use borrow.Author.Tests.{eq-eqb, ne-eqb}
-use Rattle.refusals.specs.declared.Refusal.{Refusal}
-use Rattle.refusals.specs.declared.Verdict.{Verdict}
-use Rattle.refusals.specs.declared.Verdict.the-variants.{Passed, Failed}
-use Rattle.refusals.specs.Numbers.{Told, refusalTold, verdictTold}
+use Rattle.vocabulary.specs.{ℕ, Bool, true, false, cond, _&&_, List, [], _∷_, _≡_, refl, sym, ap, eq-eqb, ne-eqb}
+use Rattle.refusals.specs.{declared.Refusal.Refusal, declared.Verdict.Verdict, Numbers.Told, Numbers.refusalTold, Numbers.verdictTold}
+use Rattle.refusals.specs.{declared.Verdict.the-variants.Passed, declared.Verdict.the-variants.Failed, Promise.stored, Table.lengthsRow}
 use Rattle.refusals.specs.Order.{Row, answerOf, judged}
-use Rattle.refusals.specs.Promise.{stored}
-use Rattle.refusals.specs.Table.{lengthsRow}
 use Rattle.refusals.proofs.Rows.{no-zero}
-use Rattle.figures.specs.declared.Figure.{Figure}
-use Rattle.figures.specs.declared.Named.{Named}
-use Rattle.figures.specs.declared.Named.the-variants.{As, Nothing}
+use Rattle.figures.specs.{declared.Figure.Figure, declared.Named.Named, declared.Named.the-variants.As, declared.Named.the-variants.Nothing}
 use Rattle.figures.specs.Figure.{ofNamed}
-use Rattle.sheet_layout.specs.declared.Kind.{Kind}
-use Rattle.sheet_layout.specs.declared.head.Look.{Look}
-use Rattle.sheet_layout.specs.declared.head.Look.the-variants.{Head}
-use Rattle.sheet_layout.specs.Head.{ofHead}
+use Rattle.sheet_layout.specs.{declared.Kind.Kind, declared.head.Look.Look, declared.head.Look.the-variants.Head, Head.ofHead}
 use Rattle.controller.specs.Answer.{lengthsWith}
 
 module _ (room own : ℕ) where

@@ -1,9 +1,5 @@
 -- A slice of one or two values, each of which has been stored. Assumes nothing.
-use Prim.Native.Nat.{_<_, _≤_}
-use mathlib.Core.List.{List, [], _∷_}
-use mathlib.Core.Path.{_≡_, refl}
-use native.Mathlib.Omega.{arith}
-use lib.ListN.{length, set, take}
+use Rattle.vocabulary.specs.{_<_, _≤_, List, [], _∷_, _≡_, refl, arith, length, set, take}
 
 pub stored-1 : {A : Type 0} (l : List A) (a : A) → length l ≡ 1 → set l 0 a ≡ a ∷ []
 stored-1 [] a e = absurd (omega arith)

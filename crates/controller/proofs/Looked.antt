@@ -1,26 +1,15 @@
 -- A look for C, in its three ends. Assumes nothing.
-use Prim.Native.Nat.{ℕ}
-use mathlib.Core.List.{List, [], _∷_}
-use mathlib.Core.Path.{_≡_, sym, ap, ap₂, _∙_}
-use lib.ListN.{length}
-use Rattle.refusals.specs.declared.Refusal.{Refusal}
-use Rattle.refusals.specs.declared.Verdict.{Verdict}
-use Rattle.refusals.specs.declared.Verdict.the-variants.{Passed, Failed}
-use Rattle.refusals.specs.Numbers.{refusalTold, verdictTold}
-use Rattle.refusals.specs.Order.{answerOf, judged}
-use Rattle.refusals.specs.Promise.{stored}
+use Rattle.vocabulary.specs.{ℕ, List, [], _∷_, _≡_, sym, ap, ap₂, _∙_, length}
+use Rattle.refusals.specs.{declared.Refusal.Refusal, declared.Verdict.Verdict, Numbers.refusalTold, Numbers.verdictTold, Promise.stored}
+use Rattle.refusals.specs.{declared.Verdict.the-variants.Passed, declared.Verdict.the-variants.Failed, Order.answerOf, Order.judged}
 use Rattle.refusals.specs.Table.{lengthsRow}
 use Rattle.refusals.proofs.InSteps.{judged-after-pass, judged-after-failure}
 use Rattle.figures.specs.declared.Figure.{Figure}
-use Rattle.sheet_layout.specs.declared.Kind.{Kind}
-use Rattle.sheet_layout.specs.declared.head.Look.{Look}
-use Rattle.sheet_layout.specs.declared.head.Look.the-variants.{Head}
+use Rattle.sheet_layout.specs.{declared.Kind.Kind, declared.head.Look.Look, declared.head.Look.the-variants.Head}
 use Rattle.sheet_layout.specs.Head.{headRows, lookOf, ofHead}
 use Rattle.sheet_layout.proofs.Naming.{headVerdict, look-judged}
-use Rattle.controller.specs.Answer.{answerNumber}
-use Rattle.controller.specs.Promises.{lookHead, lookRows, lookLeft, LookPromise}
-use Rattle.controller.proofs.Answers.{done-number}
-use Rattle.controller.proofs.Lengths.{wrong-length, right-length}
+use Rattle.controller.specs.{Answer.answerNumber, Promises.lookHead, Promises.lookRows, Promises.lookLeft, Promises.LookPromise}
+use Rattle.controller.proofs.{Answers.done-number, Lengths.wrong-length, Lengths.right-length}
 
 module _ (sheet head : List ℕ) where
   by-verdict : (found : Look) (v : Verdict) → lookOf sheet ≡ found → judged (lookRows sheet head) ≡ v

@@ -1,37 +1,23 @@
 -- No place that is answered is above 24, the most angles that a figure has: a row with places comes after that of the lengths, or has no
 -- more places than the figure. So the place of an answer stays below 256. Assumes nothing.
-use Prim.Native.Nat.{ℕ, _≤_}
-use mathlib.Core.Bool.{Bool, true, false, cond}
-use mathlib.Core.List.{List, [], _∷_, _++_}
-use mathlib.Core.Path.{_≡_}
-use native.Mathlib.Omega.{arith}
-use lib.Dec.{T, eqb, leb, leb→le}
-use lib.IntN.{ℤ}
-use lib.ListN.{length, length-append}
+use Rattle.vocabulary.specs.{ℕ, _≤_, Bool, true, false, cond, List, [], _∷_, _++_, _≡_, arith, T, eqb, leb, leb→le, ℤ, length}
+use Rattle.vocabulary.specs.{length-append}
 use Rattle.refusals.specs.Order.{Row, row, rowAt, allInTable}
-use Rattle.refusals.proofs.Nowhere.{same-lengths}
-use Rattle.refusals.proofs.PlaceBounds.{PlacesWithin}
-use Rattle.figures.specs.declared.Figure.{Figure}
-use Rattle.figures.specs.declared.Named.{Named}
-use Rattle.figures.specs.declared.Named.the-variants.{As, Nothing}
-use Rattle.figures.specs.Figure.{angleCount, fixedCount, sideCount, figureOf, ofNamed}
-use Rattle.figures.specs.Numerators.{mostAngles}
+use Rattle.refusals.proofs.{Nowhere.same-lengths, PlaceBounds.PlacesWithin}
+use Rattle.figures.specs.{declared.Figure.Figure, declared.Named.Named, declared.Named.the-variants.As, declared.Named.the-variants.Nothing}
+use Rattle.figures.specs.{Figure.angleCount, Figure.fixedCount, Figure.sideCount, Figure.figureOf, Figure.ofNamed, Numerators.mostAngles}
 use Rattle.figures.proofs.Figures.{angle-bound}
-use Rattle.sheet_layout.specs.declared.Kind.{Kind}
-use Rattle.sheet_layout.specs.declared.Kind.the-variants.{Two}
-use Rattle.sheet_layout.proofs.EachKind.{each}
-use Rattle.sheet_layout.specs.Layout.{lengthsOf, sheetSize}
-use Rattle.sheet_layout.proofs.Sizes.{fixed-bound, entry-bound}
-use Rattle.sheet_layout.specs.declared.head.Look.{Look}
-use Rattle.sheet_layout.specs.declared.head.Look.the-variants.{Head}
+use Rattle.sheet_layout.specs.{declared.Kind.Kind, declared.Kind.the-variants.Two, Layout.lengthsOf, Layout.sheetSize}
+use Rattle.sheet_layout.specs.{declared.head.Look.Look, declared.head.Look.the-variants.Head}
 use Rattle.sheet_layout.specs.Head.{headRows, headOf, lookOf, ofHead}
+use Rattle.sheet_layout.proofs.{EachKind.each, Sizes.fixed-bound, Sizes.entry-bound}
 use Rattle.sheet_rules.specs.Sheet.{Values}
 use Rattle.sheet_rules.specs.Judging.{ownLengths, lengthsGiven, bodyRows, readerRows, givenRows, writerRows}
 use Rattle.sheet_rules.proofs.Refusals.{reader-in-table}
 use Rattle.pass_rules.specs.FirstPass.{firstResultLengths, firstLengths, firstRows, firstPassRows}
 use Rattle.pass_rules.specs.SecondPass.{SineEntries, secondLengths, secondRows, secondPassRows}
-use Rattle.pass_rules.proofs.Refusals.{second-in-table}
 use Rattle.pass_rules.specs.Promises.{FirstGiven, FirstLent, firstLengthsLent, firstRowsOf, SecondGiven}
+use Rattle.pass_rules.proofs.Refusals.{second-in-table}
 use Rattle.closing.specs.Promises.{closingRowsFor, closingRows, rulesRow, checkRowsFor, checkRows}
 use Rattle.closing.specs.Rules.{passRows}
 use Rattle.report.proofs.PlaceBounds as pages

@@ -1,35 +1,21 @@
 -- The second pass for C, in its ends. Assumes nothing.
-use Prim.Native.Nat.{ℕ, _<_, _≤_}
-use mathlib.Core.Bool.{Bool, true, false, cond, _&&_}
-use mathlib.Core.List.{List, [], _∷_, map}
-use mathlib.Core.Path.{_≡_, refl, sym, ap, ap₂, subst, _∙_}
-use native.Mathlib.Omega.{arith}
-use borrow.Author.Tests.{eqb-true}
-use lib.Dec.{eqb, eqb→eq}
-use lib.IntN.{ℤ}
-use lib.ListN.{length, getD, take}
-use Rattle.refusals.specs.declared.Refusal.{Refusal}
-use Rattle.refusals.specs.declared.Verdict.{Verdict}
+use Rattle.vocabulary.specs.{ℕ, _<_, _≤_, Bool, true, false, cond, _&&_, List, [], _∷_, map, _≡_, refl, sym, ap, ap₂, subst, _∙_, arith}
+use Rattle.vocabulary.specs.{eqb-true, eqb, eqb→eq, ℤ, length, getD, take}
+use Rattle.refusals.specs.{declared.Refusal.Refusal, declared.Verdict.Verdict, Order.answerOf, Order.judged, Promise.stored}
 use Rattle.refusals.specs.declared.Verdict.the-variants.{Passed, Failed}
 use Rattle.refusals.specs.Numbers.{placeOf, Told, refusalTold, verdictTold}
-use Rattle.refusals.specs.Order.{answerOf, judged}
-use Rattle.refusals.specs.Promise.{stored}
-use Rattle.figures.specs.declared.Figure.{Figure}
-use Rattle.figures.specs.declared.Named.{Named}
-use Rattle.figures.specs.declared.Named.the-variants.{As, Nothing}
+use Rattle.figures.specs.{declared.Figure.Figure, declared.Named.Named, declared.Named.the-variants.As, declared.Named.the-variants.Nothing}
 use Rattle.figures.specs.Figure.{SineCondition, description, sideCount, noSine, figureOf, ofNamed}
-use Rattle.figures.proofs.Figures.{each-figure}
-use Rattle.figures.proofs.Naming.{none-named, one-named}
+use Rattle.figures.proofs.{Figures.each-figure, Naming.none-named, Naming.one-named}
 use Rattle.pass_rules.specs.declared.second.SecondAnswer.{SecondAnswer}
 use Rattle.pass_rules.specs.declared.second.SecondAnswer.the-variants.{Done, Refused}
 use Rattle.pass_rules.specs.SecondPass.{misclosureIn, sineMisclosure, sideMisclosure, divisor, secondRows, secondPassRows, secondPassVerdict, secondAnswerFor, secondPassAnswer, secondTold}
-use Rattle.pass_rules.proofs.Refusals.{second-tells}
 use Rattle.pass_rules.specs.Promises.{SecondGiven, SecondLent, secondLengthsLent, secondValues, secondVerdict, SecondPromise}
+use Rattle.pass_rules.proofs.Refusals.{second-tells}
 use Rattle.controller.specs.Answer.{placeStep, answerNumber}
 use Rattle.controller.specs.Promises.{SumsLent, sumsLent, sineCount, sumsLengths, sumsRows, sineMisclosuresOf, divisorWordsOf, sumsValues, SecondPassPromise}
-use Rattle.controller.proofs.Answers.{done-number, place-small}
+use Rattle.controller.proofs.{Answers.done-number, Answers.place-small, PlaceBounds.sums-in-table, PlaceBounds.sums-within}
 use Rattle.controller.proofs.Lengths.{none-with-two, all-with-two, kept-named}
-use Rattle.controller.proofs.PlaceBounds.{sums-in-table, sums-within}
 
 -- ---- how many sine conditions a figure has
 

@@ -1,33 +1,18 @@
 -- The reader for C, in its ends. Assumes nothing.
-use Prim.Native.Nat.{ℕ, _<_}
-use mathlib.Core.List.{List, [], _∷_}
-use mathlib.Core.Path.{_≡_, refl, sym, ap, ap₂, subst, _∙_}
-use borrow.Author.Tests.{eq-eqb, ne-eqb}
-use lib.ListN.{length}
-use Rattle.refusals.specs.declared.Refusal.{Refusal}
-use Rattle.refusals.specs.declared.Verdict.{Verdict}
+use Rattle.vocabulary.specs.{ℕ, _<_, List, [], _∷_, _≡_, refl, sym, ap, ap₂, subst, _∙_, eq-eqb, ne-eqb, length}
+use Rattle.refusals.specs.{declared.Refusal.Refusal, declared.Verdict.Verdict, Order.answerOf, Order.judged, Promise.stored}
 use Rattle.refusals.specs.declared.Verdict.the-variants.{Passed, Failed}
 use Rattle.refusals.specs.Numbers.{placeOf, Told, refusalTold, verdictTold}
-use Rattle.refusals.specs.Order.{answerOf, judged}
-use Rattle.refusals.specs.Promise.{stored}
-use Rattle.figures.specs.declared.Figure.{Figure}
-use Rattle.figures.specs.Figure.{description}
-use Rattle.sheet_layout.specs.declared.Kind.{Kind}
-use Rattle.sheet_layout.specs.Kinds.{numberOfKind}
-use Rattle.sheet_layout.specs.Layout.{sheetSize}
-use Rattle.sheet_layout.specs.declared.head.Look.{Look}
+use Rattle.figures.specs.{declared.Figure.Figure, Figure.description}
+use Rattle.sheet_layout.specs.{declared.Kind.Kind, Kinds.numberOfKind, Layout.sheetSize, declared.head.Look.Look, Head.lookOf, Head.ofHead}
 use Rattle.sheet_layout.specs.declared.head.Look.the-variants.{Head}
-use Rattle.sheet_layout.specs.Head.{lookOf, ofHead}
-use Rattle.sheet_rules.specs.declared.Reading.{Reading}
-use Rattle.sheet_rules.specs.declared.Reading.the-variants.{Read}
-use Rattle.sheet_rules.specs.Sheet.{valuesRead}
+use Rattle.sheet_rules.specs.{declared.Reading.Reading, declared.Reading.the-variants.Read, Sheet.valuesRead}
 use Rattle.sheet_rules.specs.Judging.{bodyRows, readingAfter, readingFound, readingOf, readingTold, afterReading}
 use Rattle.sheet_rules.specs.Promises.{Slices, slicesOf, lengthsLent, ReaderPromise}
 use Rattle.sheet_rules.proofs.Refusals.{reader-tells}
 use Rattle.controller.specs.Answer.{placeStep, answerNumber, lengthsWith}
 use Rattle.controller.specs.Promises.{ReadLent, readLent, readRows, readValues, ReadPromise}
-use Rattle.controller.proofs.Answers.{done-number, place-small}
-use Rattle.controller.proofs.Lengths.{none-with, all-with, kept-head}
+use Rattle.controller.proofs.{Answers.done-number, Answers.place-small, Lengths.none-with, Lengths.all-with, Lengths.kept-head}
 use Rattle.controller.proofs.PlaceBounds.{read-in-table, read-within}
 
 -- what the reader has read tells what it found

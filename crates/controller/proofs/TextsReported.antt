@@ -1,24 +1,15 @@
 -- A sheet's text for C, in its ends. Assumes nothing.
-use Prim.Native.Nat.{ℕ}
-use mathlib.Core.Bool.{Bool, true, false}
-use mathlib.Core.List.{List, [], _∷_}
-use mathlib.Core.Path.{_≡_, refl, sym, ap, ap₂, _∙_}
-use borrow.Author.Tests.{lt-ltb, le-ltb, leb-true, leb-false}
-use lib.ListN.{length}
-use Rattle.refusals.specs.declared.Refusal.{Refusal}
-use Rattle.refusals.specs.declared.Verdict.{Verdict}
-use Rattle.refusals.specs.declared.Verdict.the-variants.{Passed, Failed}
-use Rattle.refusals.specs.Numbers.{refusalTold, verdictTold}
+use Rattle.vocabulary.specs.{ℕ, Bool, true, false, List, [], _∷_, _≡_, refl, sym, ap, ap₂, _∙_, lt-ltb, le-ltb, leb-true, leb-false}
+use Rattle.vocabulary.specs.{length}
+use Rattle.refusals.specs.{declared.Refusal.Refusal, declared.Verdict.Verdict, Numbers.refusalTold, Numbers.verdictTold, Promise.stored}
+use Rattle.refusals.specs.{declared.Verdict.the-variants.Passed, declared.Verdict.the-variants.Failed, Questions.less}
 use Rattle.refusals.specs.Order.{Row, row, answerOf, judged}
-use Rattle.refusals.specs.Promise.{stored}
-use Rattle.refusals.specs.Questions.{less}
 use Rattle.report.specs.declared.reporting.Reported.{Reported}
 use Rattle.report.specs.declared.reporting.Reported.the-variants.{Written, NoRoom}
 use Rattle.report.specs.Report.{reportText, hasRoom, reportedOf, afterReport, ReportedPromise}
 use Rattle.controller.specs.Answer.{answerNumber}
 use Rattle.controller.specs.Promises.{TextLent, textLent, textLaid, reportRows, reportLeft, ReportPromise}
-use Rattle.controller.proofs.Answers.{done-number}
-use Rattle.controller.proofs.Lengths.{wrong-length, right-length}
+use Rattle.controller.proofs.{Answers.done-number, Lengths.wrong-length, Lengths.right-length}
 
 -- what was reported tells whether there was room
 no-room : (room : Bool) (t : List ℕ) → reportedOf room t ≡ NoRoom → room ≡ false

@@ -1,9 +1,6 @@
 -- How an operation answers C: one number, 0 for done, else number × 256 + place (document 01, "Numbers given when a sheet is turned
 -- back"). No place that is answered reaches 256, so number and place can be taken apart again.
-use Prim.Native.Nat.{ℕ, _+_, _*_, _/_, _%_}
-use mathlib.Core.Bool.{cond}
-use mathlib.Core.List.{List, []}
-use lib.Dec.{eqb}
+use Rattle.vocabulary.specs.{ℕ, _+_, _*_, _/_, _%_, cond, List, [], eqb}
 use Rattle.refusals.specs.Numbers.{Told, told}
 
 abbrev pub placeStep : ℕ

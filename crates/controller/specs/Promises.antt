@@ -1,22 +1,11 @@
 -- What the operations promise to C: what the passes, `sheet_rules` and `report` promise, with the answer as one number, and W, S or the
 -- determinant, what stands in a head, and the size of a text in slices of their own.
-use Prim.Native.Nat.{ℕ, _/_, _%_, _^_}
-use mathlib.Core.List.{List, [], _∷_, _++_, map}
-use lib.IntN.{ℤ, natAbs}
-use lib.ListN.{length, drop}
-use Rattle.refusals.specs.Numbers.{verdictTold}
-use Rattle.refusals.specs.Order.{Row, row, judged}
-use Rattle.refusals.specs.Promise.{Promised, stored}
-use Rattle.refusals.specs.Questions.{less}
+use Rattle.vocabulary.specs.{ℕ, _/_, _%_, _^_, List, [], _∷_, _++_, map, ℤ, natAbs, length, drop}
+use Rattle.refusals.specs.{Numbers.verdictTold, Order.Row, Order.row, Order.judged, Promise.Promised, Promise.stored, Questions.less}
 use Rattle.refusals.specs.Table.{lengthsRow}
-use Rattle.figures.specs.declared.Figure.{Figure}
-use Rattle.figures.specs.Figure.{description, conditionCount, figureOf, ofNamed}
-use Rattle.sheet_layout.specs.declared.Kind.{Kind}
-use Rattle.sheet_layout.specs.Kinds.{numberOfKind}
-use Rattle.sheet_layout.specs.Layout.{lengthsOf}
-use Rattle.sheet_layout.specs.Head.{headRows, lookOf, ofHead}
-use Rattle.sheet_rules.specs.Sheet.{Values, valuesRead}
-use Rattle.sheet_rules.specs.Judging.{readerRows, writerRows, writtenOf}
+use Rattle.figures.specs.{declared.Figure.Figure, Figure.description, Figure.conditionCount, Figure.figureOf, Figure.ofNamed}
+use Rattle.sheet_layout.specs.{declared.Kind.Kind, Kinds.numberOfKind, Layout.lengthsOf, Head.headRows, Head.lookOf, Head.ofHead}
+use Rattle.sheet_rules.specs.{Sheet.Values, Sheet.valuesRead, Judging.readerRows, Judging.writerRows, Judging.writtenOf}
 use Rattle.sheet_rules.specs.Promises.{Slices, slicesOf, lengthsLent}
 use Rattle.pass_rules.specs.SecondPass.{SineEntries, misclosureIn, divisor, secondPassRows}
 use Rattle.pass_rules.specs.Promises.{FirstGiven, FirstLent, firstRowsOf, firstLeft, SecondGiven, SecondLent, secondLengthsLent, secondValues}

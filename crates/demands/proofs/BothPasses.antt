@@ -1,30 +1,22 @@
 -- Both passes together: of any numbers that are rows applied to misclosures and of what an accepted second pass stores; of the calls, and
 -- of the same for C. Assumes nothing.
-use Prim.Native.Nat.{ℕ, _<_}
-use mathlib.Core.Path.{_≡_, refl, sym, ap, ap₂, subst, _∙_}
-use native.Mathlib.Nat.{mul-pos}
-use lib.IntN.{ℤ, pos, negℤ, natAbs, _+ℤ_, _-ℤ_, _*ℤ_}
-use lib.Signed.{_≤ℤ_}
+use Rattle.vocabulary.specs.{ℕ, _<_, _≡_, refl, sym, ap, ap₂, subst, _∙_, mul-pos, ℤ, pos, negℤ, natAbs, _+ℤ_, _-ℤ_, _*ℤ_, _≤ℤ_}
 use Rattle.whole.specs.Sums.{dot, squares, vector}
-use Rattle.whole.proofs.Order.{natural}
-use Rattle.whole.proofs.Ring.{ring, _≐_, _⊕_, _⊖_, _⊗_, ⊝_}
+use Rattle.whole.proofs.{Order.natural, Ring.ring, Ring._≐_, Ring._⊕_, Ring._⊖_, Ring._⊗_, Ring.⊝_}
 use Rattle.whole.proofs.Sums.{dot-ext, dot-combined, squares-ext}
 use Rattle.refusals.specs.declared.Verdict.the-variants.{Passed}
-use Rattle.figures.specs.declared.Figure.{Figure}
-use Rattle.figures.specs.declared.Named.the-variants.{As}
+use Rattle.figures.specs.{declared.Figure.Figure, declared.Named.the-variants.As, Numerators.numerator}
 use Rattle.figures.specs.Figure.{SineCondition, denominator, angleCount, pole, side, figureOf}
-use Rattle.figures.specs.Numerators.{numerator}
 use Rattle.figures.proofs.BothPasses as both
-use Rattle.figures.proofs.Figures.{denominator-positive}
-use Rattle.figures.proofs.Theorem.{condition-agrees}
+use Rattle.figures.proofs.{Figures.denominator-positive, Theorem.condition-agrees}
 use Rattle.pass_rules.specs.Promises.{FirstGiven, FirstLent, FirstPromise}
 use Rattle.pass_rules.specs.SecondPass.{SineEntries, signedIn, secondNumerator}
 use Rattle.pass_rules.proofs.SecondLaws.{divisor-natural, numerators-close, numerators-orthogonal}
 use Rattle.demands.specs.BothPasses.{sineChange, ChangeAlike, LeastOfAll, commonDenominator, firstPlusSecond, BothTogether, BothPasses, BothPasses-C}
 use Rattle.demands.specs.Demand3.{Cancel, squaresOver, SineCloses}
 use Rattle.demands.proofs.Closing.{Exact, exact-closes}
-use Rattle.demands.proofs.Demand2 as values
 use Rattle.demands.proofs.Demand3.{one-figure, first-C, second-exact, second-exact-C}
+use Rattle.demands.proofs.Demand2 as values
 
 module _ (f : Figure) (e : SineEntries) (misclosures first second : ℕ → ℤ) (S : ℕ)
     (rows : (i : ℕ) → i < angleCount f → first i ≡ numerator f misclosures i)

@@ -1,12 +1,9 @@
 -- Of two sine conditions the determinant and the exact corrections follow from A and B of the figure's angles and both misclosures
 -- alone. Assumes nothing.
-use Prim.Native.Nat.{ℕ, _<_}
-use mathlib.Core.Path.{_≡_}
-use lib.IntN.{ℤ, _-ℤ_, _*ℤ_}
+use Rattle.vocabulary.specs.{ℕ, _<_, _≡_, ℤ, _-ℤ_, _*ℤ_}
 use Rattle.whole.proofs.Sums.{dot-ext}
 use Rattle.pass_pair.specs.Pair.{pairNumerator}
-use Rattle.figures.specs.declared.Figure.{Figure}
-use Rattle.figures.specs.Figure.{angleCount}
+use Rattle.figures.specs.{declared.Figure.Figure, Figure.angleCount}
 use Rattle.pass_rules.specs.SecondPass.{tenthsFactor}
 use Rattle.demands.specs.Demand2.{products, determinantOf, exactOfTwo}
 

@@ -1,11 +1,7 @@
 -- One law for every operation: an answer that tells what its order is judged to be is by the table. Assumes nothing.
-use mathlib.Core.List.{List}
-use mathlib.Core.Path.{_≡_, refl, sym, ap, _∙_}
-use lib.Dec.{T}
-use Rattle.refusals.specs.declared.Refusal.{Refusal}
-use Rattle.refusals.specs.declared.Verdict.{Verdict}
+use Rattle.vocabulary.specs.{List, _≡_, refl, sym, ap, _∙_, T}
+use Rattle.refusals.specs.{declared.Refusal.Refusal, declared.Verdict.Verdict, Numbers.Told, Numbers.told, Numbers.verdictTold}
 use Rattle.refusals.specs.declared.Verdict.the-variants.{Passed, Failed}
-use Rattle.refusals.specs.Numbers.{Told, told, verdictTold}
 use Rattle.refusals.specs.Order.{Row, allInTable, judged}
 use Rattle.refusals.proofs.Rows.{answers-exactly, done-exactly, passed-told, answered-stands}
 use Rattle.demands.specs.Demand1.{ByTheTable}

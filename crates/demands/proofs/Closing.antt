@@ -1,25 +1,17 @@
 -- Demand 3 of any numbers that are rows applied to misclosures, of an accepted first pass of code 2, and of any numbers that are the
 -- second pass's numerators; and what an accepted second pass answers and stores. Assumes nothing.
-use Prim.Native.Nat.{ℕ, _<_}
-use mathlib.Core.List.{List, _∷_}
-use mathlib.Core.Path.{_≡_, refl, sym, ap, subst, _∙_}
-use borrow.Author.Tests.{eq-eqb}
-use lib.Dec.{T, lt→ltb}
-use lib.IntN.{ℤ, pos, negsuc, negℤ, natAbs, _*ℤ_}
-use lib.ListN.{length, getD}
-use lib.Signed.{_≤ℤ_, _<ℤ_, ltZ-yes}
+use Rattle.vocabulary.specs.{ℕ, _<_, List, _∷_, _≡_, refl, sym, ap, subst, _∙_, eq-eqb, T, lt→ltb, ℤ, pos, negsuc, negℤ, natAbs, _*ℤ_}
+use Rattle.vocabulary.specs.{length, getD, _≤ℤ_, _<ℤ_, ltZ-yes}
 use Rattle.whole.specs.Sums.{dot, squares}
 use Rattle.whole.proofs.Sums.{dot-ext, squares-ext}
-use Rattle.figures.specs.declared.Figure.{Figure}
+use Rattle.figures.specs.{declared.Figure.Figure, Numerators.numerator}
 use Rattle.figures.specs.Figure.{description, denominator, angleCount, conditionCount, pole, side}
-use Rattle.figures.specs.Numerators.{numerator}
 use Rattle.figures.proofs.Theorem.{condition-agrees, numerators-cancel, least-squares, only-least}
-use Rattle.refusals.specs.declared.Verdict.the-variants.{Passed}
-use Rattle.refusals.specs.Order.{judged}
+use Rattle.refusals.specs.{declared.Verdict.the-variants.Passed, Order.judged}
 use Rattle.pass_rules.specs.FirstPass.{misclosure, firstRows}
+use Rattle.pass_rules.specs.SecondPass.{SineEntries, signedIn, sineMisclosure, sideMisclosure, divisor, secondNumerator}
 use Rattle.pass_rules.proofs.FirstAccepted as First
 use Rattle.pass_rules.proofs.Horizon as Horizon
-use Rattle.pass_rules.specs.SecondPass.{SineEntries, signedIn, sineMisclosure, sideMisclosure, divisor, secondNumerator}
 use Rattle.pass_rules.proofs.SecondLaws.{divisor-natural, numerators-close, pole-cancelled, side-cancelled}
 use Rattle.demands.specs.Demand3.{Cancel, squaresOver, LeastSquares, ClosesHorizon, HorizonCloses, SineCloses}
 

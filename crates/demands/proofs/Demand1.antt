@@ -1,28 +1,18 @@
 -- Demand 1 of every public operation, by one law. Assumes nothing.
-use mathlib.Core.List.{List, [], _∷_}
-use mathlib.Core.Path.{_≡_, refl, ap, _∙_}
-use lib.IntN.{ℤ}
-use lib.ListN.{length}
-use Rattle.refusals.specs.declared.Refusal.{Refusal}
-use Rattle.refusals.specs.declared.Verdict.the-variants.{Failed}
-use Rattle.refusals.specs.Numbers.{verdictTold}
-use Rattle.refusals.specs.Order.{judged}
+use Rattle.vocabulary.specs.{List, [], _∷_, _≡_, refl, ap, _∙_, ℤ, length}
+use Rattle.refusals.specs.{declared.Refusal.Refusal, declared.Verdict.the-variants.Failed, Numbers.verdictTold, Order.judged}
 use Rattle.figures.specs.Figure.{figureOf}
 use Rattle.sheet_layout.specs.Head.{headRows, lookOf, lookTold}
-use Rattle.sheet_rules.specs.Judging.{readerRows, readingTold, writerRows, writingOf}
-use Rattle.sheet_rules.specs.Promises.{lengthsLent}
+use Rattle.sheet_rules.specs.{Judging.readerRows, Judging.readingTold, Judging.writerRows, Judging.writingOf, Promises.lengthsLent}
 use Rattle.sheet_rules.proofs.Refusals.{head-in-table, head-tells, reader-in-table, reader-tells, writer-in-table, kept-reading, kept-written}
-use Rattle.pass_rules.specs.FirstPass.{firstPassVerdict}
-use Rattle.pass_rules.specs.SecondPass.{secondTold, secondPassVerdict}
-use Rattle.pass_rules.proofs.Refusals.{first-in-table, second-in-table, second-tells}
+use Rattle.pass_rules.specs.{FirstPass.firstPassVerdict, SecondPass.secondTold, SecondPass.secondPassVerdict}
 use Rattle.pass_rules.specs.Promises.{FirstGiven, FirstLent, firstLengthsLent, firstValues, firstLeft, firstRowsOf, secondLengthsLent, secondValues, secondRowsOf}
-use Rattle.closing.specs.Promises.{closingRows, closingAnswer, closingLeft, checkRows}
-use Rattle.closing.specs.Rules.{choiceOf}
+use Rattle.pass_rules.proofs.Refusals.{first-in-table, second-in-table, second-tells}
+use Rattle.closing.specs.{Promises.closingRows, Promises.closingAnswer, Promises.closingLeft, Promises.checkRows, Rules.choiceOf}
 use Rattle.closing.proofs.Refusing.{closing-in-table, check-in-table}
 use Rattle.controller.specs.Answer.{answerTold}
 use Rattle.controller.specs.Promises.{lookRows, lookHead, readRows, readValues, sumsRows, sumsValues, reportRows, textLent, textLaid}
-use Rattle.controller.proofs.Answers.{answer-tells}
-use Rattle.controller.proofs.Lengths.{kept-told, kept-head, kept-named}
+use Rattle.controller.proofs.{Answers.answer-tells, Lengths.kept-told, Lengths.kept-head, Lengths.kept-named}
 use Rattle.controller.proofs.PlaceBounds.{look-in-table, look-within, read-in-table, read-within, write-within, first-within, closing-within, check-within, sums-in-table, sums-within, report-within}
 use Rattle.report.specs.Report.{reportText}
 use Rattle.demands.specs.Demand1.{LookAt, ReadSheet, WriteSheet, FirstPass, SecondPass, ClosingCorrections, CheckClosing, Look-C, Read-C, Write-C, FirstPass-C, SecondPass-C, Report-C, Closing-C, CheckClosing-C}

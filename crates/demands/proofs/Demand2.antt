@@ -1,51 +1,30 @@
 -- Demand 2: each value in each slice, from the promises alone, and both round trips. Assumes nothing.
-use Prim.Native.Nat.{ℕ, suc, _*_, _/_, _%_, _^_, _≤_, _<_}
-use mathlib.Core.Bool.{true, false}
-use mathlib.Core.List.{List}
-use mathlib.Core.Path.{_≡_, refl, sym, ap, ap₂, subst, _∙_}
-use native.Mathlib.Omega.{arith}
-use lib.IntN.{ℤ, pos, negsuc, natAbs, _+ℤ_}
-use lib.ListN.{length, getD}
-use lib.Signed.{_≤ℤ_}
-use Rattle.whole.specs.Lists.{listed}
-use Rattle.whole.specs.Quotient.{roundedQuotient}
-use Rattle.whole.specs.Sums.{vector}
+use Rattle.vocabulary.specs.{ℕ, suc, _*_, _/_, _%_, _^_, _≤_, _<_, true, false, List, _≡_, refl, sym, ap, ap₂, subst, _∙_, arith, ℤ, pos}
+use Rattle.vocabulary.specs.{negsuc, natAbs, _+ℤ_, length, getD, _≤ℤ_}
+use Rattle.whole.specs.{Lists.listed, Quotient.roundedQuotient, Sums.vector}
 use Rattle.whole.proofs.Lists.{length-listed, getD-listed}
 use Rattle.wide.specs.Wide.{radix}
 use Rattle.wide_words.specs.Words.{joined, highWord, lowWord}
 use Rattle.wide_words.proofs.Joining.{joined-words}
-use Rattle.refusals.specs.declared.Refusal.{Refusal}
-use Rattle.refusals.specs.declared.Verdict.{Verdict}
+use Rattle.refusals.specs.{declared.Refusal.Refusal, declared.Verdict.Verdict, Order.judged, Promise.stored, Ranges.leastAngle}
 use Rattle.refusals.specs.declared.Verdict.the-variants.{Passed, Failed}
-use Rattle.refusals.specs.Order.{judged}
-use Rattle.refusals.specs.Promise.{stored}
-use Rattle.refusals.specs.Ranges.{leastAngle}
-use Rattle.figures.specs.declared.Figure.{Figure}
-use Rattle.figures.specs.declared.Named.{Named}
-use Rattle.figures.specs.declared.Named.the-variants.{As, Nothing}
+use Rattle.figures.specs.{declared.Figure.Figure, declared.Named.Named, declared.Named.the-variants.As, declared.Named.the-variants.Nothing}
 use Rattle.figures.specs.Figure.{description, denominator, angleCount, conditionCount, membersOf, hasSide, figureOf, ofNamed}
 use Rattle.figures.specs.Numerators.{reducedCoefficient}
 use Rattle.sheet_layout.specs.Kinds.{numberOfKind}
-use Rattle.sheet_rules.specs.declared.Reading.{Reading}
-use Rattle.sheet_rules.specs.declared.Reading.the-variants.{Read}
-use Rattle.sheet_rules.specs.Sheet.{Values, valuesRead}
+use Rattle.sheet_rules.specs.{declared.Reading.Reading, declared.Reading.the-variants.Read, Sheet.Values, Sheet.valuesRead}
 use Rattle.sheet_rules.specs.Judging.{readingOf, afterReading, writingOf, writtenOf}
 use Rattle.sheet_rules.specs.Promises.{slicesOf, lengthsLent, readAnswer, readLeft}
-use Rattle.sheet_rules.proofs.Accepted.{accepted as accepted-sheet}
-use Rattle.sheet_rules.proofs.ReadThenWritten.{read-then-accepted}
+use Rattle.sheet_rules.proofs.{Accepted.accepted as accepted-sheet, ReadThenWritten.read-then-accepted}
 use Rattle.sheet_rules.proofs.WrittenThenRead.{written-then-read as sheet-read-back}
 use Rattle.pass_rules.specs.declared.second.SecondAnswer.the-variants.{Done, Refused}
 use Rattle.pass_rules.specs.FirstPass.{misclosure, firstNumerator, firstRounded, corrected, firstRest, firstRows, firstPassRows, firstPassVerdict}
 use Rattle.pass_rules.specs.SecondPass.{SineEntries, signedIn, reducedIn, misclosureIn, secondReduced, sideReduced, sideReducedCount, sineMisclosure, sideMisclosure, divisor, secondNumerator, secondRounded, secondAdjusted, secondRest, secondRows, secondPassRows, secondPassVerdict, secondAnswerFor, secondPassAnswer}
-use Rattle.figures.proofs.Figures.{denominator-positive}
-use Rattle.figures.proofs.Theorem.{condition-agrees, numerator-agrees, numerators-cancel}
-use Rattle.pass_rules.proofs.FirstAccepted as First
-use Rattle.pass_rules.proofs.PassRows.{of-figure, one-judged}
-use Rattle.pass_rules.proofs.Rests.{rest-small}
-use Rattle.pass_rules.proofs.SecondAccepted.{Accepted, accepted}
-use Rattle.pass_rules.proofs.SecondLaws.{divisor-natural, rest-half}
 use Rattle.pass_rules.specs.Promises.{FirstGiven, firstLengthsLent, firstValues, SecondGiven, SecondLent, secondLengthsLent, secondVerdict, secondAnswer, secondValues}
-use Rattle.pass_rules.proofs.SineSums.{pole-misclosure, no-misclosure}
+use Rattle.figures.proofs.{Figures.denominator-positive, Theorem.condition-agrees, Theorem.numerator-agrees, Theorem.numerators-cancel}
+use Rattle.pass_rules.proofs.FirstAccepted as First
+use Rattle.pass_rules.proofs.{PassRows.of-figure, PassRows.one-judged, Rests.rest-small, SecondAccepted.Accepted, SecondAccepted.accepted}
+use Rattle.pass_rules.proofs.{SecondLaws.divisor-natural, SecondLaws.rest-half, SineSums.pole-misclosure, SineSums.no-misclosure}
 use Rattle.demands.specs.Demand2.{FirstDone, FirstPass, OneSine, TwoSines, SecondDone, SecondPass, valuesIn, ReadThenWritten, WrittenThenRead}
 use Rattle.demands.proofs.WorkedValues.{second-numerators, joined-numerators, one-squares, one-numerators, side-reduced-at, two-determinant, two-numerators}
 

@@ -1,41 +1,26 @@
 -- Demand 3 of the passes, of the same for C, and of a sheet worked from its bytes. Assumes nothing.
-use Prim.Native.Nat.{ℕ}
-use mathlib.Core.List.{List, map}
-use mathlib.Core.Logic.{⊎-elim}
-use mathlib.Core.Path.{_≡_, sym, ap, ap₂, subst, _∙_}
-use native.Mathlib.Omega.{arith}
-use lib.IntN.{ℤ, pos}
-use lib.ListN.{getD, List·getD-map}
+use Rattle.vocabulary.specs.{ℕ, List, map, ⊎-elim, _≡_, sym, ap, ap₂, subst, _∙_, arith, ℤ, pos, getD, List·getD-map}
 use Rattle.whole.specs.Sums.{vector}
 use Rattle.wide_words.specs.Words.{joined}
-use Rattle.refusals.specs.declared.Refusal.{Refusal}
-use Rattle.refusals.specs.declared.Verdict.{Verdict}
-use Rattle.refusals.specs.declared.Verdict.the-variants.{Passed}
-use Rattle.refusals.specs.Order.{judged}
+use Rattle.refusals.specs.{declared.Refusal.Refusal, declared.Verdict.Verdict, declared.Verdict.the-variants.Passed, Order.judged}
 use Rattle.refusals.specs.Promise.{stored}
-use Rattle.figures.specs.declared.Figure.{Figure}
-use Rattle.figures.specs.declared.Named.{Named}
-use Rattle.figures.specs.declared.Named.the-variants.{As}
+use Rattle.figures.specs.{declared.Figure.Figure, declared.Named.Named, declared.Named.the-variants.As}
 use Rattle.figures.specs.Figure.{SineCondition, description, noSine, figureOf, ofNamed}
 use Rattle.pass_rules.specs.declared.second.SecondAnswer.the-variants.{Done}
 use Rattle.pass_rules.specs.FirstPass.{misclosure, firstRows, firstPassRows, firstPassVerdict}
 use Rattle.pass_rules.specs.SecondPass.{SineEntries, misclosureIn, sineMisclosure, sideMisclosure, divisor, secondRows, secondPassRows, secondPassVerdict}
-use Rattle.pass_rules.proofs.PassRows.{one-judged}
-use Rattle.pass_rules.proofs.Refusals.{first-in-table}
-use Rattle.pass_rules.proofs.SecondAccepted.{accepted}
-use Rattle.pass_rules.proofs.SecondLaws.{divisor-natural}
-use Rattle.pass_rules.proofs.SineSums.{none-misclosure}
 use Rattle.pass_rules.specs.Promises.{FirstGiven, FirstLent, firstLengthsLent, firstRowsOf, FirstPromise, SecondGiven, SecondLent, secondLengthsLent, secondValues, SecondPromise}
+use Rattle.pass_rules.proofs.{PassRows.one-judged, Refusals.first-in-table, SecondAccepted.accepted, SecondLaws.divisor-natural}
+use Rattle.pass_rules.proofs.SineSums.{none-misclosure}
 use Rattle.pass_sheet.specs.Worked.{Outcome, First, Second, WorkedSheet, workedOf, secondSheetLengths, entriesIn}
 use Rattle.pass_sheet.proofs.ShownAs.{FirstShown, SecondShown, RefusedShown, shown-as}
 use Rattle.controller.specs.Promises.{FirstPassPromise, SumsLent, sumsRows, sumsLengths, sumsValues, sineMisclosuresOf, SecondPassPromise}
-use Rattle.controller.proofs.Answers.{answered-done}
-use Rattle.controller.proofs.PlaceBounds.{first-within, sums-in-table, sums-within}
+use Rattle.controller.proofs.{Answers.answered-done, PlaceBounds.first-within, PlaceBounds.sums-in-table, PlaceBounds.sums-within}
 use Rattle.demands.specs.Demand2.{numeratorsIn}
 use Rattle.demands.specs.Demand3.{LeastSquares, HorizonCloses, SineCloses, FirstPass, Horizon, SecondPass, FirstPass-C, Horizon-C, SecondPass-C, FirstSheet, SecondSheet}
 use Rattle.demands.proofs.Closing.{are-least-squares, horizon-closes, sine-closes, Exact, exact-closes}
-use Rattle.demands.proofs.Demand2 as values
 use Rattle.demands.proofs.WorkedValues.{exact, first-numerators, second-numerators, joined-numerators}
+use Rattle.demands.proofs.Demand2 as values
 
 -- a code and an n name one figure
 pub one-figure : {named : Named} {f g : Figure} → named ≡ As f → named ≡ As g → f ≡ g

@@ -1,21 +1,11 @@
 -- What is read off the lines of a text is what the definitions put on them; so a page says what its values do. Assumes nothing.
-use Prim.Native.Nat.{ℕ, suc, _+_, _<_}
-use mathlib.Core.Bool.{Bool, true, false}
-use mathlib.Core.List.{List, [], _∷_}
-use mathlib.Core.Path.{_≡_, sym, ap, ap₂, subst, _∙_}
-use borrow.Author.Tests.{eq-eqb}
-use lib.Dec.{T}
-use lib.IntN.{ℤ, pos, negℤ, _+ℤ_, _-ℤ_, _*ℤ_}
-use lib.ListN.{getD, drop, List·getD-map}
-use lib.Seq.{getD-drop}
-use native.Mathlib.Nat.{zero-add}
+use Rattle.vocabulary.specs.{ℕ, suc, _+_, _<_, Bool, true, false, List, [], _∷_, _≡_, sym, ap, ap₂, subst, _∙_, eq-eqb, T, ℤ, pos, negℤ}
+use Rattle.vocabulary.specs.{_+ℤ_, _-ℤ_, _*ℤ_, getD, drop, List·getD-map, getD-drop, zero-add}
 use Rattle.whole.specs.Sums.{squares, naturals}
 use Rattle.whole.proofs.Sums.{squares-ext}
-use Rattle.figures.specs.declared.Figure.{Figure}
+use Rattle.figures.specs.{declared.Figure.Figure, Numerators.conditionSum, Numerators.horizonSum}
 use Rattle.figures.specs.Figure.{description, denominator, angleCount, conditionCount, hasSide}
-use Rattle.figures.specs.Numerators.{conditionSum, horizonSum}
-use Rattle.figures.proofs.Horizon.{horizon-agrees}
-use Rattle.figures.proofs.Theorem.{condition-agrees}
+use Rattle.figures.proofs.{Horizon.horizon-agrees, Theorem.condition-agrees}
 use Rattle.text.specs.Text.{readNumber}
 use Rattle.text.proofs.Numbers.{read-decimal}
 use Rattle.lines.specs.Lines.{wWord, firstFigure, firstText, firstLines, secondText}

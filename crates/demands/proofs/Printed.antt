@@ -1,41 +1,25 @@
 -- What is printed for any bytes is a page that says so, or the refusal of the sheet's order. Assumes nothing.
-use Prim.Native.Nat.{ℕ, _<_}
-use mathlib.Core.Bool.{Bool, true, false}
-use mathlib.Core.List.{List, [], _∷_}
-use mathlib.Core.Logic.{_↔_, inl, inr, ⊎-elim}
-use mathlib.Core.Path.{_≡_, refl, sym, ap, ap₂, subst, _∙_}
-use native.Mathlib.Omega.{arith}
-use lib.IntN.{ℤ, pos, natAbs, _+ℤ_}
-use lib.ListN.{length, getD, take, drop}
-use lib.Seq.{take-at}
-use Rattle.whole.specs.Lists.{every}
-use Rattle.whole.specs.Sums.{vector, naturals}
-use Rattle.refusals.specs.declared.Verdict.{Verdict}
-use Rattle.refusals.specs.declared.Verdict.the-variants.{Passed}
+use Rattle.vocabulary.specs.{ℕ, _<_, Bool, true, false, List, [], _∷_, _↔_, inl, inr, ⊎-elim, _≡_, refl, sym, ap, ap₂, subst, _∙_, arith}
+use Rattle.vocabulary.specs.{ℤ, pos, natAbs, _+ℤ_, length, getD, take, drop, take-at}
+use Rattle.whole.specs.{Lists.every, Sums.vector, Sums.naturals}
+use Rattle.refusals.specs.{declared.Verdict.Verdict, declared.Verdict.the-variants.Passed, Order.Answers, Order.judged, Promise.stored}
 use Rattle.refusals.specs.Numbers.{numberOf, placeOf, Told, told, refusalTold, verdictTold}
-use Rattle.refusals.specs.Order.{Answers, judged}
-use Rattle.refusals.specs.Promise.{stored}
 use Rattle.refusals.proofs.Rows.{answers-exactly}
 use Rattle.text.specs.Text.{decimal, isWord, readNumber, readLines}
-use Rattle.text.proofs.Lines.{read-lines}
-use Rattle.text.proofs.Numbers.{decimal-words, read-decimal}
-use Rattle.text.proofs.Tests.{and-both}
+use Rattle.text.proofs.{Lines.read-lines, Numbers.decimal-words, Numbers.read-decimal, Tests.and-both}
 use Rattle.lines.specs.Lines.{figureWord, refusedWord, refusedText, refusedLines}
-use Rattle.figures.specs.declared.Figure.{Figure}
-use Rattle.figures.specs.Figure.{angleCount, conditionCount, hasSide}
-use Rattle.figures.specs.Numerators.{conditionSum}
+use Rattle.figures.specs.{declared.Figure.Figure, Figure.angleCount, Figure.conditionCount, Figure.hasSide, Numerators.conditionSum}
 use Rattle.pass_rules.specs.SecondPass.{SineEntries, secondRoundedOf, adjustedOf}
 use Rattle.pass_rules.proofs.FirstAccepted as First
 use Rattle.pass_rules.proofs.SecondAccepted.{Accepted, accepted}
 use Rattle.pass_sheet.specs.Worked.{WorkedSheet, firstSheetLengths, workedOf, secondShown, secondSheetLengths, outcomeTold, sheetRows, roundsHeld}
+use Rattle.pass_sheet.specs.Texts.{textOf}
 use Rattle.pass_sheet.proofs.Refusals.{sheet-rows-known, worked-told}
 use Rattle.pass_sheet.proofs.ShownAs.{FirstShown, SecondShown, RefusedShown, shown-as}
 use Rattle.report.specs.declared.reporting.Reported.the-variants.{Written}
-use Rattle.pass_sheet.specs.Texts.{textOf}
 use Rattle.report.specs.Report.{reportText, hasRoom, reportedOf, afterReport}
 use Rattle.controller.specs.Promises.{TextLent, textLent, textLaid, reportRows}
-use Rattle.controller.proofs.Answers.{answered-done}
-use Rattle.controller.proofs.PlaceBounds.{report-within}
+use Rattle.controller.proofs.{Answers.answered-done, PlaceBounds.report-within}
 use Rattle.demands.specs.Printed.{part, numberOn, FirstPage, SinePage, SecondPage, refusedLine, Printed, Report, Report-C}
 use Rattle.demands.proofs.Closing.{are-least-squares, horizon-closes, sine-closes}
 use Rattle.demands.proofs.Pages.{first-page, one-page, two-page, names-of}

@@ -1,31 +1,16 @@
 -- Document 02, M-104, of both operations, from Rattle and from C. Assumes nothing.
-use Prim.Native.Nat.{ℕ, _*_, _<_}
-use mathlib.Core.List.{List}
-use mathlib.Core.Logic.{_⊎_, ⊎-elim}
-use mathlib.Core.Path.{_≡_, refl, sym, ap, ap₂, subst, _∙_}
-use native.Mathlib.Omega.{arith}
-use lib.IntN.{ℤ, pos, _+ℤ_}
-use lib.ListN.{length}
+use Rattle.vocabulary.specs.{ℕ, _*_, _<_, List, _⊎_, ⊎-elim, _≡_, refl, sym, ap, ap₂, subst, _∙_, arith, ℤ, pos, _+ℤ_, length}
 use Rattle.whole.specs.Sums.{vector}
 use Rattle.whole.proofs.Lists.{getD-listed}
-use Rattle.refusals.specs.declared.Refusal.{Refusal}
-use Rattle.refusals.specs.declared.Verdict.{Verdict}
-use Rattle.refusals.specs.declared.Verdict.the-variants.{Passed, Failed}
-use Rattle.refusals.specs.Numbers.{Told, told, verdictTold}
-use Rattle.refusals.specs.Order.{Row}
-use Rattle.refusals.specs.Promise.{stored}
-use Rattle.figures.specs.declared.Figure.{Figure}
-use Rattle.figures.specs.declared.Named.{Named}
-use Rattle.figures.specs.declared.Named.the-variants.{As}
+use Rattle.refusals.specs.{declared.Refusal.Refusal, declared.Verdict.Verdict, Numbers.Told, Numbers.told, Numbers.verdictTold, Order.Row}
+use Rattle.refusals.specs.{declared.Verdict.the-variants.Passed, declared.Verdict.the-variants.Failed, Promise.stored}
+use Rattle.figures.specs.{declared.Figure.Figure, declared.Named.Named, declared.Named.the-variants.As, Numerators.conditionSum}
 use Rattle.figures.specs.Figure.{denominator, angleCount, conditionCount, figureOf, ofNamed}
-use Rattle.figures.specs.Numerators.{conditionSum}
 use Rattle.pass_rules.specs.FirstPass.{misclosure, firstNumerator, firstPassRows, firstPassVerdict, firstRows}
 use Rattle.pass_rules.specs.Promises.{FirstGiven, FirstLent, firstLengthsLent, firstRowsOf, firstAnswer, firstValues, FirstPromise}
-use Rattle.pass_rules.proofs.PassRows.{OfFigure, of-figure}
-use Rattle.pass_rules.proofs.Refusals.{first-in-table}
-use Rattle.closing.specs.Floor.{floorQuotient, ceilingQuotient}
+use Rattle.pass_rules.proofs.{PassRows.OfFigure, PassRows.of-figure, Refusals.first-in-table}
+use Rattle.closing.specs.{Floor.floorQuotient, Floor.ceilingQuotient, Rules.BothRules, Rules.choiceOf}
 use Rattle.closing.specs.Promises.{closingRowsFor, closingRows, closingAnswer, ClosingPromise, checkRows, checkAnswer, Fitting}
-use Rattle.closing.specs.Rules.{BothRules, choiceOf}
 use Rattle.closing.proofs.BothRules.{choice-keeps-rules, whole-stays}
 use Rattle.closing.proofs.Refusing.{closing-in-table, check-in-table, never-fifteen, as-the-first-pass, check-as-refused, check-passes, check-fails, check-either, own-choice-passes}
 use Rattle.controller.specs.Answer.{placeStep, answerNumber, answerTold}

@@ -1,21 +1,13 @@
 -- The lists of a worked sheet, by the index: each is what the definitions give, and so are the numbers among each other. Assumes nothing.
-use Prim.Native.Nat.{ℕ, _<_}
-use mathlib.Core.Bool.{Bool, true, false, cond}
-use mathlib.Core.List.{List}
-use mathlib.Core.Path.{_≡_, refl, sym, ap, ap₂, _∙_}
-use lib.IntN.{ℤ, pos, negsuc, negℤ, natAbs, _+ℤ_, _*ℤ_}
-use lib.ListN.{getD}
-use lib.Signed.{_≤ℤ_}
-use Rattle.whole.specs.Lists.{listed}
-use Rattle.whole.specs.Sums.{squares, vector, naturals}
-use Rattle.whole.proofs.Lists.{getD-listed}
+use Rattle.vocabulary.specs.{ℕ, _<_, Bool, true, false, cond, List, _≡_, refl, sym, ap, ap₂, _∙_, ℤ, pos, negsuc, negℤ, natAbs, _+ℤ_, _*ℤ_}
+use Rattle.vocabulary.specs.{getD, _≤ℤ_}
+use Rattle.whole.specs.{Lists.listed, Sums.squares, Sums.vector, Sums.naturals}
+use Rattle.whole.proofs.{Lists.getD-listed, Sums.squares-ext}
 use Rattle.wide_words.specs.Words.{joined}
 use Rattle.refusals.specs.Ranges.{leastAngle}
-use Rattle.figures.specs.declared.Figure.{Figure}
-use Rattle.figures.specs.Figure.{denominator, angleCount, conditionCount, hasSide}
+use Rattle.figures.specs.{declared.Figure.Figure, Figure.denominator, Figure.angleCount, Figure.conditionCount, Figure.hasSide}
 use Rattle.figures.specs.Numerators.{conditionSum, numerator}
 use Rattle.figures.proofs.Theorem.{condition-agrees, numerator-agrees}
-use Rattle.whole.proofs.Sums.{squares-ext}
 use Rattle.pass_rules.specs.Pass.{given}
 use Rattle.pass_rules.specs.FirstPass.{misclosure, firstNumerator, firstRounded, corrected, firstRest, misclosuresOf, numeratorsOf, roundedOf, correctedOf, restsOf}
 use Rattle.pass_rules.specs.SecondPass.{SineEntries, secondReduced, sideReduced, sineMisclosure, sideMisclosure, sumOfSquares, sideSquares, sharedProducts, divisor, secondNumerator, secondRounded, secondAdjusted, secondRest, reducedOf, sideReducedOf, highNumeratorsOf, lowNumeratorsOf, secondRoundedOf, adjustedOf, secondRestsOf}

@@ -4,24 +4,16 @@
 --
 -- Said of the misclosures and numerators that stand in the lent slices, as demand 3 is. Ours are first numerator / D + second numerator /
 -- S, where S is the determinant for a figure with two sine conditions; in whole numbers, both sides are multiplied by the denominators.
-use Prim.Native.Nat.{ℕ, _*_, _<_}
-use mathlib.Core.Bool.{true}
-use mathlib.Core.List.{List}
-use mathlib.Core.Path.{_≡_}
-use lib.IntN.{ℤ, pos, natAbs, _+ℤ_, _-ℤ_, _*ℤ_}
-use lib.ListN.{getD}
-use lib.Signed.{_≤ℤ_}
+use Rattle.vocabulary.specs.{ℕ, _*_, _<_, true, List, _≡_, ℤ, pos, natAbs, _+ℤ_, _-ℤ_, _*ℤ_, getD, _≤ℤ_}
 use Rattle.whole.specs.Sums.{dot, vector}
 use Rattle.wide_words.specs.Words.{joined}
 use Rattle.refusals.specs.declared.Verdict.the-variants.{Passed}
-use Rattle.figures.specs.declared.Figure.{Figure}
-use Rattle.figures.specs.declared.Named.the-variants.{As}
+use Rattle.figures.specs.{declared.Figure.Figure, declared.Named.the-variants.As}
 use Rattle.figures.specs.Figure.{SineCondition, denominator, angleCount, pole, side, hasSide, figureOf}
 use Rattle.pass_rules.specs.declared.second.SecondAnswer.the-variants.{Done}
 use Rattle.pass_rules.specs.Promises.{FirstGiven, FirstLent, FirstPromise, SecondGiven, SecondLent, SecondPromise}
 use Rattle.controller.specs.Promises.{FirstPassPromise, SumsLent, SecondPassPromise}
-use Rattle.demands.specs.Demand2.{signed, numeratorsIn}
-use Rattle.demands.specs.Demand3.{Cancel, squaresOver}
+use Rattle.demands.specs.{Demand2.signed, Demand2.numeratorsIn, Demand3.Cancel, Demand3.squaresOver}
 
 -- ---- "corrections over one common denominator": any whole numbers x over q
 

@@ -5,23 +5,13 @@
 -- else. The order of an operation is one list of rows; `Answers`, `NoneHolds` and `Stands` say what a list of rows answers
 -- (refusals/specs/Order.antt), and each row stands once in refusals/specs/Table.antt. That every call ends is what the checker proves of
 -- every function.
-use Prim.Native.Nat.{ℕ}
-use mathlib.Core.List.{List}
-use mathlib.Core.Logic.{_↔_, _⊎_}
-use mathlib.Core.Path.{_≡_}
-use lib.IntN.{ℤ}
-use lib.ListN.{length}
-use Rattle.refusals.specs.declared.Verdict.{Verdict}
-use Rattle.refusals.specs.Numbers.{Told, told, verdictTold}
+use Rattle.vocabulary.specs.{ℕ, List, _↔_, _⊎_, _≡_, ℤ, length}
+use Rattle.refusals.specs.{declared.Verdict.Verdict, Numbers.Told, Numbers.told, Numbers.verdictTold}
 use Rattle.refusals.specs.Order.{Row, Answers, NoneHolds, Stands}
-use Rattle.sheet_layout.specs.declared.head.Look.{Look}
-use Rattle.sheet_layout.specs.Head.{headRows, lookOf, lookTold}
-use Rattle.sheet_rules.specs.declared.Reading.{Reading}
-use Rattle.sheet_rules.specs.Sheet.{Values}
-use Rattle.sheet_rules.specs.Judging.{readerRows, readingTold, writerRows}
+use Rattle.sheet_layout.specs.{declared.head.Look.Look, Head.headRows, Head.lookOf, Head.lookTold}
+use Rattle.sheet_rules.specs.{declared.Reading.Reading, Sheet.Values, Judging.readerRows, Judging.readingTold, Judging.writerRows}
 use Rattle.sheet_rules.specs.Promises.{Slices, lengthsLent, ReaderPromise, WriterPromise}
-use Rattle.pass_rules.specs.declared.second.SecondAnswer.{SecondAnswer}
-use Rattle.pass_rules.specs.SecondPass.{secondTold}
+use Rattle.pass_rules.specs.{declared.second.SecondAnswer.SecondAnswer, SecondPass.secondTold}
 use Rattle.pass_rules.specs.Promises.{FirstGiven, FirstLent, firstRowsOf, FirstPromise, SecondGiven, SecondLent, secondRowsOf, SecondPromise}
 use Rattle.closing.specs.Promises.{closingRows, ClosingPromise, checkRows, checkAnswer}
 use Rattle.controller.specs.Answer.{answerTold}

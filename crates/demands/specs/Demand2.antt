@@ -5,33 +5,17 @@
 --
 -- Said of the numbers that stand in the lent slices after a call: each is what document 01, "The two passes", and M-100 make of what was
 -- given and of the numbers in the other slices. Angles and conditions by their index, counted from 0; `vector` reads a slice by the index.
-use Prim.Native.Nat.{ℕ, suc, _*_, _≤_, _<_}
-use mathlib.Core.Bool.{true, false}
-use mathlib.Core.List.{List}
-use mathlib.Core.Path.{_≡_}
-use lib.IntN.{ℤ, pos, negℤ, natAbs, _+ℤ_, _-ℤ_, _*ℤ_}
-use lib.ListN.{length, getD}
-use Rattle.whole.specs.Quotient.{roundedQuotient}
-use Rattle.whole.specs.Sums.{dot, squares, vector}
+use Rattle.vocabulary.specs.{ℕ, suc, _*_, _≤_, _<_, true, false, List, _≡_, ℤ, pos, negℤ, natAbs, _+ℤ_, _-ℤ_, _*ℤ_, length, getD}
+use Rattle.whole.specs.{Quotient.roundedQuotient, Sums.dot, Sums.squares, Sums.vector}
 use Rattle.wide_words.specs.Words.{joined}
-use Rattle.refusals.specs.declared.Verdict.{Verdict}
-use Rattle.refusals.specs.declared.Verdict.the-variants.{Passed}
-use Rattle.figures.specs.declared.Figure.{Figure}
-use Rattle.figures.specs.declared.Named.the-variants.{As}
+use Rattle.refusals.specs.{declared.Verdict.Verdict, declared.Verdict.the-variants.Passed}
+use Rattle.figures.specs.{declared.Figure.Figure, declared.Named.the-variants.As, Numerators.conditionSum, Numerators.numerator}
 use Rattle.figures.specs.Figure.{SineCondition, description, denominator, angleCount, conditionCount, membersOf, targetOf, sideCount, pole, side, hasSide, figureOf}
-use Rattle.figures.specs.Numerators.{conditionSum, numerator}
-use Rattle.sheet_layout.specs.declared.Kind.{Kind}
-use Rattle.sheet_layout.specs.Kinds.{numberOfKind}
-use Rattle.sheet_layout.specs.declared.head.Look.the-variants.{Head}
-use Rattle.sheet_layout.specs.Head.{headOf}
-use Rattle.sheet_rules.specs.declared.Reading.{Reading}
-use Rattle.sheet_rules.specs.declared.Reading.the-variants.{Read}
-use Rattle.sheet_rules.specs.Sheet.{Values, valuesFrom}
+use Rattle.sheet_layout.specs.{declared.Kind.Kind, Kinds.numberOfKind, declared.head.Look.the-variants.Head, Head.headOf}
+use Rattle.sheet_rules.specs.{declared.Reading.Reading, declared.Reading.the-variants.Read, Sheet.Values, Sheet.valuesFrom}
 use Rattle.sheet_rules.specs.Judging.{lengthsGiven}
 use Rattle.sheet_rules.specs.Promises.{Slices, slicesOf, lengthsLent, ReaderPromise, WriterPromise}
-use Rattle.pass_rules.specs.declared.second.SecondAnswer.the-variants.{Done}
-use Rattle.pass_rules.specs.FirstPass.{shouldBe}
-use Rattle.pass_rules.specs.SecondPass.{sideReducedCount}
+use Rattle.pass_rules.specs.{declared.second.SecondAnswer.the-variants.Done, FirstPass.shouldBe, SecondPass.sideReducedCount}
 use Rattle.pass_rules.specs.Promises.{FirstGiven, FirstLent, FirstPromise, SecondGiven, SecondLent, SecondPromise}
 
 -- ---- the first pass

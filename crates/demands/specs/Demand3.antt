@@ -6,20 +6,12 @@
 --
 -- Said of the misclosures and numerators that stand in the lent slices. Unrounded corrections are numerator / D in the first pass,
 -- numerator / S or numerator / determinant in the second; in whole numbers, both sides are multiplied by the denominators.
-use Prim.Native.Nat.{ℕ, _<_}
-use mathlib.Core.Bool.{true}
-use mathlib.Core.List.{List}
-use mathlib.Core.Path.{_≡_}
-use lib.IntN.{ℤ, pos, negℤ, _+ℤ_, _-ℤ_, _*ℤ_}
-use lib.ListN.{getD}
-use lib.Signed.{_≤ℤ_, _<ℤ_}
+use Rattle.vocabulary.specs.{ℕ, _<_, true, List, _≡_, ℤ, pos, negℤ, _+ℤ_, _-ℤ_, _*ℤ_, getD, _≤ℤ_, _<ℤ_}
 use Rattle.whole.specs.Sums.{dot, squares, vector}
 use Rattle.wide_words.specs.Words.{joined}
 use Rattle.refusals.specs.declared.Verdict.the-variants.{Passed}
-use Rattle.figures.specs.declared.Figure.{Figure}
-use Rattle.figures.specs.declared.Named.the-variants.{As}
+use Rattle.figures.specs.{declared.Figure.Figure, declared.Named.the-variants.As, Numerators.conditionSum, Numerators.horizonSum}
 use Rattle.figures.specs.Figure.{description, denominator, angleCount, conditionCount, pole, side, hasSide, figureOf}
-use Rattle.figures.specs.Numerators.{conditionSum, horizonSum}
 use Rattle.pass_rules.specs.declared.second.SecondAnswer.the-variants.{Done}
 use Rattle.pass_rules.specs.Promises.{FirstGiven, FirstLent, FirstPromise, SecondGiven, SecondLent, SecondPromise}
 use Rattle.pass_sheet.specs.Worked.{First, Second, WorkedSheet, workedOf, entriesIn}

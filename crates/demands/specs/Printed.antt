@@ -5,23 +5,15 @@
 -- second, `figure 1 0 W 100 S 24315176`; `1 1620000 2049 -163920000 -7 1619993 1`; `condition 1 0`; with two sine conditions, M-100,
 -- `figure 2 4 W 5 -3 determinant 7`, and on an angle's line B stands after A. An angle's line ends in its rounds, M-106. The line of
 -- angle i, counted from 0, is line 1 + i, that of condition j follows the angles' lines.
-use Prim.Native.Nat.{ℕ, suc, _+_, _<_}
-use mathlib.Core.Bool.{Bool, true, false}
-use mathlib.Core.List.{List, [], _∷_}
-use mathlib.Core.Logic.{_↔_, _⊎_}
-use mathlib.Core.Path.{_≡_}
-use lib.IntN.{ℤ, pos, negℤ, _+ℤ_, _-ℤ_, _*ℤ_}
-use lib.ListN.{getD, take}
+use Rattle.vocabulary.specs.{ℕ, suc, _+_, _<_, Bool, true, false, List, [], _∷_, _↔_, _⊎_, _≡_, ℤ, pos, negℤ, _+ℤ_, _-ℤ_, _*ℤ_, getD, take}
 use Rattle.whole.specs.Sums.{squares}
 use Rattle.refusals.specs.Order.{Answers}
-use Rattle.figures.specs.declared.Figure.{Figure}
+use Rattle.figures.specs.{declared.Figure.Figure, Numerators.conditionSum, Numerators.horizonSum}
 use Rattle.figures.specs.Figure.{description, denominator, angleCount, conditionCount, hasSide}
-use Rattle.figures.specs.Numerators.{conditionSum, horizonSum}
 use Rattle.text.specs.Text.{decimal, lines, readNumber, readLines}
 use Rattle.lines.specs.Lines.{figureWord, denominatorWord, wWord, sWord, determinantWord, refusedWord}
 use Rattle.pass_sheet.specs.Worked.{sheetRows, roundsHeld}
-use Rattle.report.specs.declared.reporting.Reported.the-variants.{Written}
-use Rattle.report.specs.Report.{ReportedPromise}
+use Rattle.report.specs.{declared.reporting.Reported.the-variants.Written, Report.ReportedPromise}
 use Rattle.controller.specs.Promises.{TextLent, ReportPromise}
 use Rattle.demands.specs.Demand2.{determinantOf, exactOfTwo}
 

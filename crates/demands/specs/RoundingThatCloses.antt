@@ -6,25 +6,16 @@
 -- Said of the misclosures and numerators that stand in the slices of a first pass of the same sheet; the exact first correction is
 -- numerator / D. `Fitting` (closing/specs/Promises.antt): what is lent to both has the lengths of the figure that is named, else number 2
 -- may name either slice. Angles and conditions by their index, counted from 0.
-use Prim.Native.Nat.{ℕ, _*_, _<_}
-use mathlib.Core.List.{List}
-use mathlib.Core.Logic.{_↔_, _⊎_}
-use mathlib.Core.Path.{_≡_}
-use lib.IntN.{ℤ, pos, _+ℤ_, _*ℤ_}
+use Rattle.vocabulary.specs.{ℕ, _*_, _<_, List, _↔_, _⊎_, _≡_, ℤ, pos, _+ℤ_, _*ℤ_}
 use Rattle.whole.specs.Sums.{vector}
-use Rattle.refusals.specs.declared.Refusal.{Refusal}
-use Rattle.refusals.specs.declared.Verdict.{Verdict}
+use Rattle.refusals.specs.{declared.Refusal.Refusal, declared.Verdict.Verdict, Numbers.told, Numbers.verdictTold}
 use Rattle.refusals.specs.declared.Verdict.the-variants.{Passed, Failed}
-use Rattle.refusals.specs.Numbers.{told, verdictTold}
-use Rattle.figures.specs.declared.Figure.{Figure}
-use Rattle.figures.specs.declared.Named.the-variants.{As}
+use Rattle.figures.specs.{declared.Figure.Figure, declared.Named.the-variants.As, Numerators.conditionSum}
 use Rattle.figures.specs.Figure.{denominator, angleCount, conditionCount, figureOf}
-use Rattle.figures.specs.Numerators.{conditionSum}
 use Rattle.pass_rules.specs.Promises.{FirstGiven, FirstLent, FirstPromise}
 use Rattle.closing.specs.Floor.{floorQuotient, ceilingQuotient}
 use Rattle.closing.specs.Promises.{ClosingPromise, checkRows, checkAnswer, Fitting}
-use Rattle.controller.specs.Answer.{placeStep, answerTold}
-use Rattle.controller.specs.Promises.{answerBy, FirstPassPromise, ClosingPassPromise}
+use Rattle.controller.specs.{Answer.placeStep, Answer.answerTold, Promises.answerBy, Promises.FirstPassPromise, Promises.ClosingPassPromise}
 
 -- ---- the two rules, of corrections x
 

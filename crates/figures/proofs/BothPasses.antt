@@ -1,14 +1,9 @@
 -- Both passes together (document 02, M-107), of every figure: first numerators over D, of misclosures w, and second numerators over any S
 -- that change no condition. What cancels w too, and changes every sine sum as they do, has no smaller sum of squares. Assumes nothing.
-use mathlib.Core.Path.{_≡_, sym, ap, ap₂, _∙_}
-use Prim.Native.Nat.{ℕ, _<_}
-use lib.IntN.{ℤ, pos, negℤ, _+ℤ_, _*ℤ_, *ℤ-zero}
-use lib.Signed.{_≤ℤ_}
+use Rattle.vocabulary.specs.{_≡_, sym, ap, ap₂, _∙_, ℕ, _<_, ℤ, pos, negℤ, _+ℤ_, _*ℤ_, *ℤ-zero, _≤ℤ_}
 use Rattle.whole.specs.Sums.{dot, squares}
-use Rattle.whole.proofs.Ring.{ring, _≐_, _⊕_, _⊗_, ⊝_, constant}
-use Rattle.whole.proofs.Sums.{dot-comm, dot-combined}
-use Rattle.figures.specs.declared.Figure.{Figure}
-use Rattle.figures.specs.Figure.{denominator, angleCount, conditionCount}
+use Rattle.whole.proofs.{Ring.ring, Ring._≐_, Ring._⊕_, Ring._⊗_, Ring.⊝_, Ring.constant, Sums.dot-comm, Sums.dot-combined}
+use Rattle.figures.specs.{declared.Figure.Figure, Figure.denominator, Figure.angleCount, Figure.conditionCount}
 use Rattle.figures.specs.Numerators.{conditionSum, numerator}
 use Rattle.figures.proofs.Pythagoras as Pythagoras
 use Rattle.figures.proofs.Theorem.{condition-combined, condition-unchanged, numerators-cancel, numerators-orthogonal}

@@ -1,19 +1,12 @@
 -- The certificate of a figure as a test that antt computes: C·R = −D·I and R = Cᵀ·K. `Figures` runs it over the list of all figures.
 -- Assumes nothing.
-use mathlib.Core.Path.{_≡_, ap}
-use mathlib.Core.Bool.{Bool, false, _&&_}
-use mathlib.Core.List.{List, [], _∷_, _++_, map}
-use Prim.Native.Nat.{ℕ, zero, suc, _<_}
-use lib.Dec.{T, eqb, eqb→eq}
-use lib.ListN.{length, getD}
-use lib.IntN.{ℤ, pos, negsuc, negℤ, _+ℤ_, _-ℤ_, _*ℤ_}
-use Rattle.whole.specs.Sums.{composed, identity, transposed, table}
-use Rattle.whole.specs.Lists.{everyBelow}
+use Rattle.vocabulary.specs.{_≡_, ap, Bool, false, _&&_, List, [], _∷_, _++_, map, ℕ, zero, suc, _<_, T, eqb, eqb→eq, length, getD, ℤ, pos}
+use Rattle.vocabulary.specs.{negsuc, negℤ, _+ℤ_, _-ℤ_, _*ℤ_}
+use Rattle.whole.specs.{Sums.composed, Sums.identity, Sums.transposed, Sums.table, Lists.everyBelow}
 use Rattle.whole.proofs.Computed.{and-left, and-right, every-below}
-use Rattle.figures.specs.declared.Figure.{Figure}
+use Rattle.figures.specs.{declared.Figure.Figure, Rows.eachOf}
 use Rattle.figures.specs.declared.Figure.the-variants.{Quadrilateral, PointInTriangle, PointInQuadrilateral, CentralTriangle, CentralQuadrilateral, CentralPentagon, CentralHexagon, CentralHeptagon, CentralOctagon}
 use Rattle.figures.specs.Figure.{Description, Condition, quadrilateral, pointInTriangle, pointInQuadrilateral, centralPolygon, description, inner, left}
-use Rattle.figures.specs.Rows.{eachOf}
 use Rattle.figures.proofs.LeastSquares.{Certified}
 
 -- 1 for each time that the angle of index i stands among the members

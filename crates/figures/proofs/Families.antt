@@ -1,20 +1,11 @@
 -- The conditions of each family of figures, by the indices of their angles: what the code adds for each. Each fact by one test over all
 -- figures. Assumes nothing.
-use mathlib.Core.Path.{_≡_, refl, sym, ap, ap₂, _∙_}
-use mathlib.Core.Bool.{Bool, true, false, cond, not, _&&_, _||_}
-use mathlib.Core.List.{List, [], _∷_}
-use Prim.Native.Nat.{ℕ, zero, suc, _+_, _-_, _*_, _<_}
-use lib.Dec.{T, eqb, eqb→eq, lit<}
-use lib.ListN.{length, getD}
-use lib.IntN.{ℤ, _+ℤ_, +ℤ-idr}
+use Rattle.vocabulary.specs.{_≡_, refl, sym, ap, ap₂, _∙_, Bool, true, false, cond, not, _&&_, _||_, List, [], _∷_, ℕ, zero, suc, _+_, _-_}
+use Rattle.vocabulary.specs.{_*_, _<_, T, eqb, eqb→eq, lit<, length, getD, ℤ, _+ℤ_, +ℤ-idr}
 use Rattle.refusals.specs.Table.{fixedSum}
-use Rattle.whole.specs.Lists.{every, everyBelow, listed}
-use Rattle.whole.specs.Sums.{sum}
-use Rattle.whole.proofs.Computed.{and-left, and-right, every-at, every-below}
-use Rattle.whole.proofs.Sums.{sum-front}
-use Rattle.figures.specs.declared.Figure.{Figure}
-use Rattle.figures.specs.declared.Figure.the-variants.{Quadrilateral}
-use Rattle.figures.specs.declared.Target.{Target}
+use Rattle.whole.specs.{Lists.every, Lists.everyBelow, Lists.listed, Sums.sum}
+use Rattle.whole.proofs.{Computed.and-left, Computed.and-right, Computed.every-at, Computed.every-below, Sums.sum-front}
+use Rattle.figures.specs.{declared.Figure.Figure, declared.Figure.the-variants.Quadrilateral, declared.Target.Target}
 use Rattle.figures.specs.declared.Target.the-variants.{HalfTurn, FullTurn, FixedAngle, NoCondition}
 use Rattle.figures.specs.Figure.{description, allFigures, angleCount, conditionCount, fixedCount, membersOf, targetOf, horizon}
 use Rattle.figures.specs.Numerators.{sumOver, conditionSum, horizonSum}

@@ -1,19 +1,11 @@
 -- What holds of every figure, by one test that antt computes over the list of all figures: the data are what they should be, and each
 -- figure is certified. Assumes nothing.
-use mathlib.Core.Path.{_≡_, refl, sym, ap, subst}
-use mathlib.Core.Bool.{Bool, true, false, not, _&&_, _||_}
-use mathlib.Core.List.{List, [], _∷_}
-use Prim.Native.Nat.{ℕ, zero, suc, _≤_, _<_, zero-le}
-use native.Mathlib.Omega.{arith}
-use lib.Dec.{T, eqb, leb, eqb→eq, leb→le, lit<}
-use lib.ListN.{length, getD, List·getD-eq-default}
-use lib.IntN.{ℤ, pos, negsuc, natAbs}
-use Rattle.whole.specs.Sums.{sum, dot, composed, table}
-use Rattle.whole.specs.Lists.{every, everyBelow}
+use Rattle.vocabulary.specs.{_≡_, refl, sym, ap, subst, Bool, true, false, not, _&&_, _||_, List, [], _∷_, ℕ, zero, suc, _≤_, _<_, zero-le}
+use Rattle.vocabulary.specs.{arith, T, eqb, leb, eqb→eq, leb→le, lit<, length, getD, List·getD-eq-default, ℤ, pos, negsuc, natAbs}
+use Rattle.whole.specs.{Sums.sum, Sums.dot, Sums.composed, Sums.table, Lists.every, Lists.everyBelow}
 use Rattle.whole.proofs.Computed.{and-left, and-right, every-at, every-below}
-use Rattle.figures.specs.declared.Figure.{Figure}
+use Rattle.figures.specs.{declared.Figure.Figure, declared.Target.Target}
 use Rattle.figures.specs.declared.Figure.the-variants.{Quadrilateral, PointInTriangle, PointInQuadrilateral, CentralTriangle, CentralQuadrilateral, CentralPentagon, CentralHexagon, CentralHeptagon, CentralOctagon}
-use Rattle.figures.specs.declared.Target.{Target}
 use Rattle.figures.specs.declared.Target.the-variants.{HalfTurn, FullTurn, FixedAngle, NoCondition}
 use Rattle.figures.specs.Figure.{Condition, SineCondition, description, allFigures, denominator, angleCount, conditionCount, fixedCount, membersOf, targetOf, pole, side, hasSide, noSine, sideCount}
 use Rattle.figures.specs.Numerators.{mostAngles, mostConditions, mostMembers, mostSides}

@@ -1,18 +1,11 @@
 -- The horizon of a point inside n corners, which code 2 does not list: whatever is summed, the horizon and the corners together are the
 -- triangles. For of each triangle the first angle stands in the horizon, the second in its own corner and the last in the next. Assumes
 -- nothing.
-use mathlib.Core.Bool.{Bool, cond}
-use mathlib.Core.Path.{_≡_, refl, sym, ap, ap₂, _∙_}
-use Prim.Native.Nat.{ℕ, zero, suc, _+_, _-_, _*_, _<_}
-use native.Mathlib.Omega.{arith}
-use borrow.Author.Tests.{ne-eqb}
-use lib.Dec.{T}
-use lib.IntN.{ℤ, _+ℤ_, +ℤ-comm, +ℤ-idl}
+use Rattle.vocabulary.specs.{Bool, cond, _≡_, refl, sym, ap, ap₂, _∙_, ℕ, zero, suc, _+_, _-_, _*_, _<_, arith, ne-eqb, T, ℤ, _+ℤ_}
+use Rattle.vocabulary.specs.{+ℤ-comm, +ℤ-idl}
 use Rattle.whole.specs.Sums.{sum}
-use Rattle.whole.proofs.Sums.{sum-ext, sum-add, sum-front}
-use Rattle.whole.proofs.Ring.{_⊕_, _≐_, ring}
-use Rattle.figures.specs.declared.Figure.{Figure}
-use Rattle.figures.specs.Figure.{description, angleCount}
+use Rattle.whole.proofs.{Sums.sum-ext, Sums.sum-add, Sums.sum-front, Ring._⊕_, Ring._≐_, Ring.ring}
+use Rattle.figures.specs.{declared.Figure.Figure, Figure.description, Figure.angleCount}
 use Rattle.figures.specs.Numerators.{conditionSum, horizonSum}
 use Rattle.figures.proofs.Families.{isPointInside, lastBefore, point-inside, triangle-sum}
 

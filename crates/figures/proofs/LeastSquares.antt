@@ -1,13 +1,9 @@
 -- The least-squares theorem, over any certified table. N is the number of angles, M that of conditions, C says which angles a condition
 -- joins, R holds the coefficient rows over the denominator D, and K the correlates. Nothing here names a figure. Assumes nothing.
-use mathlib.Core.Path.{_≡_, refl, sym, ap, ap₂, _∙_}
-use Prim.Native.Nat.{ℕ, _<_}
-use lib.IntN.{ℤ, pos, negℤ, _+ℤ_, _*ℤ_, +ℤ-idr}
-use lib.Signed.{_≤ℤ_}
+use Rattle.vocabulary.specs.{_≡_, refl, sym, ap, ap₂, _∙_, ℕ, _<_, ℤ, pos, negℤ, _+ℤ_, _*ℤ_, +ℤ-idr, _≤ℤ_}
 use Rattle.whole.specs.Sums.{dot, squares, applied, composed, identity, transposed}
 use Rattle.whole.proofs.Ring.{ring, constant, _≐_, _⊕_, _⊗_, ⊝_}
-use Rattle.whole.proofs.Sums.{sum-ext, sum-add, sum-scale, dot-ext, dot-zero}
-use Rattle.whole.proofs.Sums.{applied-rows, applied-multiple, applied-add, applied-scale, applied-composed, applied-identity, moved}
+use Rattle.whole.proofs.Sums.{sum-ext, sum-add, sum-scale, dot-ext, dot-zero, applied-rows, applied-multiple, applied-add, applied-scale, applied-composed, applied-identity, moved}
 use Rattle.figures.proofs.Pythagoras as Pythagoras
 
 -- C·R = −D·I, and every row of R is a combination of rows of C: R = Cᵀ·K

@@ -1,14 +1,9 @@
 -- What a code and an n name: exactly the nine figures. Assumes nothing.
-use mathlib.Core.Path.{_≡_, refl, sym, subst, ap, ap₂, _∙_}
-use mathlib.Core.Logic.{_↔_}
-use mathlib.Core.Bool.{Bool, true, false, cond, not, _&&_, _||_}
-use mathlib.Core.List.{List, [], _∷_, map}
-use Prim.Native.Nat.{ℕ, zero, suc, _+_}
-use lib.Dec.{T, eqb, eqb→eq}
+use Rattle.vocabulary.specs.{_≡_, refl, sym, subst, ap, ap₂, _∙_, _↔_, Bool, true, false, cond, not, _&&_, _||_, List, [], _∷_, map, ℕ}
+use Rattle.vocabulary.specs.{zero, suc, _+_, T, eqb, eqb→eq}
 use Rattle.refusals.specs.Questions.{noneOf, among, asked}
-use Rattle.figures.specs.declared.Figure.{Figure}
+use Rattle.figures.specs.{declared.Figure.Figure, declared.Named.Named}
 use Rattle.figures.specs.declared.Figure.the-variants.{Quadrilateral, PointInTriangle, PointInQuadrilateral, CentralTriangle, CentralQuadrilateral, CentralPentagon, CentralHexagon, CentralHeptagon, CentralOctagon}
-use Rattle.figures.specs.declared.Named.{Named}
 use Rattle.figures.specs.declared.Named.the-variants.{As, Nothing}
 use Rattle.figures.specs.Figure.{description, allFigures, namedAmong, figureOf, figureNames}
 

@@ -1,12 +1,8 @@
 -- Pythagoras in whole numbers: corrections x / q and y / p whose difference is orthogonal to y. Nothing here knows of conditions. Assumes
 -- nothing.
-use mathlib.Core.Path.{_≡_, refl, sym, ap, ap₂, _∙_, subst}
-use Prim.Native.Nat.{ℕ, _<_}
-use lib.IntN.{ℤ, pos, negℤ, _+ℤ_, _-ℤ_, _*ℤ_, +ℤ-idr, +ℤ-invr, *ℤ-zero}
-use lib.Signed.{_≤ℤ_}
+use Rattle.vocabulary.specs.{_≡_, refl, sym, ap, ap₂, _∙_, subst, ℕ, _<_, ℤ, pos, negℤ, _+ℤ_, _-ℤ_, _*ℤ_, +ℤ-idr, +ℤ-invr, *ℤ-zero, _≤ℤ_}
 use Rattle.whole.specs.Sums.{dot, squares}
-use Rattle.whole.proofs.Integers.{negℤ-*ℤ}
-use Rattle.whole.proofs.Ring.{ring, difference-zero, _≐_, _⊕_, _⊖_, _⊗_}
+use Rattle.whole.proofs.{Integers.negℤ-*ℤ, Ring.ring, Ring.difference-zero, Ring._≐_, Ring._⊕_, Ring._⊖_, Ring._⊗_}
 use Rattle.whole.proofs.Order.{≤ℤ-from-difference}
 use Rattle.whole.proofs.Sums.{sum-ext, sum-add, sum-scale, dot-ext, dot-combined, squares-nonnegative, squares-zero}
 

@@ -1,14 +1,8 @@
 -- The least-squares theorem of every figure, in the words of its definitions: `conditionSum` sums over the angles that a condition joins,
 -- `numerator` applies an angle's row. It cites the theorem over certified tables and the certificates. Assumes nothing.
-use mathlib.Core.Path.{_≡_, refl, sym, ap, ap₂, _∙_}
-use mathlib.Core.List.{List, [], _∷_}
-use Prim.Native.Nat.{ℕ, zero, suc, _<_}
-use lib.Dec.{T, leb, leb→le}
-use lib.ListN.{List·getD-map}
-use lib.IntN.{ℤ, pos, negℤ, _+ℤ_, _*ℤ_, *ℤ-zero}
-use lib.Signed.{_≤ℤ_}
-use Rattle.whole.specs.Sums.{dot, squares, applied, identity, table}
-use Rattle.whole.specs.Lists.{every}
+use Rattle.vocabulary.specs.{_≡_, refl, sym, ap, ap₂, _∙_, List, [], _∷_, ℕ, zero, suc, _<_, T, leb, leb→le, List·getD-map, ℤ, pos, negℤ}
+use Rattle.vocabulary.specs.{_+ℤ_, _*ℤ_, *ℤ-zero, _≤ℤ_}
+use Rattle.whole.specs.{Sums.dot, Sums.squares, Sums.applied, Sums.identity, Sums.table, Lists.every}
 use Rattle.whole.proofs.Computed.{and-left, and-right}
 use Rattle.whole.proofs.Sums.{dot-ext, dot-comm, dot-add, dot-scale, dot-combined, dot-zero, applied-ext, applied-add, applied-scale, applied-identity}
 use Rattle.figures.specs.declared.Figure.{Figure}

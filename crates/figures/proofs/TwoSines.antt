@@ -1,15 +1,11 @@
 -- Two sine conditions of a figure, with differences d and e and misclosures wa and wb: the corrections over the determinant that document
 -- 02, M-100, gives change no linear condition and cancel both misclosures; and the determinant is from 0 up. Of every figure. Assumes
 -- nothing.
-use mathlib.Core.Path.{_≡_, refl, ap, ap₂, _∙_}
-use Prim.Native.Nat.{ℕ, _<_}
-use lib.IntN.{ℤ, pos, negℤ, _+ℤ_, _-ℤ_, _*ℤ_}
-use lib.Signed.{_≤ℤ_}
+use Rattle.vocabulary.specs.{_≡_, refl, ap, ap₂, _∙_, ℕ, _<_, ℤ, pos, negℤ, _+ℤ_, _-ℤ_, _*ℤ_, _≤ℤ_}
 use Rattle.whole.specs.Sums.{dot, squares}
 use Rattle.whole.proofs.Ring.{ring, _≐_, _⊕_, _⊖_, _⊗_}
 use Rattle.whole.proofs.Sums.{dot-ext, dot-comm, dot-combined, products-within}
-use Rattle.figures.specs.declared.Figure.{Figure}
-use Rattle.figures.specs.Figure.{denominator, angleCount, conditionCount}
+use Rattle.figures.specs.{declared.Figure.Figure, Figure.denominator, Figure.angleCount, Figure.conditionCount}
 use Rattle.figures.specs.Numerators.{conditionSum, reducedCoefficient}
 use Rattle.figures.proofs.Theorem.{reduced-products, combination-closes, combination-orthogonal}
 

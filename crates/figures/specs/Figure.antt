@@ -1,19 +1,10 @@
 -- The eight figures of document 01, "The eight figures", and the ninth of document 02, M-100, in their numbering: corners, triangles,
 -- angles, conditions, fixed angles and sides count from 1.
-use Prim.Native.Nat.{ℕ, zero, suc, _+_, _-_, _*_}
-use mathlib.Core.Bool.{Bool, cond, _&&_}
-use mathlib.Core.List.{List, [], _∷_, _++_, map}
-use lib.Dec.{eqb}
-use lib.ListN.{length, getD, replicate}
-use lib.IntN.{ℤ, pos}
-use Rattle.figures.specs.declared.Figure.{Figure}
+use Rattle.vocabulary.specs.{ℕ, zero, suc, _+_, _-_, _*_, Bool, cond, _&&_, List, [], _∷_, _++_, map, eqb, length, getD, replicate, ℤ, pos}
+use Rattle.figures.specs.{declared.Figure.Figure, declared.Named.Named, declared.Target.Target, declared.Name.Name}
 use Rattle.figures.specs.declared.Figure.the-variants.{Quadrilateral, PointInTriangle, PointInQuadrilateral, CentralTriangle, CentralQuadrilateral, CentralPentagon, CentralHexagon, CentralHeptagon, CentralOctagon}
-use Rattle.figures.specs.declared.Named.{Named}
-use Rattle.figures.specs.declared.Named.the-variants.{As, Nothing}
-use Rattle.figures.specs.declared.Target.{Target}
+use Rattle.figures.specs.{declared.Named.the-variants.As, declared.Named.the-variants.Nothing, declared.Counts.Counts}
 use Rattle.figures.specs.declared.Target.the-variants.{HalfTurn, FullTurn, FixedAngle, NoCondition}
-use Rattle.figures.specs.declared.Name.{Name}
-use Rattle.figures.specs.declared.Counts.{Counts}
 use Rattle.figures.specs.Rows.{eachOf, minus, quadrilateralRows, quadrilateralSigns, pointInTriangleRows, pointInQuadrilateralRows, centralPolygonRows, triangleSigns, signsFrom}
 
 -- the angles that a condition joins, and what they should sum to

@@ -1,9 +1,6 @@
 -- The numerators of a figure's exact corrections, and its tables as the code holds them.
-use Prim.Native.Nat.{ℕ, zero, suc}
-use mathlib.Core.List.{List, [], _∷_, map}
-use lib.IntN.{ℤ, pos, _+ℤ_, _*ℤ_}
-use Rattle.whole.specs.Lists.{padded}
-use Rattle.whole.specs.Sums.{applied, table}
+use Rattle.vocabulary.specs.{ℕ, zero, suc, List, [], _∷_, map, ℤ, pos, _+ℤ_, _*ℤ_}
+use Rattle.whole.specs.{Lists.padded, Sums.applied, Sums.table}
 use Rattle.figures.specs.declared.Figure.{Figure}
 use Rattle.figures.specs.Figure.{description, denominator, conditionCount, membersOf, horizon}
 

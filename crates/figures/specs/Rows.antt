@@ -1,11 +1,7 @@
 -- The first-correction rows and the sine signs of document 01, "The eight figures", and of document 02, M-100. A row holds the coefficient
 -- of each condition's misclosure, in the order of the conditions; rows and signs stand in the order of the angles.
-use Prim.Native.Nat.{ℕ, zero, suc, _+_, _-_, _*_, _%_}
-use mathlib.Core.Bool.{Bool, false, cond, _||_}
-use mathlib.Core.List.{List, [], _∷_, _++_}
-use lib.Dec.{eqb}
-use lib.ListN.{getD}
-use lib.IntN.{ℤ, pos, negℤ, _+ℤ_, _*ℤ_}
+use Rattle.vocabulary.specs.{ℕ, zero, suc, _+_, _-_, _*_, _%_, Bool, false, cond, _||_, List, [], _∷_, _++_, eqb, getD, ℤ, pos, negℤ, _+ℤ_}
+use Rattle.vocabulary.specs.{_*ℤ_}
 use Rattle.whole.specs.Sums.{identity}
 
 abbrev pub minus : ℕ → ℤ

@@ -1,12 +1,7 @@
 -- The steps of a loop that asks the places 1, 2, .. in rising order, for any test and any count of places. The loop's invariant: the test
 -- fails at none of the places asked so far. So the first place at which it fails is the lowest.
-use Prim.Native.Nat.{ℕ, suc, _+_, _≤_, _<_}
-use mathlib.Core.Bool.{Bool, true, false}
-use mathlib.Core.Path.{_≡_, refl, sym, ap, _∙_}
-use native.Mathlib.Numerals.{add-one}
-use native.Mathlib.Omega.{arith}
-use Rattle.refusals.specs.declared.Lowest.the-variants.{Nowhere, At}
-use Rattle.refusals.specs.Order.{lowestPlace}
+use Rattle.vocabulary.specs.{ℕ, suc, _+_, _≤_, _<_, Bool, true, false, _≡_, refl, sym, ap, _∙_, add-one, arith}
+use Rattle.refusals.specs.{declared.Lowest.the-variants.Nowhere, declared.Lowest.the-variants.At, Order.lowestPlace}
 use Rattle.refusals.proofs.Places.{lowest-is, lowest-is-nowhere}
 
 module _ (fails : ℕ → Bool) where

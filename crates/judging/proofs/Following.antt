@@ -1,10 +1,5 @@
 -- The value at an index of one list and then another, by where the index lies.
-use Prim.Native.Nat.{ℕ, _+_, _-_, _≤_}
-use mathlib.Core.List.{List, _++_}
-use mathlib.Core.Path.{_≡_, ap, _∙_}
-use native.Mathlib.Omega.{arith}
-use lib.ListN.{length, getD}
-use lib.Seq.{getD-append-add}
+use Rattle.vocabulary.specs.{ℕ, _+_, _-_, _≤_, List, _++_, _≡_, ap, _∙_, arith, length, getD, getD-append-add}
 
 pub getD-later : {A : Type 0} (first second : List A) (d : A) (i : ℕ) → length first ≤ i → getD (first ++ second) i d ≡ getD second (i - length first) d
 getD-later first second d i l =

@@ -1,14 +1,8 @@
 -- What the searches of the code answer: the lowest place of a value that lies outside its range.
-use Prim.Native.Nat.{ℕ}
-use mathlib.Core.List.{List}
-use lib.IntN.{ℤ, pos, _+ℤ_}
-use lib.ListN.{length, getD}
+use Rattle.vocabulary.specs.{ℕ, List, ℤ, pos, _+ℤ_, length, getD}
 use Rattle.whole.specs.Lists.{listed}
-use Rattle.refusals.specs.declared.Lowest.{Lowest}
-use Rattle.refusals.specs.Numbers.{numbered}
-use Rattle.refusals.specs.Order.{lowestPlace}
+use Rattle.refusals.specs.{declared.Lowest.Lowest, Numbers.numbered, Order.lowestPlace, Table.sineEntryOutside}
 use Rattle.refusals.specs.Questions.{asked, outside, outsideSigned}
-use Rattle.refusals.specs.Table.{sineEntryOutside}
 
 abbrev pub lowestOutside : (values : List ℕ) (least most : ℕ) → Lowest
 lowestOutside values least most = lowestPlace (λ p. asked (outside least most (numbered values p 0))) (length values)

@@ -1,11 +1,7 @@
 -- Document 01's printed sheets and its refusal, "Sheets worked through": the texts of the definitions, of the numbers that stand there,
 -- are the printed bytes, line by line as printed, each angle's with its one round at the end (document 02, M-106). Assumes nothing.
-use mathlib.Core.Path.{_≡_, refl}
-use mathlib.Core.List.{List, [], _∷_}
-use Prim.Native.Nat.{ℕ}
-use lib.IntN.{pos, negsuc}
-use Rattle.whole.specs.Lists.{listed}
-use Rattle.whole.specs.Sums.{vector}
+use Rattle.vocabulary.specs.{_≡_, refl, List, [], _∷_, ℕ, pos, negsuc}
+use Rattle.whole.specs.{Lists.listed, Sums.vector}
 use Rattle.refusals.specs.declared.Refusal.{Refusal}
 use Rattle.figures.specs.declared.Figure.the-variants.{Quadrilateral}
 use Rattle.text.specs.Text.{decimal, natural, digits, lines, line, spaced}

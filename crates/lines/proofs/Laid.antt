@@ -1,22 +1,10 @@
 -- Texts laid one after the other, and how lines and tables are made of them. Assumes nothing.
-use mathlib.Core.Path.{_≡_, refl, sym, ap, _∙_, subst}
-use mathlib.Core.List.{List, [], _∷_, _++_, append-assoc, append-nil}
-use Prim.Native.Nat.{ℕ, zero, suc, _+_, _^_, _≤_, _<_}
-use native.Mathlib.Numerals.{add-one}
-use native.Mathlib.Omega.{arith}
-use lib.IntN.{ℤ}
-use lib.ListN.{length}
-use lib.Signed.{mag}
-use mir.Syntax.{w64}
-use mir.Val.{toZ, ofZ}
-use mir.Facts.{toZ-ofZ}
+use Rattle.vocabulary.specs.{_≡_, refl, sym, ap, _∙_, subst, List, [], _∷_, _++_, append-assoc, append-nil, ℕ, zero, suc, _+_, _^_, _≤_}
+use Rattle.vocabulary.specs.{_<_, add-one, arith, ℤ, length, mag, w64, toZ, ofZ, toZ-ofZ}
 use Rattle.whole.specs.Lists.{listed}
-use Rattle.text.specs.Text.{space, lineFeed, decimal, spaced, line, lines, laid, after}
-use Rattle.text.specs.Holds.{Holds}
-use Rattle.text.proofs.Laying.{holds-none, holds-more}
-use Rattle.text.proofs.Lines.{lines-listed}
-use Rattle.lines.specs.Lays.{Lays, lineStart}
-use Rattle.lines.specs.Lines.{numbers}
+use Rattle.text.specs.{Text.space, Text.lineFeed, Text.decimal, Text.spaced, Text.line, Text.lines, Text.laid, Text.after, Holds.Holds}
+use Rattle.text.proofs.{Laying.holds-none, Laying.holds-more, Lines.lines-listed}
+use Rattle.lines.specs.{Lays.Lays, Lays.lineStart, Lines.numbers}
 
 -- ---- One after the other
 

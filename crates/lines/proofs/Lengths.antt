@@ -1,22 +1,14 @@
 -- How long the texts are at most: each line by the digits of its numbers, and so many lines as the largest figure has. Assumes nothing.
-use mathlib.Core.Bool.{Bool, true, false, cond, _&&_}
-use mathlib.Core.List.{List, [], _∷_, _++_}
-use Prim.Native.Nat.{ℕ, _+_, _*_, _^_, _≤_, _<_}
-use native.Mathlib.Nat.{le-trans, lt-of-lt-of-le}
-use native.Mathlib.Omega.{arith}
-use lib.Dec.{T, ltb, leb, ltb→lt, leb→le, lit<}
-use lib.IntN.{ℤ, pos, natAbs}
-use lib.ListN.{length, length-append}
+use Rattle.vocabulary.specs.{Bool, true, false, cond, _&&_, List, [], _∷_, _++_, ℕ, _+_, _*_, _^_, _≤_, _<_, le-trans, lt-of-lt-of-le}
+use Rattle.vocabulary.specs.{arith, T, ltb, leb, ltb→lt, leb→le, lit<, ℤ, pos, natAbs, length, length-append}
 use Rattle.whole.specs.Lists.{listed}
 use Rattle.whole.proofs.Computed.{and-left, and-right}
-use Rattle.refusals.specs.declared.Refusal.{Refusal}
-use Rattle.refusals.specs.Numbers.{numberOf, placeOf}
+use Rattle.refusals.specs.{declared.Refusal.Refusal, Numbers.numberOf, Numbers.placeOf}
 use Rattle.figures.specs.declared.Figure.{Figure}
 use Rattle.figures.specs.Figure.{description, denominator, angleCount, conditionCount, hasSide}
 use Rattle.figures.proofs.Figures.{each-figure, angle-bound, condition-bound}
 use Rattle.text.specs.Text.{decimal, line, lines}
-use Rattle.text.proofs.Numbers.{length-decimal, length-positive}
-use Rattle.text.proofs.Lines.{lines-append, length-line, length-lines}
+use Rattle.text.proofs.{Numbers.length-decimal, Numbers.length-positive, Lines.lines-append, Lines.length-line, Lines.length-lines}
 use Rattle.lines.specs.Lines.{figureWord, denominatorWord, wWord, sWord, determinantWord, conditionWord, refusedWord, numbers, figureNamed, divisorWords, coefficients, firstFigure, firstAngle, firstCondition, firstLines, firstText, secondFigure, secondAngle, secondCondition, secondLines, secondText, refusedLines, refusedText, longestText}
 
 -- each of the first `count` numbers has at most so many digits

@@ -1,22 +1,14 @@
 -- A printed text read back, line by line and part by part, gives the lines of the definitions, and each number on them the value it
 -- stands for: so no line can print another value. Assumes nothing.
-use mathlib.Core.Path.{_≡_, refl, sym, ap, _∙_}
-use mathlib.Core.Bool.{Bool, true, false, cond}
-use mathlib.Core.List.{List, [], _∷_, _++_, map}
-use Prim.Native.Nat.{ℕ, zero, suc, _+_, _<_}
-use lib.Dec.{T}
-use lib.IntN.{ℤ, pos}
-use lib.ListN.{getD, drop, List·getD-append}
-use lib.Seq.{getD-append-add}
+use Rattle.vocabulary.specs.{_≡_, refl, sym, ap, _∙_, Bool, true, false, cond, List, [], _∷_, _++_, map, ℕ, zero, suc, _+_, _<_, T, ℤ, pos}
+use Rattle.vocabulary.specs.{getD, drop, List·getD-append, getD-append-add}
 use Rattle.whole.specs.Lists.{every, listed}
 use Rattle.whole.proofs.Lists.{length-listed, getD-listed}
-use Rattle.refusals.specs.declared.Refusal.{Refusal}
-use Rattle.refusals.specs.Numbers.{numberOf, placeOf}
+use Rattle.refusals.specs.{declared.Refusal.Refusal, Numbers.numberOf, Numbers.placeOf}
 use Rattle.figures.specs.declared.Figure.{Figure}
 use Rattle.figures.specs.Figure.{description, denominator, angleCount, conditionCount, hasSide}
 use Rattle.text.specs.Text.{decimal, isWord, readNumber, readLines}
-use Rattle.text.proofs.Numbers.{decimal-word, decimal-words, read-decimal, read-decimals}
-use Rattle.text.proofs.Lines.{read-lines}
+use Rattle.text.proofs.{Numbers.decimal-word, Numbers.decimal-words, Numbers.read-decimal, Numbers.read-decimals, Lines.read-lines}
 use Rattle.text.proofs.Tests.{and-both, every-append}
 use Rattle.lines.specs.Lines.{figureWord, denominatorWord, wWord, sWord, determinantWord, conditionWord, refusedWord, numbers, figureNamed, firstFigure, firstAngle, firstCondition, firstLines, firstText, divisorWords, coefficients, secondFigure, secondAngle, secondCondition, secondLines, secondText, refusedLines, refusedText}
 

@@ -1,23 +1,14 @@
 -- What the functions lay, piece by piece, are the lines of the definitions. Assumes nothing.
-use mathlib.Core.Path.{_≡_, refl, sym, ap, _∙_}
-use mathlib.Core.Bool.{Bool, true, false, Bool·beq}
-use mathlib.Core.List.{List, [], _∷_, _++_, append-nil}
-use Prim.Native.Nat.{ℕ, _≤_}
-use native.Mathlib.Omega.{arith}
-use lib.Dec.{T, ltb}
-use lib.IntN.{ℤ, pos}
+use Rattle.vocabulary.specs.{_≡_, refl, sym, ap, _∙_, Bool, true, false, Bool·beq, List, [], _∷_, _++_, append-nil, ℕ, _≤_, arith, T, ltb}
+use Rattle.vocabulary.specs.{ℤ, pos}
 use Rattle.whole.specs.Lists.{listed}
-use Rattle.refusals.specs.declared.Refusal.{Refusal}
-use Rattle.refusals.specs.Numbers.{numberOf, placeOf}
-use Rattle.figures.specs.declared.Figure.{Figure}
-use Rattle.figures.specs.declared.Counts.{Counts}
+use Rattle.refusals.specs.{declared.Refusal.Refusal, Numbers.numberOf, Numbers.placeOf}
+use Rattle.figures.specs.{declared.Figure.Figure, declared.Counts.Counts}
 use Rattle.figures.specs.Figure.{angleCount, conditionCount, sideCount, hasSide, countsOf}
 use Rattle.figures.proofs.Figures.{each-figure, angle-bound, condition-bound}
-use Rattle.text.specs.Text.{space, lineFeed, decimal, spaced, line, lines}
-use Rattle.text.specs.Holds.{Holds}
+use Rattle.text.specs.{Text.space, Text.lineFeed, Text.decimal, Text.spaced, Text.line, Text.lines, Holds.Holds}
 use Rattle.text.proofs.Lines.{lines-append}
-use Rattle.lines.specs.Lays.{Lays}
-use Rattle.lines.specs.Lines.{refusedWord, refusedLines, refusedText}
+use Rattle.lines.specs.{Lays.Lays, Lines.refusedWord, Lines.refusedLines, Lines.refusedText}
 use Rattle.lines.proofs.Laid.{lays-then, lays-as, lays-start, part-line}
 
 -- ---- The figure's line

@@ -1,9 +1,6 @@
 -- Numbers that are held as two words each, as a list of the high words and one of the low words, are those numbers. Assumes nothing.
-use mathlib.Core.Path.{_≡_, refl}
-use Prim.Native.Nat.{ℕ, zero, suc}
-use lib.IntN.{ℤ}
-use Rattle.whole.specs.Lists.{listed}
-use Rattle.whole.specs.Sums.{vector}
+use Rattle.vocabulary.specs.{_≡_, refl, ℕ, zero, suc, ℤ}
+use Rattle.whole.specs.{Lists.listed, Sums.vector}
 use Rattle.wide.specs.Wide.{radix}
 use Rattle.wide_words.specs.Words.{joined, highWord, lowWord}
 use Rattle.wide_words.proofs.Joining.{joined-words}

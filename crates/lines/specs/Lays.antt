@@ -1,11 +1,7 @@
 -- What a function does that lays one text more in a lent buffer; and pieces of text that are laid so.
-use mathlib.Core.List.{List, [], _∷_, _++_}
-use Prim.Native.Nat.{ℕ}
-use lib.IntN.{ℤ}
-use Rattle.whole.specs.Lists.{listed}
-use Rattle.whole.specs.Sums.{vector}
-use Rattle.text.specs.Text.{space, spaced}
-use Rattle.text.specs.Holds.{Holds}
+use Rattle.vocabulary.specs.{List, [], _∷_, _++_, ℕ, ℤ}
+use Rattle.whole.specs.{Lists.listed, Sums.vector}
+use Rattle.text.specs.{Text.space, Text.spaced, Holds.Holds}
 use Rattle.lines.specs.Lines.{numbers}
 
 -- Whatever was laid from the buffer's start up to a position, then it is laid there with s after it, up to the new position.

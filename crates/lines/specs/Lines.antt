@@ -1,16 +1,10 @@
 -- The lines that the program prints: document 01, "Sheets worked through", M-100 for a figure with a side condition, and M-106 for the
 -- rounds, which end the line of each angle. A line is given by its parts, words and numbers; `lines` puts one space between the parts and
 -- one line feed after each line. What an angle or a condition has is used by its index, counted from 0; its number is one more.
-use mathlib.Core.Bool.{Bool, true, false}
-use mathlib.Core.List.{List, [], _∷_, _++_, map}
-use Prim.Native.Nat.{ℕ, _+_}
-use lib.IntN.{ℤ, pos}
-use lib.ListN.{getD}
-use Rattle.whole.specs.Lists.{listed}
-use Rattle.whole.specs.Sums.{vector}
+use Rattle.vocabulary.specs.{Bool, true, false, List, [], _∷_, _++_, map, ℕ, _+_, ℤ, pos, getD}
+use Rattle.whole.specs.{Lists.listed, Sums.vector}
 use Rattle.wide_words.specs.Words.{joined}
-use Rattle.refusals.specs.declared.Refusal.{Refusal}
-use Rattle.refusals.specs.Numbers.{numberOf, placeOf}
+use Rattle.refusals.specs.{declared.Refusal.Refusal, Numbers.numberOf, Numbers.placeOf}
 use Rattle.figures.specs.declared.Figure.{Figure}
 use Rattle.figures.specs.Figure.{description, denominator, angleCount, conditionCount, hasSide}
 use Rattle.text.specs.Text.{decimal, lines}

@@ -1,24 +1,14 @@
 -- How large the numbers of an accepted first pass are. Assumes nothing.
-use mathlib.Core.Path.{subst}
-use mathlib.Core.List.{List}
-use Prim.Native.Nat.{ℕ, _≤_, _<_}
-use native.Mathlib.Nat.{le-trans}
-use native.Mathlib.Omega.{arith}
-use lib.Dec.{lit≤}
-use lib.IntN.{ℤ, natAbs}
+use Rattle.vocabulary.specs.{subst, List, ℕ, _≤_, _<_, le-trans, arith, lit≤, ℤ, natAbs}
 use Rattle.whole.proofs.Magnitudes.{natAbs-add}
 use Rattle.refusals.specs.Ranges.{mostLimit}
-use Rattle.figures.specs.declared.Figure.{Figure}
-use Rattle.figures.specs.Figure.{conditionCount}
-use Rattle.figures.specs.Numerators.{conditionSum}
+use Rattle.figures.specs.{declared.Figure.Figure, Figure.conditionCount, Numerators.conditionSum}
 use Rattle.pass_rules.specs.FirstPass.{misclosure, firstNumerator, firstRounded, firstRest, misclosuresOf}
-use Rattle.pass_rules.proofs.FirstAccepted.{Accepted}
-use Rattle.pass_rules.proofs.WithinRange.{in-force-within}
+use Rattle.pass_rules.proofs.{FirstAccepted.Accepted, WithinRange.in-force-within}
 use Rattle.pass_steps.specs.Premises.{Within}
-use Rattle.pass_steps.proofs.Bounds.{condition-magnitude}
+use Rattle.pass_steps.proofs.{Bounds.condition-magnitude, StepLaws.listed-within}
 use Rattle.pass_first.proofs.FirstPromised.{numerator-is, tenths-is}
 use Rattle.pass_first.proofs.FirstSteps.{numerator-small, tenths-small}
-use Rattle.pass_steps.proofs.StepLaws.{listed-within}
 
 module _ (f : Figure) (limit : ℕ) (angles rounds fixed lent : List ℕ) (ok : Accepted f limit angles rounds fixed lent) where
   pub misclosure-small : (j : ℕ) → j < conditionCount f → natAbs (misclosure f angles fixed j) ≤ mostLimit

@@ -1,42 +1,24 @@
 -- From the steps of a first pass to what it promises, of a figure that is named. Assumes nothing.
-use mathlib.Core.Path.{_≡_, refl, sym, ap, ap₂, _∙_}
-use mathlib.Core.List.{List, [], _∷_}
-use Prim.Native.Nat.{ℕ, _≤_, _<_}
-use native.Mathlib.Nat.{le-trans, lt-of-le-of-lt}
-use lib.Dec.{lit<, lit≤}
-use lib.IntN.{ℤ, natAbs, _+ℤ_}
-use lib.ListN.{length, getD}
-use Rattle.whole.specs.Lists.{listed}
-use Rattle.whole.specs.Quotient.{roundedQuotient}
-use Rattle.whole.specs.Sums.{vector}
+use Rattle.vocabulary.specs.{_≡_, refl, sym, ap, ap₂, _∙_, List, [], _∷_, ℕ, _≤_, _<_, le-trans, lt-of-le-of-lt, lit<, lit≤, ℤ, natAbs}
+use Rattle.vocabulary.specs.{_+ℤ_, length, getD}
+use Rattle.whole.specs.{Lists.listed, Quotient.roundedQuotient, Sums.vector}
 use Rattle.whole.proofs.Lists.{listed-ext}
-use Rattle.refusals.specs.declared.Refusal.{Refusal}
-use Rattle.refusals.specs.declared.Verdict.{Verdict}
-use Rattle.refusals.specs.declared.Verdict.the-variants.{Passed, Failed}
-use Rattle.refusals.specs.Order.{Row, verdictOf, judged}
-use Rattle.refusals.specs.Promise.{stored}
-use Rattle.refusals.specs.Ranges.{mostLimit}
+use Rattle.refusals.specs.{declared.Refusal.Refusal, declared.Verdict.Verdict, Order.Row, Order.verdictOf, Order.judged, Promise.stored}
+use Rattle.refusals.specs.{declared.Verdict.the-variants.Passed, declared.Verdict.the-variants.Failed, Ranges.mostLimit}
 use Rattle.refusals.specs.Table.{misclosuresRow, resultsRow}
-use Rattle.refusals.proofs.Answers.{answer-of-one}
-use Rattle.refusals.proofs.InSteps.{judged-after-pass, judged-after-failure}
-use Rattle.refusals.proofs.Rows.{none-holds}
+use Rattle.refusals.proofs.{Answers.answer-of-one, InSteps.judged-after-pass, InSteps.judged-after-failure, Rows.none-holds}
 use Rattle.judging.specs.Searches.{resultsOf}
-use Rattle.figures.specs.declared.Figure.{Figure}
-use Rattle.figures.specs.declared.Named.{Named}
-use Rattle.figures.specs.declared.Named.the-variants.{As, Nothing}
+use Rattle.figures.specs.{declared.Figure.Figure, declared.Named.Named, declared.Named.the-variants.As, declared.Named.the-variants.Nothing}
 use Rattle.figures.specs.Figure.{denominator, angleCount, conditionCount, figureOf, ofNamed}
 use Rattle.figures.specs.Numerators.{conditionSum, numerator}
 use Rattle.pass_rules.specs.FirstPass.{limitOf, misclosure, firstNumerator, firstRounded, corrected, firstRest, misclosuresOf, numeratorsOf, roundedOf, restsOf, firstLengths, givenRows, firstRows, firstPassRows, firstPassVerdict}
 use Rattle.pass_rules.specs.Pass.{given}
-use Rattle.pass_rules.proofs.FirstAccepted.{Entries, entries-passed}
-use Rattle.pass_rules.proofs.PassRows.{none-judged, one-judged}
-use Rattle.pass_rules.proofs.WithinRange as range
-use Rattle.pass_steps.specs.Premises.{Angles, Within}
 use Rattle.pass_rules.specs.Promises.{FirstGiven, FirstLent, firstLent, firstSlices, firstLengthsLent, firstAnswer, firstValuesOf, firstValues, FirstPromise, firstVerdictOf, FirstPromiseOf}
-use Rattle.pass_steps.specs.Steps.{StoredIf, sameLength, numeratorsFrom}
+use Rattle.pass_rules.proofs.{FirstAccepted.Entries, FirstAccepted.entries-passed, PassRows.none-judged, PassRows.one-judged}
+use Rattle.pass_rules.proofs.WithinRange as range
+use Rattle.pass_steps.specs.{Premises.Angles, Premises.Within, Steps.StoredIf, Steps.sameLength, Steps.numeratorsFrom}
 use Rattle.pass_first.specs.Steps.{tenthsFrom, tenthsOf, restsFrom, FirstWork, firstWork, withRounds, firstFrom}
-use Rattle.pass_steps.proofs.Fitting.{beside}
-use Rattle.pass_steps.proofs.Judged.{kept}
+use Rattle.pass_steps.proofs.{Fitting.beside, Judged.kept}
 use Rattle.pass_steps.proofs.StepLaws.{listed-at, listed-within, listed-after, condition-ext, numerator-ext}
 
 -- ---- what the steps give from the misclosures are the values of the definitions

@@ -1,27 +1,13 @@
 -- The steps of the first pass, from its misclosures w within the limit: what each gives, and how large it is. Assumes nothing.
-use mathlib.Core.Path.{_≡_, _∙_}
-use mathlib.Core.List.{List}
-use Prim.Native.Nat.{ℕ, zero, suc, _^_, _≤_}
-use native.Mathlib.Nat.{le-trans}
-use native.Mathlib.Omega.{arith}
-use lib.Dec.{lit≤}
-use lib.IntN.{ℤ, natAbs}
-use lib.ListN.{length}
-use Rattle.whole.specs.Lists.{listed}
-use Rattle.whole.specs.Quotient.{roundedQuotient}
-use Rattle.whole.specs.Sums.{vector}
+use Rattle.vocabulary.specs.{_≡_, _∙_, List, ℕ, zero, suc, _^_, _≤_, le-trans, arith, lit≤, ℤ, natAbs, length}
+use Rattle.whole.specs.{Lists.listed, Quotient.roundedQuotient, Sums.vector}
 use Rattle.whole.proofs.Quotient.{rounded-within}
 use Rattle.refusals.specs.Ranges.{mostLimit}
-use Rattle.figures.specs.declared.Figure.{Figure}
-use Rattle.figures.specs.declared.Target.{Target}
+use Rattle.figures.specs.{declared.Figure.Figure, declared.Target.Target, Figure.denominator, Figure.angleCount, Numerators.numerator}
 use Rattle.figures.specs.declared.Target.the-variants.{HalfTurn, FullTurn, FixedAngle, NoCondition}
-use Rattle.figures.specs.Figure.{denominator, angleCount}
-use Rattle.figures.specs.Numerators.{numerator}
 use Rattle.pass_rules.specs.FirstPass.{shouldBe}
-use Rattle.pass_steps.specs.Premises.{Within, Angles}
-use Rattle.pass_steps.specs.Steps.{numeratorsFrom}
-use Rattle.pass_steps.proofs.Bounds.{numerator-magnitude}
-use Rattle.pass_steps.proofs.StepLaws.{listed-within, listed-after, length-of}
+use Rattle.pass_steps.specs.{Premises.Within, Premises.Angles, Steps.numeratorsFrom}
+use Rattle.pass_steps.proofs.{Bounds.numerator-magnitude, StepLaws.listed-within, StepLaws.listed-after, StepLaws.length-of}
 use Rattle.pass_first.specs.Steps.{tenthsFrom, tenthsOf}
 
 module _ (f : Figure) (w : List ℤ) (small : Within mostLimit w) where

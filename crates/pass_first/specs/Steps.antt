@@ -1,14 +1,7 @@
 -- What the steps of the first pass give, from its misclosures w.
-use Prim.Native.Nat.{ℕ}
-use mathlib.Core.List.{List, [], _∷_}
-use mathlib.Core.Path.{_≡_}
-use lib.IntN.{ℤ, _+ℤ_}
-use lib.ListN.{length}
-use Rattle.whole.specs.Lists.{listed}
-use Rattle.whole.specs.Quotient.{roundedQuotient}
-use Rattle.whole.specs.Sums.{vector}
-use Rattle.figures.specs.declared.Figure.{Figure}
-use Rattle.figures.specs.Figure.{denominator, angleCount, conditionCount}
+use Rattle.vocabulary.specs.{ℕ, List, [], _∷_, _≡_, ℤ, _+ℤ_, length}
+use Rattle.whole.specs.{Lists.listed, Quotient.roundedQuotient, Sums.vector}
+use Rattle.figures.specs.{declared.Figure.Figure, Figure.denominator, Figure.angleCount, Figure.conditionCount}
 use Rattle.figures.specs.Numerators.{conditionSum, numerator}
 use Rattle.pass_rules.specs.Promises.{FirstLent, firstLent}
 use Rattle.pass_steps.specs.Steps.{numeratorsFrom, resultsFrom}

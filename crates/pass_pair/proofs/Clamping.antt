@@ -1,16 +1,8 @@
 -- A correction that is clamped: itself within the bound, and as far out of range as the correction itself beyond it. Assumes nothing.
-use mathlib.Core.Path.{_≡_, refl, sym, ap, _∙_, subst}
-use mathlib.Core.Bool.{Bool, true, false, cond, _||_}
-use Prim.Native.Nat.{ℕ, zero, suc, _+_, _-_, _^_, _≤_, _<_}
-use native.Mathlib.Nat.{le-refl}
-use native.Mathlib.Omega.{arith}
-use borrow.Author.Tests.{ltb-true, ltb-false, lt-ltb, le-ltb}
-use lib.Dec.{T, ltb}
-use lib.IntN.{ℤ, pos, negsuc, negℤ, natAbs, _+ℤ_}
-use lib.Signed.{ltZ}
+use Rattle.vocabulary.specs.{_≡_, refl, sym, ap, _∙_, subst, Bool, true, false, cond, _||_, ℕ, zero, suc, _+_, _-_, _^_, _≤_, _<_, le-refl}
+use Rattle.vocabulary.specs.{arith, ltb-true, ltb-false, lt-ltb, le-ltb, T, ltb, ℤ, pos, negsuc, negℤ, natAbs, _+ℤ_, ltZ}
 use Rattle.whole.proofs.Magnitudes.{natAbs-withSign}
-use Rattle.wide.specs.Wide.{radix, sizeOf, signed}
-use Rattle.wide.specs.declared.Size.{Size}
+use Rattle.wide.specs.{Wide.radix, Wide.sizeOf, Wide.signed, declared.Size.Size}
 use Rattle.pass_pair.specs.Pair.{mostTenths, clampedSize, clamped}
 
 -- ---- Its size

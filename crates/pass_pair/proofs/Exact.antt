@@ -1,9 +1,5 @@
 -- That two words hold every step of the numerator, from bounds of what goes in. Assumes nothing.
-use mathlib.Core.Path.{_≡_}
-use Prim.Native.Nat.{ℕ, _^_, _≤_, _<_}
-use native.Mathlib.Nat.{lt-of-le-of-lt}
-use lib.Dec.{lit<}
-use lib.IntN.{ℤ, natAbs, _+ℤ_, _-ℤ_, _*ℤ_}
+use Rattle.vocabulary.specs.{_≡_, ℕ, _^_, _≤_, _<_, lt-of-le-of-lt, lit<, ℤ, natAbs, _+ℤ_, _-ℤ_, _*ℤ_}
 use Rattle.whole.specs.Quotient.{roundedQuotient}
 use Rattle.whole.proofs.Ring.{ring, _≐_, _⊕_, _⊖_, _⊗_}
 use Rattle.wide.specs.Wide.{held}

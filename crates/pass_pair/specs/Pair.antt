@@ -1,10 +1,7 @@
 -- Two sine conditions together: document 02, M-100. "With A, B the reduced coefficients of pole and side and [AB] a sum of products, the
 -- exact correction in tenths is −2400 times (A·([BB]·Wa − [AB]·Wb) + B·([AA]·Wb − [AB]·Wa)) over the determinant [AA][BB] −
 -- [AB]²."
-use mathlib.Core.Bool.{cond}
-use Prim.Native.Nat.{ℕ}
-use lib.Dec.{ltb}
-use lib.IntN.{ℤ, natAbs, _+ℤ_, _-ℤ_, _*ℤ_}
+use Rattle.vocabulary.specs.{cond, ℕ, ltb, ℤ, natAbs, _+ℤ_, _-ℤ_, _*ℤ_}
 use Rattle.whole.specs.Quotient.{withSign, roundedQuotient}
 use Rattle.wide.specs.Wide.{held}
 use Rattle.wide_words.specs.Words.{highWord, lowWord, reached}

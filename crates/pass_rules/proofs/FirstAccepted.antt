@@ -1,20 +1,11 @@
 -- What an accepted first pass says of its sheet, row by row. Assumes nothing.
-use mathlib.Core.List.{List}
-use mathlib.Core.Path.{_≡_}
-use Prim.Native.Nat.{ℕ, _≤_, _<_}
-use lib.IntN.{pos, natAbs}
-use lib.ListN.{length, getD}
-use lib.Signed.{_≤ℤ_}
+use Rattle.vocabulary.specs.{List, _≡_, ℕ, _≤_, _<_, pos, natAbs, length, getD, _≤ℤ_}
 use Rattle.whole.specs.Lists.{listed}
-use Rattle.refusals.specs.declared.Verdict.the-variants.{Passed}
-use Rattle.refusals.specs.Order.{Row, judged}
+use Rattle.refusals.specs.{declared.Verdict.the-variants.Passed, Order.Row, Order.judged, Table.sumOfAll, Table.fixedSum}
 use Rattle.refusals.specs.Ranges.{leastAngle, mostAngle, mostLimit, leastRounds, mostRounds}
-use Rattle.refusals.specs.Table.{sumOfAll, fixedSum}
-use Rattle.refusals.proofs.InSteps.{both-parts}
+use Rattle.refusals.proofs.{InSteps.both-parts, Rows.none-holds}
 use Rattle.refusals.proofs.Nowhere.{same-lengths, limit-within, angles-most, rounds-within, fixed-most, fixed-summed}
-use Rattle.refusals.proofs.Rows.{none-holds}
-use Rattle.figures.specs.declared.Figure.{Figure}
-use Rattle.figures.specs.Figure.{angleCount, conditionCount}
+use Rattle.figures.specs.{declared.Figure.Figure, Figure.angleCount, Figure.conditionCount}
 use Rattle.pass_rules.specs.FirstPass.{limitOf, misclosure, corrected, misclosuresOf, firstLengths, givenRows, workRows, firstRows}
 use Rattle.pass_rules.proofs.WithinRange as range
 

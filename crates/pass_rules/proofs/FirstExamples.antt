@@ -1,20 +1,11 @@
 -- Sheets of the first pass as the definitions answer them: document 01, "Sheets worked through", case 8, and the edges of its ranges;
 -- what its first printed sheet gives; those of document 02, M-101, M-102 and M-106; and accepted sheets of codes 2 and 3, whose values
 -- were worked out apart from the definitions (tests/independent.py). Assumes nothing.
-use mathlib.Core.Path.{_≡_, refl}
-use mathlib.Core.List.{List, [], _∷_, _++_, map}
-use Prim.Native.Nat.{ℕ}
-use lib.IntN.{ℤ, pos, negℤ}
-use lib.ListN.{replicate}
-use Rattle.whole.specs.Lists.{listed}
-use Rattle.whole.specs.Quotient.{roundedQuotient, nearest}
-use Rattle.whole.specs.Sums.{sum, dot, applied}
-use Rattle.refusals.specs.Numbers.{Told, told, verdictTold}
-use Rattle.refusals.specs.Order.{answerOf, lowestPlace}
-use Rattle.figures.specs.declared.Figure.{Figure}
+use Rattle.vocabulary.specs.{_≡_, refl, List, [], _∷_, _++_, map, ℕ, ℤ, pos, negℤ, replicate}
+use Rattle.whole.specs.{Lists.listed, Quotient.roundedQuotient, Quotient.nearest, Sums.sum, Sums.dot, Sums.applied}
+use Rattle.refusals.specs.{Numbers.Told, Numbers.told, Numbers.verdictTold, Order.answerOf, Order.lowestPlace}
+use Rattle.figures.specs.{declared.Figure.Figure, Figure.figureOf, Numerators.sumOver, Numerators.conditionSum, Numerators.numerator}
 use Rattle.figures.specs.declared.Figure.the-variants.{Quadrilateral, PointInTriangle, CentralQuadrilateral}
-use Rattle.figures.specs.Figure.{figureOf}
-use Rattle.figures.specs.Numerators.{sumOver, conditionSum, numerator}
 use Rattle.pass_rules.specs.FirstPass.{misclosure, firstNumerator, firstRounded, corrected, firstRest, misclosuresOf, numeratorsOf, roundedOf, correctedOf, restsOf, firstRows, firstPassRows, firstPassVerdict}
 
 abbrev minus : ℕ → ℤ

@@ -1,24 +1,15 @@
 -- The horizon of code 2, which is not listed (document 02, M-101): where the fixed angles sum as number 14 asks, corrections that cancel
 -- every listed misclosure close it too. Of both n, over the figure. Assumes nothing.
-use Prim.Native.Nat.{ℕ, zero, suc, _+_, _*_, _<_}
-use mathlib.Core.List.{List, [], _∷_}
-use mathlib.Core.Path.{_≡_, refl, sym, ap, ap₂, _∙_}
-use native.Mathlib.Omega.{arith}
-use lib.Dec.{T}
-use lib.IntN.{ℤ, pos, negℤ, _+ℤ_, _-ℤ_, _*ℤ_}
-use lib.ListN.{length, getD}
+use Rattle.vocabulary.specs.{ℕ, zero, suc, _+_, _*_, _<_, List, [], _∷_, _≡_, refl, sym, ap, ap₂, _∙_, arith, T, ℤ, pos, negℤ, _+ℤ_, _-ℤ_}
+use Rattle.vocabulary.specs.{_*ℤ_, length, getD}
 use Rattle.whole.specs.Sums.{sum}
 use Rattle.whole.proofs.Ring.{constant, _⊕_, _⊖_, _⊗_, ⊝_, _≐_, ring}
 use Rattle.whole.proofs.Sums.{sum-ext, sum-add, sum-scale, sum-front}
 use Rattle.refusals.specs.Table.{sumOfAll, fixedSum}
-use Rattle.figures.specs.declared.Figure.{Figure}
-use Rattle.figures.specs.declared.Target.{Target}
+use Rattle.figures.specs.{declared.Figure.Figure, declared.Target.Target, Numerators.conditionSum, Numerators.horizonSum}
 use Rattle.figures.specs.Figure.{description, conditionCount, fixedCount, targetOf}
-use Rattle.figures.specs.Numerators.{conditionSum, horizonSum}
-use Rattle.figures.proofs.Families.{isPointInside, point-inside, triangle-target}
-use Rattle.figures.proofs.Horizon.{horizon-and-corners}
-use Rattle.pass_rules.specs.FirstPass.{shouldBe, misclosure}
-use Rattle.pass_rules.specs.Pass.{given}
+use Rattle.figures.proofs.{Families.isPointInside, Families.point-inside, Families.triangle-target, Horizon.horizon-and-corners}
+use Rattle.pass_rules.specs.{FirstPass.shouldBe, FirstPass.misclosure, Pass.given}
 
 -- the values of a list, summed by the index
 sum-values : (values : List ℕ) → sum (length values) (λ i. pos (getD values i 0)) ≡ pos (sumOfAll values)

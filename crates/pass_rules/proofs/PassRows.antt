@@ -1,17 +1,8 @@
 -- The order of a pass, of both: number 1, and then the rows of the figure that code and n name. Assumes nothing.
-use mathlib.Core.Bool.{Bool}
-use mathlib.Core.List.{List, [], _∷_, map}
-use mathlib.Core.Path.{_≡_, refl, sym, ap, ap₂, _∙_}
-use Prim.Native.Nat.{ℕ}
-use native.Mathlib.Omega.{arith}
-use lib.Dec.{T}
-use Rattle.refusals.specs.declared.Refusal.{Refusal}
-use Rattle.refusals.specs.declared.Verdict.the-variants.{Passed, Failed}
-use Rattle.refusals.specs.Order.{Row, allInTable, answerOf, failsIf, verdictOf, judged}
-use Rattle.refusals.specs.Table.{figureRow}
-use Rattle.figures.specs.declared.Figure.{Figure}
-use Rattle.figures.specs.declared.Named.{Named}
-use Rattle.figures.specs.declared.Named.the-variants.{As, Nothing}
+use Rattle.vocabulary.specs.{Bool, List, [], _∷_, map, _≡_, refl, sym, ap, ap₂, _∙_, ℕ, arith, T}
+use Rattle.refusals.specs.{declared.Refusal.Refusal, declared.Verdict.the-variants.Passed, declared.Verdict.the-variants.Failed}
+use Rattle.refusals.specs.{Order.Row, Order.allInTable, Order.answerOf, Order.failsIf, Order.verdictOf, Order.judged, Table.figureRow}
+use Rattle.figures.specs.{declared.Figure.Figure, declared.Named.Named, declared.Named.the-variants.As, declared.Named.the-variants.Nothing}
 use Rattle.figures.specs.Figure.{figureOf, figureNames, ofNamed}
 use Rattle.figures.proofs.Naming.{none-named, one-named}
 

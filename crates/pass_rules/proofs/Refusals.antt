@@ -1,19 +1,11 @@
 -- The orders of both passes, for demand 1: every row is in the table, and the second pass's answer tells what its rows are judged to be.
 -- Of every code, n and sheet. Assumes nothing.
-use mathlib.Core.List.{List}
-use mathlib.Core.Path.{_≡_, refl, sym, ap}
-use Prim.Native.Nat.{ℕ}
-use lib.Dec.{T}
-use Rattle.refusals.specs.declared.Refusal.{Refusal}
-use Rattle.refusals.specs.declared.Verdict.{Verdict}
+use Rattle.vocabulary.specs.{List, _≡_, refl, sym, ap, ℕ, T}
+use Rattle.refusals.specs.{declared.Refusal.Refusal, declared.Verdict.Verdict, Numbers.verdictTold, Order.allInTable}
 use Rattle.refusals.specs.declared.Verdict.the-variants.{Passed, Failed}
-use Rattle.refusals.specs.Numbers.{verdictTold}
-use Rattle.refusals.specs.Order.{allInTable}
-use Rattle.figures.specs.declared.Named.{Named}
-use Rattle.figures.specs.declared.Named.the-variants.{As, Nothing}
+use Rattle.figures.specs.{declared.Named.Named, declared.Named.the-variants.As, declared.Named.the-variants.Nothing}
 use Rattle.figures.specs.Figure.{figureOf, ofNamed}
-use Rattle.pass_rules.specs.declared.second.SecondAnswer.the-variants.{Refused}
-use Rattle.pass_rules.specs.FirstPass.{firstRows, firstPassRows}
+use Rattle.pass_rules.specs.{declared.second.SecondAnswer.the-variants.Refused, FirstPass.firstRows, FirstPass.firstPassRows}
 use Rattle.pass_rules.specs.SecondPass.{SineEntries, secondRows, secondPassRows, secondPassVerdict, secondAnswerFor, secondPassAnswer, secondTold}
 use Rattle.pass_rules.proofs.PassRows.{rows-in-table, none-judged}
 

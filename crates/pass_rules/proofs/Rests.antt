@@ -1,19 +1,11 @@
 -- What the rounding leaves of a condition, in both passes: where the exact corrections cancel a misclosure, twice the rest is at most one
 -- tenth for each angle of the condition. Assumes nothing.
-use mathlib.Core.Path.{_≡_, ap, _∙_}
-use mathlib.Core.List.{List, [], _∷_}
-use Prim.Native.Nat.{ℕ, zero, suc, _*_, _≤_, _<_, zero-le}
-use native.Mathlib.Nat.{le-of-mul-le-mul-right}
-use native.Mathlib.Omega.{arith}
-use lib.ListN.{length}
-use lib.IntN.{ℤ, pos, negℤ, natAbs, _+ℤ_, _-ℤ_, _*ℤ_}
+use Rattle.vocabulary.specs.{_≡_, ap, _∙_, List, [], _∷_, ℕ, zero, suc, _*_, _≤_, _<_, zero-le, le-of-mul-le-mul-right, arith, length, ℤ}
+use Rattle.vocabulary.specs.{pos, negℤ, natAbs, _+ℤ_, _-ℤ_, _*ℤ_}
 use Rattle.whole.specs.Quotient.{roundedQuotient}
-use Rattle.whole.proofs.Magnitudes.{natAbs-add, natAbs-mul, natAbs-neg}
-use Rattle.whole.proofs.Quotient.{rounded-near}
+use Rattle.whole.proofs.{Magnitudes.natAbs-add, Magnitudes.natAbs-mul, Magnitudes.natAbs-neg, Quotient.rounded-near}
 use Rattle.whole.proofs.Ring.{ring, _≐_, _⊕_, _⊖_, _⊗_, ⊝_, constant}
-use Rattle.figures.specs.declared.Figure.{Figure}
-use Rattle.figures.specs.Figure.{membersOf}
-use Rattle.figures.specs.Numerators.{sumOver, conditionSum}
+use Rattle.figures.specs.{declared.Figure.Figure, Figure.membersOf, Numerators.sumOver, Numerators.conditionSum}
 
 sumOver-differences : (members : List ℕ) (x y : ℕ → ℤ) (c : ℤ) → sumOver members (λ i. x i -ℤ (y i *ℤ c)) ≡ sumOver members x -ℤ (sumOver members y *ℤ c)
 unfolding sumOver

@@ -1,8 +1,5 @@
 -- The lengths of the results, one by one. Assumes nothing.
-use mathlib.Core.List.{List}
-use mathlib.Core.Path.{_≡_, sym, ap, _∙_}
-use Prim.Native.Nat.{ℕ}
-use lib.ListN.{length, getD}
+use Rattle.vocabulary.specs.{List, _≡_, sym, ap, _∙_, ℕ, length, getD}
 use Rattle.whole.specs.Lists.{listed}
 use Rattle.whole.proofs.Lists.{listed-getD}
 

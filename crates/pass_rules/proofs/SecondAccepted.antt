@@ -1,26 +1,14 @@
 -- What an accepted second pass says of its sheet, row by row, and how large its numbers then are. Assumes nothing.
-use mathlib.Core.List.{List, [], _∷_, _++_}
-use mathlib.Core.Path.{_≡_, refl, sym, subst}
-use Prim.Native.Nat.{ℕ, zero, suc, _+_, _*_, _≤_, _<_, zero-le}
-use native.Mathlib.Decide.{decLt}
-use native.Mathlib.Omega.{arith}
-use lib.IntN.{ℤ, pos, negsuc, negℤ, natAbs, _-ℤ_, _*ℤ_}
-use lib.ListN.{length, getD, length-append, List·getD-append, List·getD-eq-default}
-use lib.Seq.{getD-append-add}
-use lib.Signed.{_≤ℤ_}
-use Rattle.whole.specs.Lists.{listed}
-use Rattle.whole.specs.Sums.{vector}
-use Rattle.whole.proofs.Magnitudes.{natAbs-sub}
-use Rattle.whole.proofs.Ring.{ring, _≐_, _⊕_, _⊖_}
-use Rattle.refusals.specs.declared.Verdict.the-variants.{Passed}
-use Rattle.refusals.specs.Order.{Row, judged}
+use Rattle.vocabulary.specs.{List, [], _∷_, _++_, _≡_, refl, sym, subst, ℕ, zero, suc, _+_, _*_, _≤_, _<_, zero-le, decLt, arith, ℤ, pos}
+use Rattle.vocabulary.specs.{negsuc, negℤ, natAbs, _-ℤ_, _*ℤ_, length, getD, length-append, List·getD-append, List·getD-eq-default}
+use Rattle.vocabulary.specs.{getD-append-add, _≤ℤ_}
+use Rattle.whole.specs.{Lists.listed, Sums.vector}
+use Rattle.whole.proofs.{Magnitudes.natAbs-sub, Ring.ring, Ring._≐_, Ring._⊕_, Ring._⊖_}
+use Rattle.refusals.specs.{declared.Verdict.the-variants.Passed, Order.Row, Order.judged, Table.resultsRow}
 use Rattle.refusals.specs.Ranges.{leastAngle, mostAngle, leastRounds, mostRounds, mostLogSine, mostDifference, mostTolerance}
-use Rattle.refusals.specs.Table.{resultsRow}
-use Rattle.refusals.proofs.InSteps.{both-parts}
+use Rattle.refusals.proofs.{InSteps.both-parts, Rows.none-holds}
 use Rattle.refusals.proofs.Nowhere.{same-lengths, limit-within, tolerance-kept, squares-not-zero, angles-most, rounds-within, log-sines-most, differences-within, between}
-use Rattle.refusals.proofs.Rows.{none-holds}
-use Rattle.figures.specs.declared.Figure.{Figure}
-use Rattle.figures.specs.Figure.{SineCondition, angleCount, conditionCount, pole, side}
+use Rattle.figures.specs.{declared.Figure.Figure, Figure.SineCondition, Figure.angleCount, Figure.conditionCount, Figure.pole, Figure.side}
 use Rattle.figures.specs.Numerators.{mostMembers}
 use Rattle.figures.proofs.Figures.{member-count}
 use Rattle.pass_rules.specs.Pass.{given}

@@ -1,19 +1,11 @@
 -- Sheets of the second pass as the definitions answer them: document 01, "Sheets worked through", case 9 and its printed sheet of kind 2,
 -- and the edges of the ranges; halves; and accepted sheets of codes 2 and 3, whose values were worked out apart from the definitions
 -- (tests/independent.py). Assumes nothing.
-use mathlib.Core.Path.{_≡_, refl}
-use mathlib.Core.List.{List, [], _∷_, _++_, map}
-use Prim.Native.Nat.{ℕ, zero, suc, _+_}
-use lib.ListN.{replicate}
-use lib.IntN.{ℤ, pos, negℤ}
-use Rattle.whole.specs.Lists.{listed}
-use Rattle.whole.specs.Quotient.{nearest, roundedQuotient}
-use Rattle.whole.specs.Sums.{sum, dot, applied}
-use Rattle.refusals.specs.declared.Refusal.{Refusal}
-use Rattle.refusals.specs.Order.{answerOf, lowestPlace}
-use Rattle.figures.specs.declared.Figure.{Figure}
+use Rattle.vocabulary.specs.{_≡_, refl, List, [], _∷_, _++_, map, ℕ, zero, suc, _+_, replicate, ℤ, pos, negℤ}
+use Rattle.whole.specs.{Lists.listed, Quotient.nearest, Quotient.roundedQuotient, Sums.sum, Sums.dot, Sums.applied}
+use Rattle.refusals.specs.{declared.Refusal.Refusal, Order.answerOf, Order.lowestPlace}
+use Rattle.figures.specs.{declared.Figure.Figure, Figure.angleCount, Figure.figureOf}
 use Rattle.figures.specs.declared.Figure.the-variants.{Quadrilateral, PointInTriangle, CentralQuadrilateral}
-use Rattle.figures.specs.Figure.{angleCount, figureOf}
 use Rattle.figures.specs.Numerators.{conditionSum, sumOver, numerator, reducedCoefficient}
 use Rattle.pass_rules.specs.declared.second.SecondAnswer.{SecondAnswer}
 use Rattle.pass_rules.specs.declared.second.SecondAnswer.the-variants.{Done, Refused}
@@ -88,8 +80,7 @@ abbrev gives : Sheet → SecondAnswer → Answered
 gives given answer = record { given = given; answer = answer }
 
 abbrev sheets : List Answered
-sheets =
-    gives printed (Done (pos 100) (pos 0) 0 24315176)
+sheets = gives printed (Done (pos 100) (pos 0) 0 24315176)
     -- case 9: all differences 0, with W 100 and with W 0
     ∷ gives (quadrilateral 10 1620000 (replicate 8 (pos 0))) (Refused Refusal.SumOfSquaresIsZero)
     ∷ gives (sheet 1 0 (lengthsOf 8 3) 10 (replicate 8 1620000) (replicate 8 1) (replicate 8 98494850) (replicate 8 (pos 0))) (Refused Refusal.SumOfSquaresIsZero)

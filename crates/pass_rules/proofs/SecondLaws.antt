@@ -1,19 +1,14 @@
 -- The second corrections of any sheet, over the figure: what they are with one sine condition and with two, that they change no linear
 -- condition, so that a rest is small, that they cancel each sine misclosure, to what they are orthogonal, and that the formula for two
 -- covers that for one. In whole numbers, as numerators over S or the determinant; cites the figures' theorems. Assumes nothing.
-use mathlib.Core.Bool.{Bool, true, false, cond}
-use mathlib.Core.Path.{_≡_, refl, sym, ap, _∙_, subst}
-use Prim.Native.Nat.{ℕ, suc, _*_, _≤_, _<_}
-use lib.ListN.{length}
-use lib.IntN.{ℤ, pos, negℤ, natAbs, _-ℤ_, _*ℤ_, +ℤ-idl, *ℤ-zero}
-use lib.Signed.{_≤ℤ_}
+use Rattle.vocabulary.specs.{Bool, true, false, cond, _≡_, refl, sym, ap, _∙_, subst, ℕ, suc, _*_, _≤_, _<_, length, ℤ, pos, negℤ, natAbs}
+use Rattle.vocabulary.specs.{_-ℤ_, _*ℤ_, +ℤ-idl, *ℤ-zero, _≤ℤ_}
 use Rattle.whole.specs.Sums.{dot, squares}
 use Rattle.whole.proofs.Ring.{ring, _≐_, _⊕_, _⊖_, _⊗_, constant}
 use Rattle.whole.proofs.Sums.{dot-ext, dot-scale, squares-nonnegative}
 use Rattle.pass_pair.specs.Pair.{pairNumerator}
-use Rattle.figures.specs.declared.Figure.{Figure}
+use Rattle.figures.specs.{declared.Figure.Figure, Numerators.conditionSum}
 use Rattle.figures.specs.Figure.{denominator, angleCount, conditionCount, membersOf, pole, side, hasSide}
-use Rattle.figures.specs.Numerators.{conditionSum}
 use Rattle.figures.proofs.Theorem.{condition-agrees, multiple-closes, reduced-squares, combination-orthogonal}
 use Rattle.figures.proofs.TwoSines as two
 use Rattle.pass_rules.specs.SecondPass.{SineEntries, signedIn, reducedIn, secondReduced, sumOfSquares, sideSquares, sharedProducts, sineMisclosure, sideMisclosure, divisor, tenthsFactor, numeratorOfOne, numeratorOfTwo, secondNumerator, secondRounded, secondRest}

@@ -1,10 +1,6 @@
 -- How many reduced coefficients of the side condition a figure has, by how many sides of it are known. Assumes nothing.
-use mathlib.Core.Bool.{Bool, true, false, cond}
-use mathlib.Core.Path.{_≡_, refl, sym, ap, _∙_, subst}
-use borrow.Author.Tests.{eq-eqb, ne-eqb}
-use lib.Dec.{T, eqb}
-use Rattle.figures.specs.declared.Figure.{Figure}
-use Rattle.figures.specs.Figure.{angleCount, hasSide, sideCount}
+use Rattle.vocabulary.specs.{Bool, true, false, cond, _≡_, refl, sym, ap, _∙_, subst, eq-eqb, ne-eqb, T, eqb}
+use Rattle.figures.specs.{declared.Figure.Figure, Figure.angleCount, Figure.hasSide, Figure.sideCount}
 use Rattle.figures.proofs.Figures.{no-sides, side-none}
 use Rattle.pass_rules.specs.SecondPass.{sideReducedCount}
 

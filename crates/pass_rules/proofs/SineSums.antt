@@ -1,16 +1,9 @@
 -- The sums of a sine condition: no known side stands in the pole, and of a side condition that a figure has not every sum is 0. Assumes
 -- nothing.
-use mathlib.Core.Bool.{false}
-use mathlib.Core.Path.{_≡_, refl, ap, ap₂, _∙_}
-use mathlib.Core.List.{[]}
-use Prim.Native.Nat.{ℕ, _<_}
-use native.Mathlib.Decide.{decLt}
-use native.Mathlib.Omega.{arith}
-use lib.IntN.{ℤ, pos, _+ℤ_, _*ℤ_}
-use lib.ListN.{replicate, length-replicate, getD-replicate, List·getD-eq-default}
+use Rattle.vocabulary.specs.{false, _≡_, refl, ap, ap₂, _∙_, [], ℕ, _<_, decLt, arith, ℤ, pos, _+ℤ_, _*ℤ_, replicate, length-replicate}
+use Rattle.vocabulary.specs.{getD-replicate, List·getD-eq-default}
 use Rattle.whole.specs.Sums.{sum, dot, vector}
-use Rattle.whole.proofs.Ring.{ring, _≐_, _⊕_, _⊗_, constant}
-use Rattle.whole.proofs.Sums.{dot-comm, dot-zero}
+use Rattle.whole.proofs.{Ring.ring, Ring._≐_, Ring._⊕_, Ring._⊗_, Ring.constant, Sums.dot-comm, Sums.dot-zero}
 use Rattle.figures.specs.declared.Figure.{Figure}
 use Rattle.figures.specs.Figure.{SineCondition, angleCount, pole, side, hasSide, noSine}
 use Rattle.figures.proofs.Figures.{pole-sides, side-absent}

@@ -1,16 +1,8 @@
 -- The starred cases of document 01, "Sheets worked through", in one table under one statement: what the definitions give that the passes
 -- promise is what the document states. Assumes nothing.
-use mathlib.Core.Path.{_≡_, refl}
-use mathlib.Core.List.{List, [], _∷_, map}
-use Prim.Native.Nat.{ℕ}
-use lib.IntN.{ℤ, pos, negℤ}
-use lib.ListN.{replicate}
-use Rattle.whole.specs.Lists.{listed}
-use Rattle.whole.specs.Quotient.{nearest, roundedQuotient}
-use Rattle.whole.specs.Sums.{sum, dot, applied}
-use Rattle.refusals.specs.Numbers.{verdictTold}
-use Rattle.refusals.specs.Order.{verdictOf}
-use Rattle.refusals.specs.Table.{sineMisclosureRow}
+use Rattle.vocabulary.specs.{_≡_, refl, List, [], _∷_, map, ℕ, ℤ, pos, negℤ, replicate}
+use Rattle.whole.specs.{Lists.listed, Quotient.nearest, Quotient.roundedQuotient, Sums.sum, Sums.dot, Sums.applied}
+use Rattle.refusals.specs.{Numbers.verdictTold, Order.verdictOf, Table.sineMisclosureRow}
 use Rattle.figures.specs.declared.Figure.the-variants.{Quadrilateral, PointInTriangle, CentralTriangle}
 use Rattle.figures.specs.Figure.{denominator, pole}
 use Rattle.figures.specs.Numerators.{conditionSum, sumOver, numerator, reducedCoefficient}

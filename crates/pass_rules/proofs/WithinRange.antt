@@ -1,14 +1,8 @@
 -- What rows 6 and 7 say, where they hold nowhere, of values that are listed by a rule; and L or e in force. Assumes nothing.
-use mathlib.Core.Path.{sym, subst}
-use Prim.Native.Nat.{ℕ, zero, suc, _≤_, _<_}
-use lib.Dec.{leb→le}
-use lib.IntN.{ℤ, pos, negsuc, natAbs}
-use lib.Signed.{_≤ℤ_}
+use Rattle.vocabulary.specs.{sym, subst, ℕ, zero, suc, _≤_, _<_, leb→le, ℤ, pos, negsuc, natAbs, _≤ℤ_}
 use Rattle.whole.specs.Lists.{listed}
 use Rattle.whole.proofs.Lists.{length-listed, getD-listed}
-use Rattle.refusals.specs.Order.{HoldsNowhere}
-use Rattle.refusals.specs.Ranges.{leastAngle, mostAngle}
-use Rattle.refusals.specs.Table.{misclosuresRow, resultsRow}
+use Rattle.refusals.specs.{Order.HoldsNowhere, Ranges.leastAngle, Ranges.mostAngle, Table.misclosuresRow, Table.resultsRow}
 use Rattle.refusals.proofs.Nowhere.{misclosures-within, results-within, between}
 use Rattle.pass_rules.specs.Pass.{inForce}
 

@@ -1,20 +1,12 @@
 -- The first pass: document 01, "The two passes", and document 02, M-101 for number 14, M-102 for the default limit and M-106 for the
 -- rounds of each angle. Angles and conditions are used by their indices, counted from 0.
-use Prim.Native.Nat.{ℕ, suc}
-use mathlib.Core.List.{List, [], _∷_, _++_}
-use lib.IntN.{ℤ, pos, natAbs, _+ℤ_, _-ℤ_}
-use Rattle.whole.specs.Lists.{listed}
-use Rattle.whole.specs.Quotient.{roundedQuotient}
-use Rattle.refusals.specs.declared.Verdict.{Verdict}
-use Rattle.refusals.specs.Numbers.{numbered}
-use Rattle.refusals.specs.Order.{Row, judged}
-use Rattle.refusals.specs.Ranges.{mostLimit, mostRounds}
+use Rattle.vocabulary.specs.{ℕ, suc, List, [], _∷_, _++_, ℤ, pos, natAbs, _+ℤ_, _-ℤ_}
+use Rattle.whole.specs.{Lists.listed, Quotient.roundedQuotient}
+use Rattle.refusals.specs.{declared.Verdict.Verdict, Numbers.numbered, Order.Row, Order.judged, Ranges.mostLimit, Ranges.mostRounds}
 use Rattle.refusals.specs.Table.{figureRow, lengthsRow, limitOrToleranceRow, anglesRow, roundsRow, fixedRow, fixedSumRow, misclosuresRow, resultsRow}
-use Rattle.figures.specs.declared.Figure.{Figure}
-use Rattle.figures.specs.declared.Target.{Target}
+use Rattle.figures.specs.{declared.Figure.Figure, declared.Target.Target, Numerators.conditionSum, Numerators.numerator}
 use Rattle.figures.specs.declared.Target.the-variants.{HalfTurn, FullTurn, FixedAngle, NoCondition}
 use Rattle.figures.specs.Figure.{denominator, angleCount, conditionCount, fixedCount, targetOf, figureOf, figureNames, ofNamed}
-use Rattle.figures.specs.Numerators.{conditionSum, numerator}
 use Rattle.pass_rules.specs.Pass.{inForce, given}
 
 -- the misclosure limit L: 0 stands for the default 90 (document 02, M-102)

@@ -1,8 +1,5 @@
 -- What both passes share: document 01, "Units and ranges" and "The two passes". Angles are used by their indices, counted from 0.
-use Prim.Native.Nat.{ℕ, zero, suc}
-use mathlib.Core.List.{List}
-use lib.IntN.{ℤ, pos}
-use lib.ListN.{getD}
+use Rattle.vocabulary.specs.{ℕ, zero, suc, List, ℤ, pos, getD}
 
 -- L or e in force: 0 stands for the default
 abbrev pub inForce : (default value : ℕ) → ℕ

@@ -1,14 +1,8 @@
 -- What the two passes promise: document 01, "The two passes" and "What the promises must decide", and document 02, M-106, for the rounds
 -- of each angle. What is given, what is lent, what is answered, and what everything lent holds in the end.
-use Prim.Native.Nat.{ℕ}
-use mathlib.Core.List.{List, [], _∷_}
-use lib.IntN.{ℤ}
-use lib.ListN.{length}
-use Rattle.refusals.specs.declared.Verdict.{Verdict}
-use Rattle.refusals.specs.Order.{Row, judged}
-use Rattle.refusals.specs.Promise.{Promised, stored}
-use Rattle.figures.specs.declared.Figure.{Figure}
-use Rattle.figures.specs.Figure.{figureOf, ofNamed}
+use Rattle.vocabulary.specs.{ℕ, List, [], _∷_, ℤ, length}
+use Rattle.refusals.specs.{declared.Verdict.Verdict, Order.Row, Order.judged, Promise.Promised, Promise.stored}
+use Rattle.figures.specs.{declared.Figure.Figure, Figure.figureOf, Figure.ofNamed}
 use Rattle.pass_rules.specs.declared.second.SecondAnswer.{SecondAnswer}
 use Rattle.pass_rules.specs.FirstPass.{firstRows, firstPassRows, firstPassVerdict, misclosuresOf, numeratorsOf, roundedOf, correctedOf, restsOf}
 use Rattle.pass_rules.specs.SecondPass.{SineEntries, secondRows, secondPassRows, secondPassVerdict, secondAnswerFor, secondPassAnswer, reducedOf, sideReducedOf, highNumeratorsOf, lowNumeratorsOf, secondRoundedOf, adjustedOf, secondRestsOf}

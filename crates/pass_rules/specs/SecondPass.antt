@@ -1,28 +1,17 @@
 -- The second pass: document 01, "The two passes", and document 02, M-100 for the figure that has two sine conditions and M-106 for the
 -- rounds of each angle. Angles and conditions are used by their indices, counted from 0.
-use Prim.Native.Nat.{ℕ, _/_, _%_, _^_}
-use mathlib.Core.Bool.{cond}
-use mathlib.Core.List.{List, [], _∷_, _++_}
-use lib.IntN.{ℤ, pos, negℤ, natAbs, _+ℤ_, _-ℤ_, _*ℤ_}
-use lib.ListN.{length}
-use Rattle.whole.specs.Lists.{listed}
-use Rattle.whole.specs.Quotient.{roundedQuotient}
-use Rattle.whole.specs.Sums.{dot, squares, vector}
+use Rattle.vocabulary.specs.{ℕ, _/_, _%_, _^_, cond, List, [], _∷_, _++_, ℤ, pos, negℤ, natAbs, _+ℤ_, _-ℤ_, _*ℤ_, length}
+use Rattle.whole.specs.{Lists.listed, Quotient.roundedQuotient, Sums.dot, Sums.squares, Sums.vector}
 use Rattle.wide_words.specs.Words.{highWord, lowWord}
 use Rattle.pass_pair.specs.Pair.{pairNumerator}
-use Rattle.refusals.specs.declared.Verdict.{Verdict}
-use Rattle.refusals.specs.declared.Verdict.the-variants.{Passed, Failed}
-use Rattle.refusals.specs.declared.Refusal.{Refusal}
-use Rattle.refusals.specs.Numbers.{Told, told, refusalTold}
-use Rattle.refusals.specs.Order.{Row, judged}
+use Rattle.refusals.specs.{declared.Verdict.Verdict, declared.Verdict.the-variants.Passed, declared.Verdict.the-variants.Failed}
+use Rattle.refusals.specs.{declared.Refusal.Refusal, Numbers.Told, Numbers.told, Numbers.refusalTold, Order.Row, Order.judged}
 use Rattle.refusals.specs.Ranges.{mostTolerance, mostRounds}
 use Rattle.refusals.specs.Table.{figureRow, lengthsRow, limitOrToleranceRow, anglesRow, roundsRow, resultsRow, sineEntriesRow, sineMisclosureRow, sumOfSquaresRow}
-use Rattle.figures.specs.declared.Figure.{Figure}
+use Rattle.figures.specs.{declared.Figure.Figure, Numerators.conditionSum, Numerators.reducedCoefficient}
 use Rattle.figures.specs.Figure.{SineCondition, denominator, angleCount, conditionCount, sideCount, pole, side, hasSide, figureOf, figureNames, ofNamed}
-use Rattle.figures.specs.Numerators.{conditionSum, reducedCoefficient}
-use Rattle.pass_rules.specs.declared.second.SecondAnswer.{SecondAnswer}
+use Rattle.pass_rules.specs.{declared.second.SecondAnswer.SecondAnswer, Pass.inForce, Pass.given}
 use Rattle.pass_rules.specs.declared.second.SecondAnswer.the-variants.{Done, Refused}
-use Rattle.pass_rules.specs.Pass.{inForce, given}
 
 -- the sine tolerance e: 0 stands for 10
 abbrev pub toleranceOf : ℕ → ℕ

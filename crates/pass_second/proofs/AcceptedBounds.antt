@@ -1,14 +1,9 @@
 -- How large the numbers of an accepted second pass are: its misclosures, its coefficients, S or the determinant, and its numerators.
 -- Assumes nothing.
-use mathlib.Core.Bool.{Bool, true, false, cond}
-use mathlib.Core.List.{List}
-use Prim.Native.Nat.{ℕ, _*_, _^_, _≤_, _<_}
-use native.Mathlib.Nat.{le-refl, le-trans, lt-of-le-of-lt, mul-le-mul-right}
-use lib.Dec.{lit<}
-use lib.IntN.{ℤ, pos, negℤ, natAbs, _*ℤ_}
+use Rattle.vocabulary.specs.{Bool, true, false, cond, List, ℕ, _*_, _^_, _≤_, _<_, le-refl, le-trans, lt-of-le-of-lt, mul-le-mul-right}
+use Rattle.vocabulary.specs.{lit<, ℤ, pos, negℤ, natAbs, _*ℤ_}
 use Rattle.whole.specs.Sums.{dot}
-use Rattle.whole.proofs.Ring.{_⊕_, _⊖_, _⊗_}
-use Rattle.whole.proofs.Sums.{sum-magnitude}
+use Rattle.whole.proofs.{Ring._⊕_, Ring._⊖_, Ring._⊗_, Sums.sum-magnitude}
 use Rattle.wide.proofs.Bounds.{magnitude-reaches}
 use Rattle.pass_pair.specs.Pair.{determinant}
 use Rattle.refusals.specs.Ranges.{mostDifference}

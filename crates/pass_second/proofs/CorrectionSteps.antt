@@ -1,28 +1,14 @@
 -- The exact corrections of the second pass, as the code works them: what a clamped quotient is, how the angles are filled in, and that one
 -- sine condition and two make the corrections of the definitions. Assumes nothing.
-use mathlib.Core.Path.{_≡_, sym, ap, ap₂, _∙_, subst}
-use mathlib.Core.Bool.{true, false}
-use mathlib.Core.List.{List}
-use Prim.Native.Nat.{ℕ, suc, _+_, _*_, _^_, _≤_, _<_}
-use native.Mathlib.Nat.{le-refl, le-trans}
-use native.Mathlib.Omega.{arith}
-use borrow.Author.Tests.{leb-true, leb-false, eq-eqb, ne-eqb}
-use lib.Dec.{T, lit≤}
-use lib.IntN.{ℤ, pos, negsuc, negℤ, natAbs, _*ℤ_}
-use lib.ListN.{length, set}
-use lib.Signed.{leZ}
-use Rattle.whole.specs.Lists.{listed}
-use Rattle.whole.specs.Sums.{vector}
+use Rattle.vocabulary.specs.{_≡_, sym, ap, ap₂, _∙_, subst, true, false, List, ℕ, suc, _+_, _*_, _^_, _≤_, _<_, le-refl, le-trans, arith}
+use Rattle.vocabulary.specs.{leb-true, leb-false, eq-eqb, ne-eqb, T, lit≤, ℤ, pos, negsuc, negℤ, natAbs, _*ℤ_, length, set, leZ}
+use Rattle.whole.specs.{Lists.listed, Sums.vector}
 use Rattle.whole.proofs.Lists.{Filled, filled-none, filled-more, filled-all, listed-ext}
 use Rattle.whole.proofs.Ring.{ring, _≐_, _⊗_}
-use Rattle.wide.specs.declared.Size.{Size}
-use Rattle.wide.specs.Wide.{radix, sizeOf, valueOf}
-use Rattle.pass_pair.specs.declared.Pair.{Pair}
-use Rattle.pass_pair.specs.declared.PairFactors.{PairFactors}
-use Rattle.pass_pair.specs.declared.PairCorrection.{PairCorrection}
+use Rattle.wide.specs.{declared.Size.Size, Wide.radix, Wide.sizeOf, Wide.valueOf}
+use Rattle.pass_pair.specs.{declared.Pair.Pair, declared.PairFactors.PairFactors, declared.PairCorrection.PairCorrection}
 use Rattle.pass_pair.specs.Pair.{firstFactor, secondFactor, determinant, mostTenths, clamped}
-use Rattle.pass_pair.proofs.Clamping.{size-large}
-use Rattle.pass_pair.proofs.Exact.{Bounded, correction-exact}
+use Rattle.pass_pair.proofs.{Clamping.size-large, Exact.Bounded, Exact.correction-exact}
 use Rattle.pass_steps.specs.Premises.{Within, mostDenominator, mostReduced}
 use Rattle.pass_second.specs.Steps.{SmallPair, factorOf, exactFrom, divisorFrom, exactCorrection, pairCorrection}
 use Rattle.pass_second.proofs.Exact.{product-magnitude}

@@ -1,11 +1,6 @@
 -- What the code makes of numbers that are small enough is exact, and is read back from its bits as it is. Assumes nothing.
-use mathlib.Core.Path.{_≡_, sym, ap₂, _∙_, subst}
-use Prim.Native.Nat.{ℕ, _*_, _^_, _≤_, _<_}
-use native.Mathlib.Nat.{lt-of-le-of-lt, mul-le-mul}
-use lib.IntN.{ℤ, natAbs, _*ℤ_}
-use mir.Syntax.{Width, w32, w64}
-use mir.Val.{SFits, toZ, ofZ, hbits}
-use mir.ValLaws.{toZ-ofZ}
+use Rattle.vocabulary.specs.{_≡_, sym, ap₂, _∙_, subst, ℕ, _*_, _^_, _≤_, _<_, lt-of-le-of-lt, mul-le-mul, ℤ, natAbs, _*ℤ_, Width, w32}
+use Rattle.vocabulary.specs.{w64, SFits, toZ, ofZ, hbits, toZ-ofZ-at}
 use Rattle.whole.proofs.Magnitudes.{natAbs-mul, magnitude-fits, widened, widens}
 
 pub record Exact (w : Width) (most : ℕ) (made exact : ℤ) : Type 0 where
@@ -14,7 +9,7 @@ pub record Exact (w : Width) (most : ℕ) (made exact : ℤ) : Type 0 where
   pub small : natAbs exact ≤ most
 
 pub is-exact : (w : Width) (most : ℕ) (made exact : ℤ) → most < 2 ^ hbits w → made ≡ exact → natAbs exact ≤ most → Exact w most made exact
-is-exact w most made exact room same small = record { fits = fits; read = toZ-ofZ w made fits ∙ same; small = small }
+is-exact w most made exact room same small = record { fits = fits; read = toZ-ofZ-at w made fits ∙ same; small = small }
   where
     fits : SFits w made
     fits = subst (SFits w) (sym same) (magnitude-fits w exact (lt-of-le-of-lt small room))
@@ -31,7 +26,7 @@ module _ {most : ℕ} (made : ℤ) {exact : ℤ} (e : Exact w32 most made exact)
   wide-fits = widens w32 w64 made tt (e .fits)
 
   pub wide-read : toZ w64 (ofZ w64 (toZ w32 (ofZ w32 made))) ≡ exact
-  wide-read = widened w32 w64 made tt (e .fits) ∙ sym (toZ-ofZ w32 made (e .fits)) ∙ e .read
+  wide-read = widened w32 w64 made tt (e .fits) ∙ sym (toZ-ofZ-at w32 made (e .fits)) ∙ e .read
 
   pub wide-small : natAbs (toZ w64 (ofZ w64 (toZ w32 (ofZ w32 made)))) ≤ most
   wide-small = subst (λ (z : ℤ). natAbs z ≤ most) (sym wide-read) (e .small)

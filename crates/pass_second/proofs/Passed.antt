@@ -1,23 +1,13 @@
 -- Where number 7 passes, a rounded correction is the difference of two angles. Assumes nothing.
-use mathlib.Core.Path.{_≡_, sym, subst}
-use mathlib.Core.List.{List}
-use Prim.Native.Nat.{ℕ, _≤_, _<_, zero-le}
-use native.Mathlib.Decide.{decLt}
-use native.Mathlib.Omega.{arith}
-use lib.IntN.{ℤ, pos, natAbs, _+ℤ_, _-ℤ_}
-use lib.ListN.{length, List·getD-eq-default}
+use Rattle.vocabulary.specs.{_≡_, sym, subst, List, ℕ, _≤_, _<_, zero-le, decLt, arith, ℤ, pos, natAbs, _+ℤ_, _-ℤ_, length}
+use Rattle.vocabulary.specs.{List·getD-eq-default}
 use Rattle.whole.specs.Sums.{vector}
-use Rattle.whole.proofs.Lists.{length-listed}
-use Rattle.whole.proofs.Magnitudes.{natAbs-sub}
-use Rattle.whole.proofs.Ring.{ring, _≐_, _⊕_, _⊖_}
-use Rattle.refusals.specs.declared.Verdict.the-variants.{Passed}
-use Rattle.refusals.specs.Order.{verdictOf}
-use Rattle.refusals.specs.Table.{resultsRow}
+use Rattle.whole.proofs.{Lists.length-listed, Magnitudes.natAbs-sub, Ring.ring, Ring._≐_, Ring._⊕_, Ring._⊖_}
+use Rattle.refusals.specs.{declared.Verdict.the-variants.Passed, Order.verdictOf, Table.resultsRow}
 use Rattle.judging.specs.Searches.{resultsOf}
 use Rattle.pass_rules.specs.Pass.{given}
 use Rattle.pass_steps.specs.Premises.{Within, Angles, mostSummed}
-use Rattle.pass_steps.proofs.Judged.{results-in-range, result-most}
-use Rattle.pass_steps.proofs.StepLaws.{listed-at}
+use Rattle.pass_steps.proofs.{Judged.results-in-range, Judged.result-most, StepLaws.listed-at}
 
 module _ (angles : List ℕ) (tenths : List ℤ) (as-many : length tenths ≡ length angles) (small : Angles angles)
     (passed : verdictOf (resultsRow (resultsOf angles tenths)) ≡ Passed) where

@@ -1,56 +1,33 @@
 -- From the steps of a second pass to what it promises, of a figure that is named. Assumes nothing.
-use mathlib.Core.Bool.{Bool, true, false, cond}
-use mathlib.Core.Path.{_≡_, refl, sym, ap, ap₂, _∙_, subst}
-use mathlib.Core.List.{List, [], _∷_, _++_}
-use Prim.Native.Nat.{ℕ, _^_, _≤_, _<_, zero-le}
-use native.Mathlib.Nat.{lt-of-le-of-lt}
-use native.Mathlib.Omega.{arith}
-use lib.Dec.{lit<}
-use lib.IntN.{ℤ, pos, natAbs}
-use lib.ListN.{getD}
-use lib.Signed.{_≤ℤ_}
-use Rattle.whole.specs.Lists.{listed}
-use Rattle.whole.specs.Sums.{dot, vector}
-use Rattle.wide.specs.declared.Size.{Size}
-use Rattle.wide.specs.Wide.{radix, sizeOf}
+use Rattle.vocabulary.specs.{Bool, true, false, cond, _≡_, refl, sym, ap, ap₂, _∙_, subst, List, [], _∷_, _++_, ℕ, _^_, _≤_, _<_, zero-le}
+use Rattle.vocabulary.specs.{lt-of-le-of-lt, arith, lit<, ℤ, pos, natAbs, getD, _≤ℤ_}
+use Rattle.whole.specs.{Lists.listed, Sums.dot, Sums.vector}
+use Rattle.wide.specs.{declared.Size.Size, Wide.radix, Wide.sizeOf}
 use Rattle.wide_words.proofs.Joining.{size-high, size-low}
-use Rattle.refusals.specs.declared.Refusal.{Refusal}
-use Rattle.refusals.specs.declared.Verdict.{Verdict}
-use Rattle.refusals.specs.declared.Verdict.the-variants.{Passed, Failed}
-use Rattle.refusals.specs.Order.{Row, verdictOf, judged}
-use Rattle.refusals.specs.Promise.{stored}
+use Rattle.refusals.specs.{declared.Refusal.Refusal, declared.Verdict.Verdict, Order.Row, Order.verdictOf, Order.judged, Promise.stored}
+use Rattle.refusals.specs.{declared.Verdict.the-variants.Passed, declared.Verdict.the-variants.Failed, Table.resultsRow}
 use Rattle.refusals.specs.Ranges.{mostDifference, mostTolerance}
-use Rattle.refusals.specs.Table.{resultsRow}
-use Rattle.refusals.proofs.Answers.{answer-of-one}
-use Rattle.refusals.proofs.InSteps.{judged-after-pass, judged-after-failure}
-use Rattle.refusals.proofs.Nowhere.{tolerance-kept}
+use Rattle.refusals.proofs.{Answers.answer-of-one, InSteps.judged-after-pass, InSteps.judged-after-failure, Nowhere.tolerance-kept}
 use Rattle.refusals.proofs.Rows.{none-holds}
 use Rattle.judging.specs.Searches.{resultsOf}
-use Rattle.figures.specs.declared.Figure.{Figure}
-use Rattle.figures.specs.declared.Named.{Named}
-use Rattle.figures.specs.declared.Named.the-variants.{As, Nothing}
+use Rattle.figures.specs.{declared.Figure.Figure, declared.Named.Named, declared.Named.the-variants.As, declared.Named.the-variants.Nothing}
 use Rattle.figures.specs.Figure.{SineCondition, denominator, angleCount, pole, side, hasSide, sideCount, figureOf, ofNamed}
 use Rattle.figures.proofs.Figures.{Signed, pole-signed, side-signed}
 use Rattle.pass_pair.specs.declared.Pair.{Pair}
-use Rattle.pass_rules.specs.declared.second.SecondAnswer.{SecondAnswer}
+use Rattle.pass_rules.specs.{declared.second.SecondAnswer.SecondAnswer, Pass.given}
 use Rattle.pass_rules.specs.declared.second.SecondAnswer.the-variants.{Done, Refused}
-use Rattle.pass_rules.specs.Pass.{given}
 use Rattle.pass_rules.specs.Promises.{SecondGiven, SecondLent, secondSlices, secondLengthsLent, secondVerdict, secondValuesOf, secondValues, SecondPromise, secondVerdictOf, SecondPromiseOf}
 use Rattle.pass_rules.specs.SecondPass.{SineEntries, toleranceOf, reducedIn, misclosureIn, differenceSquaresIn, secondReduced, sideReduced, sineMisclosure, sideMisclosure, sumOfSquares, sideSquares, sharedProducts, divisor, secondAdjusted, reducedOf, sideReducedCount, sideReducedOf, secondLengths, entryRows, sineRows, sineRowsOf, secondRows, secondPassRows, secondPassVerdict, secondAnswerOf, secondAnswerFor, secondPassAnswer}
-use Rattle.pass_rules.proofs.PassRows.{one-judged}
-use Rattle.pass_rules.proofs.SecondAccepted.{Entries, entries-passed, Kept}
+use Rattle.pass_rules.proofs.{PassRows.one-judged, SecondAccepted.Entries, SecondAccepted.entries-passed, SecondAccepted.Kept}
 use Rattle.pass_rules.proofs.SineSums.{pole-misclosure, no-misclosure}
 use Rattle.pass_steps.specs.Premises.{Angles, LogSines, Within, mostMisclosure, mostReduced}
 use Rattle.pass_steps.specs.Steps.{StoredIf, sameLength}
-use Rattle.pass_steps.proofs.Fitting.{beside}
-use Rattle.pass_steps.proofs.StepLaws.{listed-within}
-use Rattle.pass_second.specs.declared.sums.Sums.{Sums}
-use Rattle.pass_second.specs.Sines.{pairOf, sumsOf}
+use Rattle.pass_steps.proofs.{Fitting.beside, StepLaws.listed-within}
+use Rattle.pass_second.specs.{declared.sums.Sums.Sums, Sines.pairOf, Sines.sumsOf}
 use Rattle.pass_second.specs.Steps.{SmallPair, divisorFrom, tenthsFrom, SecondWork, secondWork, withRounds, secondFrom, answerBy}
-use Rattle.pass_second.proofs.SecondSteps.{divisor-is, results-same, values-same}
+use Rattle.pass_second.proofs.{SecondSteps.divisor-is, SecondSteps.results-same, SecondSteps.values-same, Tolerance.within-tolerance}
 use Rattle.pass_second.proofs.SineBounds.{angles-magnitude, squares-natural, squares-magnitude, reduced-magnitude, products-magnitude}
 use Rattle.pass_second.proofs.SumSteps.{both-misclosure, sides-magnitude}
-use Rattle.pass_second.proofs.Tolerance.{within-tolerance}
 
 -- ---- what is answered and what is stored
 

@@ -1,44 +1,24 @@
 -- The steps of the second pass, from the sums of both sine conditions and the reduced coefficients: what they give is what the definitions
 -- say. A correction that is clamped leaves number 7 as it is, and where number 7 passes none is clamped. Assumes nothing.
-use mathlib.Core.Bool.{Bool, true, false, cond, _||_}
-use mathlib.Core.Path.{_≡_, refl, sym, ap, ap₂, _∙_}
-use mathlib.Core.List.{List}
-use Prim.Native.Nat.{ℕ, zero, suc, _≤_, _<_}
-use native.Mathlib.Omega.{arith}
-use lib.Dec.{eqb}
-use lib.IntN.{ℤ, pos, natAbs, _+ℤ_, _-ℤ_, _*ℤ_}
-use lib.ListN.{length}
-use lib.Signed.{_≤ℤ_}
-use Rattle.whole.specs.Lists.{listed}
-use Rattle.whole.specs.Quotient.{roundedQuotient}
-use Rattle.whole.specs.Sums.{vector}
-use Rattle.whole.proofs.Lists.{length-listed, listed-ext}
-use Rattle.whole.proofs.Magnitudes.{natAbs-sub}
-use Rattle.whole.proofs.Ring.{ring, _≐_, _⊕_, _⊖_}
+use Rattle.vocabulary.specs.{Bool, true, false, cond, _||_, _≡_, refl, sym, ap, ap₂, _∙_, List, ℕ, zero, suc, _≤_, _<_, arith, eqb, ℤ, pos}
+use Rattle.vocabulary.specs.{natAbs, _+ℤ_, _-ℤ_, _*ℤ_, length, _≤ℤ_}
+use Rattle.whole.specs.{Lists.listed, Quotient.roundedQuotient, Sums.vector}
+use Rattle.whole.proofs.{Lists.length-listed, Lists.listed-ext, Magnitudes.natAbs-sub, Ring.ring, Ring._≐_, Ring._⊕_, Ring._⊖_}
 use Rattle.wide_words.specs.Words.{highWord, lowWord}
-use Rattle.refusals.specs.declared.Verdict.the-variants.{Passed}
-use Rattle.refusals.specs.Numbers.{numbered, refusalOf}
-use Rattle.refusals.specs.Order.{failsAt, orHere, lowestPlace, verdictOf}
-use Rattle.refusals.specs.Questions.{asked, outsideSigned}
-use Rattle.refusals.specs.Ranges.{leastAngle, mostAngle}
+use Rattle.refusals.specs.{declared.Verdict.the-variants.Passed, Numbers.numbered, Numbers.refusalOf, Ranges.leastAngle, Ranges.mostAngle}
+use Rattle.refusals.specs.{Order.failsAt, Order.orHere, Order.lowestPlace, Order.verdictOf, Questions.asked, Questions.outsideSigned}
 use Rattle.refusals.specs.Table.{resultsRow}
-use Rattle.refusals.proofs.Decided.{not-less-signed}
-use Rattle.refusals.proofs.Rows.{row-passes}
+use Rattle.refusals.proofs.{Decided.not-less-signed, Rows.row-passes}
 use Rattle.judging.specs.Searches.{resultsOf}
-use Rattle.figures.specs.declared.Figure.{Figure}
+use Rattle.figures.specs.{declared.Figure.Figure, Numerators.conditionSum}
 use Rattle.figures.specs.Figure.{denominator, angleCount, conditionCount, hasSide, sideCount}
-use Rattle.figures.specs.Numerators.{conditionSum}
-use Rattle.pass_pair.specs.declared.Pair.{Pair}
-use Rattle.pass_pair.specs.Pair.{determinant, pairNumerator, clamped}
+use Rattle.pass_pair.specs.{declared.Pair.Pair, Pair.determinant, Pair.pairNumerator, Pair.clamped}
 use Rattle.pass_pair.proofs.Clamping.{outsideAngles, clamped-outside, clamped-inside}
-use Rattle.pass_rules.specs.Pass.{given}
-use Rattle.pass_rules.specs.Promises.{secondLent, secondValuesOf}
+use Rattle.pass_rules.specs.{Pass.given, Promises.secondLent, Promises.secondValuesOf}
 use Rattle.pass_rules.specs.SecondPass.{SineEntries, secondReduced, sideReduced, sineMisclosure, sideMisclosure, sumOfSquares, sideSquares, sharedProducts, divisor, tenthsFactor, secondNumerator, secondRounded, secondAdjusted, secondRest, reducedOf, sideReducedOf, highNumeratorsOf, lowNumeratorsOf, secondRoundedOf, adjustedOf, secondRestsOf}
 use Rattle.pass_rules.proofs.SecondLaws.{numerator-of-one, numerator-of-two, divisor-of-one, divisor-of-both, divisor-natural}
-use Rattle.pass_rules.proofs.SideCounts.{sides-tell}
-use Rattle.pass_rules.proofs.WithinRange.{result-within, angle-most}
-use Rattle.pass_steps.specs.Premises.{Within, Angles, mostSummed}
-use Rattle.pass_steps.specs.Steps.{resultsFrom}
+use Rattle.pass_rules.proofs.{SideCounts.sides-tell, WithinRange.result-within, WithinRange.angle-most}
+use Rattle.pass_steps.specs.{Premises.Within, Premises.Angles, Premises.mostSummed, Steps.resultsFrom}
 use Rattle.pass_steps.proofs.StepLaws.{listed-at, listed-within, listed-after, condition-ext}
 use Rattle.pass_second.specs.Sines.{pairOf}
 use Rattle.pass_second.specs.Steps.{exactFrom, divisorFrom, highsFrom, lowsFrom, tenthsFrom, withRounds, secondFrom}

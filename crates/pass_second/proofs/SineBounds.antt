@@ -1,22 +1,13 @@
 -- How large the numbers of the sine condition can be, of every figure at once. Assumes nothing.
-use mathlib.Core.List.{List}
-use Prim.Native.Nat.{ℕ, _*_, _^_, _≤_, _<_}
-use native.Mathlib.Nat.{le-trans, mul-le-mul-right}
-use native.Mathlib.Omega.{arith}
-use lib.Dec.{T, leb, leb→le, lit≤}
-use lib.IntN.{ℤ, pos, natAbs, _+ℤ_, _*ℤ_}
-use lib.Signed.{_≤ℤ_}
-use Rattle.whole.specs.Lists.{every}
-use Rattle.whole.specs.Sums.{dot, vector}
-use Rattle.whole.proofs.Magnitudes.{natAbs-add}
-use Rattle.whole.proofs.Sums.{sum-magnitude, squares-nonnegative}
+use Rattle.vocabulary.specs.{List, ℕ, _*_, _^_, _≤_, _<_, le-trans, mul-le-mul-right, arith, T, leb, leb→le, lit≤, ℤ, pos, natAbs, _+ℤ_}
+use Rattle.vocabulary.specs.{_*ℤ_, _≤ℤ_}
+use Rattle.whole.specs.{Lists.every, Sums.dot, Sums.vector}
+use Rattle.whole.proofs.{Magnitudes.natAbs-add, Sums.sum-magnitude, Sums.squares-nonnegative}
 use Rattle.refusals.specs.Ranges.{mostLogSine, mostDifference}
-use Rattle.figures.specs.declared.Figure.{Figure}
-use Rattle.figures.specs.Figure.{SineCondition, denominator, angleCount, allFigures}
+use Rattle.figures.specs.{declared.Figure.Figure, Figure.SineCondition, Figure.denominator, Figure.angleCount, Figure.allFigures}
 use Rattle.figures.specs.Numerators.{conditionSum, numerator, reducedCoefficient, mostAngles, mostMembers}
 use Rattle.figures.proofs.Figures.{Signed, each-figure, angle-bound}
-use Rattle.pass_rules.specs.Pass.{given}
-use Rattle.pass_rules.specs.SecondPass.{SineEntries, signedIn, reducedIn, differenceSquaresIn}
+use Rattle.pass_rules.specs.{Pass.given, SecondPass.SineEntries, SecondPass.signedIn, SecondPass.reducedIn, SecondPass.differenceSquaresIn}
 use Rattle.pass_steps.specs.Premises.{Within, LogSines, mostDenominator, mostReduced, mostTaken}
 use Rattle.pass_steps.proofs.Bounds.{condition-magnitude, numerator-magnitude}
 use Rattle.pass_second.proofs.Exact.{product-magnitude}

@@ -1,23 +1,13 @@
 -- The steps of a sine condition are those of the definitions. Assumes nothing.
-use mathlib.Core.Path.{_≡_, refl, sym, ap, ap₂, _∙_}
-use mathlib.Core.List.{List}
-use Prim.Native.Nat.{ℕ, _≤_, _<_}
-use lib.IntN.{ℤ, pos, natAbs, _+ℤ_, _*ℤ_}
-use lib.ListN.{length, take}
-use lib.Seq.{getD-take}
-use Rattle.whole.specs.Lists.{listed}
-use Rattle.whole.specs.Sums.{dot, squares, vector}
-use Rattle.whole.proofs.Lists.{listed-ext}
-use Rattle.whole.proofs.Sums.{dot-ext, squares-ext}
-use Rattle.figures.specs.declared.Figure.{Figure}
-use Rattle.figures.specs.Figure.{SineCondition, denominator, angleCount, conditionCount}
+use Rattle.vocabulary.specs.{_≡_, refl, sym, ap, ap₂, _∙_, List, ℕ, _≤_, _<_, ℤ, pos, natAbs, _+ℤ_, _*ℤ_, length, take, getD-take}
+use Rattle.whole.specs.{Lists.listed, Sums.dot, Sums.squares, Sums.vector}
+use Rattle.whole.proofs.{Lists.listed-ext, Sums.dot-ext, Sums.squares-ext}
+use Rattle.figures.specs.{declared.Figure.Figure, Figure.SineCondition, Figure.denominator, Figure.angleCount, Figure.conditionCount}
 use Rattle.figures.specs.Numerators.{conditionSum, numerator, reducedCoefficient}
 use Rattle.figures.proofs.Figures.{Signed}
-use Rattle.pass_rules.specs.Pass.{given}
-use Rattle.pass_rules.specs.SecondPass.{SineEntries, signedIn, reducedIn, differenceSquaresIn}
+use Rattle.pass_rules.specs.{Pass.given, SecondPass.SineEntries, SecondPass.signedIn, SecondPass.reducedIn, SecondPass.differenceSquaresIn}
 use Rattle.pass_steps.specs.Premises.{Within}
-use Rattle.pass_second.specs.declared.sines.Sines.{Sines}
-use Rattle.pass_second.specs.Sines.{signedBy, reducedFrom, sinesBy, reducedBy}
+use Rattle.pass_second.specs.{declared.sines.Sines.Sines, Sines.signedBy, Sines.reducedFrom, Sines.sinesBy, Sines.reducedBy}
 use Rattle.pass_steps.proofs.StepLaws.{listed-at, listed-within, condition-ext, numerator-ext}
 
 -- ---- the reduced coefficients of d

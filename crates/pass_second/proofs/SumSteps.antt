@@ -1,20 +1,12 @@
 -- The sums of both sine conditions are those of the definitions: of a figure that has only the pole, and of one with known sides. Assumes
 -- nothing.
-use mathlib.Core.Bool.{Bool, true, false, cond}
-use mathlib.Core.Path.{_≡_, sym, ap, _∙_}
-use mathlib.Core.List.{List, [], _∷_}
-use Prim.Native.Nat.{ℕ, _*_, _^_, _≤_, _<_}
-use native.Mathlib.Omega.{arith}
-use lib.IntN.{ℤ, pos, negsuc, natAbs, _+ℤ_, _-ℤ_}
-use lib.ListN.{length}
-use Rattle.whole.specs.Lists.{listed}
-use Rattle.whole.specs.Sums.{sum, dot, squares, vector}
-use Rattle.whole.proofs.Magnitudes.{natAbs-add, natAbs-sub}
-use Rattle.whole.proofs.Ring.{ring, _≐_, _⊕_, _⊖_, _⊗_, constant}
+use Rattle.vocabulary.specs.{Bool, true, false, cond, _≡_, sym, ap, _∙_, List, [], _∷_, ℕ, _*_, _^_, _≤_, _<_, arith, ℤ, pos, negsuc}
+use Rattle.vocabulary.specs.{natAbs, _+ℤ_, _-ℤ_, length}
+use Rattle.whole.specs.{Lists.listed, Sums.sum, Sums.dot, Sums.squares, Sums.vector}
+use Rattle.whole.proofs.{Magnitudes.natAbs-add, Magnitudes.natAbs-sub, Ring.ring, Ring._≐_, Ring._⊕_, Ring._⊖_, Ring._⊗_, Ring.constant}
 use Rattle.whole.proofs.Sums.{dot-ext}
 use Rattle.refusals.specs.Ranges.{mostLogSine}
-use Rattle.figures.specs.declared.Figure.{Figure}
-use Rattle.figures.specs.Figure.{angleCount, pole, side, hasSide, sideCount}
+use Rattle.figures.specs.{declared.Figure.Figure, Figure.angleCount, Figure.pole, Figure.side, Figure.hasSide, Figure.sideCount}
 use Rattle.figures.specs.Numerators.{mostAngles}
 use Rattle.figures.proofs.Figures.{side-signs}
 use Rattle.pass_rules.specs.Pass.{given}

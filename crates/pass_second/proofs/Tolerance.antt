@@ -1,17 +1,8 @@
 -- Number 9 in natural numbers, as the code decides it, and how far W can be where it passes. Assumes nothing.
-use mathlib.Core.Path.{_≡_, ap, ap₂, _∙_, subst}
-use mathlib.Core.Bool.{Bool}
-use Prim.Native.Nat.{ℕ, _*_, _≤_, _<_}
-use native.Mathlib.Decide.{decLt}
-use native.Mathlib.Nat.{le-of-lt, mul-le-mul}
-use native.Mathlib.Omega.{arith}
-use lib.Dec.{ltb, leb→le, lit≤}
-use lib.IntN.{ℤ, pos, natAbs, _*ℤ_}
-use lib.Signed.{ltZ, _≤ℤ_}
-use Rattle.whole.proofs.Magnitudes.{natAbs-mul}
-use Rattle.whole.proofs.Order.{natural, square-nonnegative}
-use Rattle.refusals.specs.Questions.{lessSigned, asked}
-use Rattle.refusals.specs.Ranges.{mostDifference, mostTolerance}
+use Rattle.vocabulary.specs.{_≡_, ap, ap₂, _∙_, subst, Bool, ℕ, _*_, _≤_, _<_, decLt, le-of-lt, mul-le-mul, arith, ltb, leb→le, lit≤, ℤ}
+use Rattle.vocabulary.specs.{pos, natAbs, _*ℤ_, ltZ, _≤ℤ_}
+use Rattle.whole.proofs.{Magnitudes.natAbs-mul, Order.natural, Order.square-nonnegative}
+use Rattle.refusals.specs.{Questions.lessSigned, Questions.asked, Ranges.mostDifference, Ranges.mostTolerance}
 use Rattle.figures.specs.Numerators.{mostAngles}
 use Rattle.pass_rules.specs.SecondPass.{toleranceOf}
 use Rattle.pass_rules.proofs.WithinRange.{in-force-within}

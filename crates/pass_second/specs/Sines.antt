@@ -1,19 +1,12 @@
 -- The sums of a sine condition, by the signs of its angles, and of both, as the code answers them.
-use Prim.Native.Nat.{ℕ}
-use mathlib.Core.Bool.{cond}
-use mathlib.Core.List.{List}
-use lib.IntN.{ℤ, pos, _+ℤ_, _-ℤ_, _*ℤ_}
-use Rattle.whole.specs.Lists.{listed}
-use Rattle.whole.specs.Sums.{dot, squares, vector}
+use Rattle.vocabulary.specs.{ℕ, cond, List, ℤ, pos, _+ℤ_, _-ℤ_, _*ℤ_}
+use Rattle.whole.specs.{Lists.listed, Sums.dot, Sums.squares, Sums.vector}
 use Rattle.pass_pair.specs.declared.Pair.{Pair}
-use Rattle.figures.specs.declared.Figure.{Figure}
-use Rattle.figures.specs.Figure.{angleCount, pole, side, hasSide}
+use Rattle.figures.specs.{declared.Figure.Figure, Figure.angleCount, Figure.pole, Figure.side, Figure.hasSide}
 use Rattle.figures.specs.Numerators.{reducedCoefficient}
 use Rattle.pass_rules.specs.Pass.{given}
 use Rattle.pass_rules.specs.SecondPass.{SineEntries, sineMisclosure, sideMisclosure, sumOfSquares, sharedProducts, sideSquares, differenceSquaresIn}
-use Rattle.pass_second.specs.declared.sines.Sines.{Sines}
-use Rattle.pass_second.specs.declared.sines.SignedSums.{SignedSums}
-use Rattle.pass_second.specs.declared.sums.Sums.{Sums}
+use Rattle.pass_second.specs.{declared.sines.Sines.Sines, declared.sines.SignedSums.SignedSums, declared.sums.Sums.Sums}
 
 -- a difference with its sign
 abbrev pub signedBy : (signs differences : List ℤ) → ℕ → ℤ

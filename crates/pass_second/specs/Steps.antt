@@ -1,31 +1,16 @@
 -- What the steps of the second pass give, from the sums of both sine conditions and the reduced coefficients a and b.
-use Prim.Native.Nat.{ℕ, _^_, _≤_}
-use mathlib.Core.Bool.{cond}
-use mathlib.Core.List.{List, [], _∷_}
-use mathlib.Core.Path.{_≡_}
-use lib.Dec.{eqb}
-use lib.IntN.{ℤ, pos, negℤ, natAbs, _*ℤ_}
-use lib.ListN.{length}
-use Rattle.whole.specs.Lists.{listed}
-use Rattle.whole.specs.Quotient.{roundedQuotient}
-use Rattle.whole.specs.Sums.{vector}
+use Rattle.vocabulary.specs.{ℕ, _^_, _≤_, cond, List, [], _∷_, _≡_, eqb, ℤ, pos, negℤ, natAbs, _*ℤ_, length}
+use Rattle.whole.specs.{Lists.listed, Quotient.roundedQuotient, Sums.vector}
 use Rattle.wide.specs.Wide.{valueOf}
 use Rattle.wide_words.specs.Words.{highWord, lowWord}
-use Rattle.pass_pair.specs.declared.Pair.{Pair}
-use Rattle.pass_pair.specs.declared.PairFactors.{PairFactors}
-use Rattle.pass_pair.specs.declared.PairCorrection.{PairCorrection}
+use Rattle.pass_pair.specs.{declared.Pair.Pair, declared.PairFactors.PairFactors, declared.PairCorrection.PairCorrection}
 use Rattle.pass_pair.specs.Pair.{determinant, pairNumerator, heldNumerator, correctionFrom, clamped}
-use Rattle.refusals.specs.declared.Verdict.{Verdict}
-use Rattle.refusals.specs.declared.Verdict.the-variants.{Passed, Failed}
-use Rattle.figures.specs.declared.Figure.{Figure}
-use Rattle.figures.specs.Figure.{denominator, angleCount, conditionCount}
-use Rattle.figures.specs.Numerators.{conditionSum}
-use Rattle.pass_rules.specs.declared.second.SecondAnswer.{SecondAnswer}
+use Rattle.refusals.specs.{declared.Verdict.Verdict, declared.Verdict.the-variants.Passed, declared.Verdict.the-variants.Failed}
+use Rattle.figures.specs.{declared.Figure.Figure, Figure.denominator, Figure.angleCount, Figure.conditionCount, Numerators.conditionSum}
+use Rattle.pass_rules.specs.{declared.second.SecondAnswer.SecondAnswer, Promises.SecondLent, Promises.secondLent}
 use Rattle.pass_rules.specs.declared.second.SecondAnswer.the-variants.{Done, Refused}
-use Rattle.pass_rules.specs.Promises.{SecondLent, secondLent}
 use Rattle.pass_rules.specs.SecondPass.{sideReducedCount}
-use Rattle.pass_steps.specs.Premises.{mostMisclosure}
-use Rattle.pass_steps.specs.Steps.{resultsFrom}
+use Rattle.pass_steps.specs.{Premises.mostMisclosure, Steps.resultsFrom}
 
 -- the sums keep the bounds by which no numerator passes two words
 pub record SmallPair (p : Pair) : Type 0 where

@@ -1,28 +1,16 @@
 -- What a sheet worked through is turned back with: the first row that holds of the reader's order and then its pass's. Assumes nothing.
-use Prim.Native.Nat.{ℕ}
-use mathlib.Core.List.{List, [], _++_}
-use mathlib.Core.Path.{_≡_, refl, sym, ap, _∙_}
-use lib.Dec.{T}
-use Rattle.refusals.specs.declared.Verdict.{Verdict}
-use Rattle.refusals.specs.declared.Verdict.the-variants.{Passed, Failed}
-use Rattle.refusals.specs.Numbers.{told, verdictTold}
-use Rattle.refusals.specs.Order.{Row, allInTable, judged}
+use Rattle.vocabulary.specs.{ℕ, List, [], _++_, _≡_, refl, sym, ap, _∙_, T}
+use Rattle.refusals.specs.{declared.Verdict.Verdict, declared.Verdict.the-variants.Passed, declared.Verdict.the-variants.Failed}
+use Rattle.refusals.specs.{Numbers.told, Numbers.verdictTold, Order.Row, Order.allInTable, Order.judged}
 use Rattle.refusals.proofs.InSteps.{judged-after-pass, judged-after-failure}
 use Rattle.figures.specs.declared.Figure.{Figure}
-use Rattle.sheet_layout.specs.declared.Kind.{Kind}
-use Rattle.sheet_layout.specs.declared.Pass.{Pass}
-use Rattle.sheet_layout.specs.Kinds.{passOf, defaultOf}
-use Rattle.sheet_layout.specs.declared.head.Look.{Look}
-use Rattle.sheet_layout.specs.declared.head.Look.the-variants.{Head}
-use Rattle.sheet_layout.specs.Head.{headRows, lookOf, ofHead}
+use Rattle.sheet_layout.specs.{declared.Kind.Kind, declared.Pass.Pass, Kinds.passOf, Kinds.defaultOf, declared.head.Look.Look}
+use Rattle.sheet_layout.specs.{declared.head.Look.the-variants.Head, Head.headRows, Head.lookOf, Head.ofHead}
 use Rattle.sheet_layout.proofs.Naming.{headVerdict, look-judged}
-use Rattle.sheet_rules.specs.Sheet.{Values, valuesRead}
-use Rattle.sheet_rules.specs.declared.Reading.{Reading}
+use Rattle.sheet_rules.specs.{Sheet.Values, Sheet.valuesRead, declared.Reading.Reading}
 use Rattle.sheet_rules.specs.Judging.{ownLengths, bodyRows, readingAfter}
 use Rattle.sheet_rules.proofs.Accepted.{head-found}
-use Rattle.pass_rules.specs.Pass.{inForce}
-use Rattle.pass_rules.specs.FirstPass.{firstRows}
-use Rattle.pass_rules.specs.SecondPass.{secondRows}
+use Rattle.pass_rules.specs.{Pass.inForce, FirstPass.firstRows, SecondPass.secondRows}
 use Rattle.pass_sheet.specs.Worked.{WorkedSheet, shownIf, firstSheet, secondSheet, entriesOf, workedPass, workedRead, workedLook, workedOf, rowsOfPass, passRows, sheetRows, outcomeTold}
 
 -- every row is in the table

@@ -1,11 +1,8 @@
 -- How many values of each sort a sheet has at most. Assumes nothing.
-use Prim.Native.Nat.{_≤_}
-use lib.Dec.{leb, leb→le}
-use Rattle.figures.specs.declared.Figure.{Figure}
-use Rattle.figures.specs.Numerators.{mostAngles, mostFixed, mostSides}
+use Rattle.vocabulary.specs.{_≤_, leb, leb→le}
+use Rattle.figures.specs.{declared.Figure.Figure, Numerators.mostAngles, Numerators.mostFixed, Numerators.mostSides}
 use Rattle.figures.proofs.Figures.{angle-bound}
-use Rattle.sheet_layout.specs.declared.Kind.{Kind}
-use Rattle.sheet_layout.specs.Layout.{lengthsOf}
+use Rattle.sheet_layout.specs.{declared.Kind.Kind, Layout.lengthsOf}
 use Rattle.sheet_layout.proofs.EachKind.{each}
 
 pub angles-few : (kind : Kind) (f : Figure) → lengthsOf kind f .angles ≤ mostAngles

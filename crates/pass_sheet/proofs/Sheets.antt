@@ -1,31 +1,20 @@
 -- From what a pass promises to the text of its sheet. Assumes nothing.
-use mathlib.Core.Bool.{Bool, true, false}
-use mathlib.Core.Path.{_≡_, sym, ap, _∙_, subst}
-use mathlib.Core.List.{List, _∷_}
-use Prim.Native.Nat.{ℕ, _/_, _%_, _^_}
-use lib.Dec.{T}
-use lib.IntN.{ℤ, pos, natAbs}
-use lib.ListN.{length}
+use Rattle.vocabulary.specs.{Bool, true, false, _≡_, sym, ap, _∙_, subst, List, _∷_, ℕ, _/_, _%_, _^_, T, ℤ, pos, natAbs, length}
 use Rattle.whole.specs.Sums.{vector, naturals}
 use Rattle.whole.proofs.Order.{natural}
 use Rattle.wide.specs.Wide.{radix}
 use Rattle.wide_words.specs.Words.{joined, highWord, lowWord}
 use Rattle.wide_words.proofs.Joining.{joined-words}
-use Rattle.refusals.specs.declared.Refusal.{Refusal}
-use Rattle.refusals.specs.declared.Verdict.{Verdict}
+use Rattle.refusals.specs.{declared.Refusal.Refusal, declared.Verdict.Verdict, Order.judged, Promise.stored}
 use Rattle.refusals.specs.declared.Verdict.the-variants.{Passed, Failed}
-use Rattle.refusals.specs.Order.{judged}
-use Rattle.refusals.specs.Promise.{stored}
-use Rattle.figures.specs.declared.Figure.{Figure}
-use Rattle.figures.specs.Figure.{angleCount}
+use Rattle.figures.specs.{declared.Figure.Figure, Figure.angleCount}
 use Rattle.lines.specs.Lines.{firstText, secondText, refusedText, wideNumbers}
 use Rattle.lines.proofs.WideNumbers.{wide-listed}
-use Rattle.pass_rules.specs.FirstPass.{firstRows, firstResultLengths}
-use Rattle.pass_rules.specs.declared.second.SecondAnswer.{SecondAnswer}
+use Rattle.pass_rules.specs.{FirstPass.firstRows, FirstPass.firstResultLengths, declared.second.SecondAnswer.SecondAnswer}
 use Rattle.pass_rules.specs.declared.second.SecondAnswer.the-variants.{Done, Refused}
 use Rattle.pass_rules.specs.SecondPass.{SineEntries, sineMisclosure, sideMisclosure, divisor, secondNumerator, secondRows, secondResultLengths, secondAnswerFor, reducedOf, sideReducedOf, secondRoundedOf, adjustedOf, secondRestsOf}
-use Rattle.pass_rules.proofs.SecondLaws.{divisor-natural}
 use Rattle.pass_rules.specs.Promises.{FirstLent, firstResultsLent, firstValuesOf, FirstPromiseOf, SecondLent, secondResultsLent, secondValuesOf, secondVerdictOf, SecondPromiseOf}
+use Rattle.pass_rules.proofs.SecondLaws.{divisor-natural}
 use Rattle.pass_sheet.specs.Texts.{textOf}
 use Rattle.pass_sheet.specs.Worked.{shownIf, firstShown, firstSheetLengths, firstSheet, secondShown, secondSheetLengths, secondSheet}
 

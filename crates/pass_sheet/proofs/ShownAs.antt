@@ -1,26 +1,15 @@
 -- A sheet worked through is shown in one of three ways: as a worked figure of either kind, whose order has passed, or as a refusal. Assumes
 -- nothing.
-use Prim.Native.Nat.{ℕ}
-use mathlib.Core.List.{List, []}
-use mathlib.Core.Logic.{_⊎_, inl, inr}
-use mathlib.Core.Path.{_≡_, refl, sym, ap, subst}
-use Rattle.refusals.specs.declared.Refusal.{Refusal}
-use Rattle.refusals.specs.declared.Verdict.{Verdict}
+use Rattle.vocabulary.specs.{ℕ, List, [], _⊎_, inl, inr, _≡_, refl, sym, ap, subst}
+use Rattle.refusals.specs.{declared.Refusal.Refusal, declared.Verdict.Verdict, Order.judged}
 use Rattle.refusals.specs.declared.Verdict.the-variants.{Passed, Failed}
-use Rattle.refusals.specs.Order.{judged}
 use Rattle.figures.specs.declared.Figure.{Figure}
-use Rattle.sheet_layout.specs.declared.Kind.{Kind}
-use Rattle.sheet_layout.specs.declared.Pass.{Pass}
-use Rattle.sheet_layout.specs.Kinds.{passOf}
-use Rattle.sheet_layout.specs.declared.head.Look.{Look}
+use Rattle.sheet_layout.specs.{declared.Kind.Kind, declared.Pass.Pass, Kinds.passOf, declared.head.Look.Look, Head.lookOf, Head.ofHead}
 use Rattle.sheet_layout.specs.declared.head.Look.the-variants.{Head}
-use Rattle.sheet_layout.specs.Head.{lookOf, ofHead}
-use Rattle.sheet_rules.specs.declared.Reading.{Reading}
-use Rattle.sheet_rules.specs.Sheet.{Values, valuesRead}
+use Rattle.sheet_rules.specs.{declared.Reading.Reading, Sheet.Values, Sheet.valuesRead}
 use Rattle.sheet_rules.specs.Judging.{ownLengths, bodyRows, readingAfter}
 use Rattle.sheet_rules.proofs.Accepted.{head-found}
-use Rattle.pass_rules.specs.FirstPass.{firstRows}
-use Rattle.pass_rules.specs.SecondPass.{SineEntries, sineEntries, secondRows}
+use Rattle.pass_rules.specs.{FirstPass.firstRows, SecondPass.SineEntries, SecondPass.sineEntries, SecondPass.secondRows}
 use Rattle.pass_sheet.specs.Worked.{WorkedSheet, firstSheetLengths, secondSheetLengths, refusedSheet, shownIf, firstShown, firstSheet, secondShown, secondSheet, entriesOf, workedPass, workedRead, workedLook, workedOf, entriesIn, roundsHeld}
 
 pub record FirstShown (sheet : List ℕ) (worked : WorkedSheet) : Type 0 where

@@ -1,6 +1,5 @@
 -- The text of a worked sheet: document 01, "Sheets worked through". Its lines, or its refusal.
-use mathlib.Core.List.{List}
-use Prim.Native.Nat.{ℕ}
+use Rattle.vocabulary.specs.{List, ℕ}
 use Rattle.whole.specs.Sums.{vector, naturals}
 use Rattle.lines.specs.Lines.{firstText, secondText, refusedText}
 use Rattle.pass_sheet.specs.Worked.{Outcome, First, Second, WorkedSheet, workedOf}

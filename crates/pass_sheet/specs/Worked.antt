@@ -1,26 +1,13 @@
 -- A sheet worked through.
-use Prim.Native.Nat.{ℕ}
-use mathlib.Core.List.{List, [], _∷_, _++_}
-use lib.IntN.{ℤ}
-use lib.ListN.{length}
-use Rattle.refusals.specs.declared.Refusal.{Refusal}
-use Rattle.refusals.specs.declared.Verdict.{Verdict}
-use Rattle.refusals.specs.declared.Verdict.the-variants.{Passed, Failed}
-use Rattle.refusals.specs.Numbers.{Told, told, refusalTold}
-use Rattle.refusals.specs.Order.{Row, judged}
+use Rattle.vocabulary.specs.{ℕ, List, [], _∷_, _++_, ℤ, length}
+use Rattle.refusals.specs.{declared.Refusal.Refusal, declared.Verdict.Verdict, Numbers.Told, Numbers.told, Numbers.refusalTold}
+use Rattle.refusals.specs.{declared.Verdict.the-variants.Passed, declared.Verdict.the-variants.Failed, Order.Row, Order.judged}
 use Rattle.whole.specs.Lists.{listed}
-use Rattle.figures.specs.declared.Figure.{Figure}
-use Rattle.figures.specs.Figure.{angleCount}
-use Rattle.sheet_layout.specs.declared.Kind.{Kind}
-use Rattle.sheet_layout.specs.declared.Pass.{Pass}
-use Rattle.sheet_layout.specs.declared.head.Look.{Look}
-use Rattle.sheet_layout.specs.declared.head.Look.the-variants.{Head}
-use Rattle.sheet_layout.specs.Head.{headRows, lookOf, ofHead}
-use Rattle.sheet_layout.specs.Kinds.{passOf, defaultOf}
-use Rattle.sheet_rules.specs.declared.Reading.{Reading}
-use Rattle.sheet_rules.specs.declared.Reading.the-variants.{Read}
+use Rattle.figures.specs.{declared.Figure.Figure, Figure.angleCount}
+use Rattle.sheet_layout.specs.{declared.Kind.Kind, declared.Pass.Pass, declared.head.Look.Look, declared.head.Look.the-variants.Head}
+use Rattle.sheet_layout.specs.{Head.headRows, Head.lookOf, Head.ofHead, Kinds.passOf, Kinds.defaultOf}
+use Rattle.sheet_rules.specs.{declared.Reading.Reading, declared.Reading.the-variants.Read, Sheet.Values, Sheet.valuesRead}
 use Rattle.sheet_rules.specs.Judging.{ownLengths, bodyRows, readingOf, readingAfter}
-use Rattle.sheet_rules.specs.Sheet.{Values, valuesRead}
 use Rattle.pass_rules.specs.Pass.{inForce}
 use Rattle.pass_rules.specs.FirstPass.{firstResultLengths, firstRows, misclosuresOf, numeratorsOf, roundedOf, correctedOf, restsOf}
 use Rattle.pass_rules.specs.SecondPass.{SineEntries, sineEntries, sineMisclosure, sideMisclosure, divisor, secondNumerator, secondResultLengths, secondRows, reducedOf, sideReducedOf, secondRoundedOf, adjustedOf, secondRestsOf}

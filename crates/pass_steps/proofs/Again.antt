@@ -1,8 +1,5 @@
 -- What `Lending` says of one part, as one fact, for whoever lends several to a pass. Assumes nothing.
-use mathlib.Core.Path.{_≡_}
-use mathlib.Core.List.{List, _++_}
-use Prim.Native.Nat.{ℕ, _≤_}
-use lib.ListN.{length, take, drop}
+use Rattle.vocabulary.specs.{_≡_, List, _++_, ℕ, _≤_, length, take, drop}
 use Rattle.whole.proofs.Lending.{part-again, still-few, again-length}
 
 pub record Again {A : Type 0} (n : ℕ) (whole part : List A) : Type 0 where

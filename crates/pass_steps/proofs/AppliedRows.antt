@@ -1,11 +1,5 @@
 -- Rows that are applied part by part. Assumes nothing.
-use mathlib.Core.List.{List}
-use mathlib.Core.Path.{_≡_, sym, ap, _∙_}
-use Prim.Native.Nat.{ℕ, _≤_}
-use native.Mathlib.Omega.{arith}
-use lib.IntN.{ℤ}
-use lib.ListN.{length, take}
-use lib.Seq.{take-all, take-take}
+use Rattle.vocabulary.specs.{List, _≡_, sym, ap, _∙_, ℕ, _≤_, arith, ℤ, length, take, take-all, take-take}
 use Rattle.whole.specs.Lists.{listed}
 use Rattle.whole.proofs.Lists.{length-listed}
 use Rattle.pass_steps.specs.Steps.{AppliedTo}

@@ -1,19 +1,8 @@
 -- How large the numbers of the work can be, of every figure at once. Assumes nothing.
-use mathlib.Core.Path.{sym, ap, subst}
-use mathlib.Core.Bool.{Bool}
-use mathlib.Core.List.{List, [], _∷_}
-use Prim.Native.Nat.{ℕ, zero, suc, _*_, _≤_, _<_, zero-le}
-use native.Mathlib.Nat.{le-trans, le-of-lt, mul-le-mul, mul-le-mul-right}
-use native.Mathlib.Decide.{decLt}
-use native.Mathlib.Omega.{arith}
-use lib.Dec.{T, ltb, ltb→lt, lit<}
-use lib.ListN.{length, getD, List·getD-eq-default}
-use lib.IntN.{ℤ, natAbs, _*ℤ_}
-use Rattle.whole.specs.Lists.{every}
-use Rattle.whole.specs.Sums.{dot, applied, table, vector}
-use Rattle.whole.proofs.Computed.{and-left, and-right}
-use Rattle.whole.proofs.Magnitudes.{natAbs-add, natAbs-mul}
-use Rattle.whole.proofs.Sums.{sum-magnitude}
+use Rattle.vocabulary.specs.{sym, ap, subst, Bool, List, [], _∷_, ℕ, zero, suc, _*_, _≤_, _<_, zero-le, le-trans, le-of-lt, mul-le-mul}
+use Rattle.vocabulary.specs.{mul-le-mul-right, decLt, arith, T, ltb, ltb→lt, lit<, length, getD, List·getD-eq-default, ℤ, natAbs, _*ℤ_}
+use Rattle.whole.specs.{Lists.every, Sums.dot, Sums.applied, Sums.table, Sums.vector}
+use Rattle.whole.proofs.{Computed.and-left, Computed.and-right, Magnitudes.natAbs-add, Magnitudes.natAbs-mul, Sums.sum-magnitude}
 use Rattle.figures.specs.declared.Figure.{Figure}
 use Rattle.figures.specs.Figure.{Condition, description, conditionCount, membersOf, allFigures}
 use Rattle.figures.specs.Numerators.{sumOver, conditionSum, numerator, mostConditions, mostMembers}

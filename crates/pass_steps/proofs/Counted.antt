@@ -1,13 +1,7 @@
 -- The counts of a figure as its table gives them: what they are, and that the arrays of the longest figure can lend so many. Assumes
 -- nothing.
-use mathlib.Core.Path.{_≡_, ap}
-use Prim.Native.Nat.{_≤_}
-use native.Mathlib.Omega.{arith}
-use lib.IntN.{pos}
-use lib.ListN.{length, take, replicate}
-use Rattle.figures.specs.declared.Counts.{Counts}
-use Rattle.figures.specs.declared.Figure.{Figure}
-use Rattle.figures.specs.Figure.{angleCount, conditionCount, countsOf}
+use Rattle.vocabulary.specs.{_≡_, ap, _≤_, arith, pos, length, take, replicate}
+use Rattle.figures.specs.{declared.Counts.Counts, declared.Figure.Figure, Figure.angleCount, Figure.conditionCount, Figure.countsOf}
 use Rattle.figures.proofs.Figures.{angle-bound, condition-bound}
 use Rattle.whole.proofs.Lending.{lent-length}
 

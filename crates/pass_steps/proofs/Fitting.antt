@@ -1,13 +1,6 @@
 -- What a step gives where what is lent to it fits, and leaves where it does not. Assumes nothing.
-use mathlib.Core.Bool.{Bool, cond}
-use mathlib.Core.List.{List}
-use mathlib.Core.Path.{_≡_, sym, ap, ap₂, _∙_}
-use Prim.Native.Nat.{ℕ}
-use borrow.Author.Tests.{eq-eqb, ne-eqb}
-use lib.Dec.{eqb}
-use lib.ListN.{length}
-use Rattle.refusals.specs.declared.Verdict.{Verdict}
-use Rattle.refusals.specs.declared.Verdict.the-variants.{Passed, Failed}
+use Rattle.vocabulary.specs.{Bool, cond, List, _≡_, sym, ap, ap₂, _∙_, ℕ, eq-eqb, ne-eqb, eqb, length}
+use Rattle.refusals.specs.{declared.Verdict.Verdict, declared.Verdict.the-variants.Passed, declared.Verdict.the-variants.Failed}
 use Rattle.refusals.specs.Promise.{stored}
 use Rattle.pass_steps.specs.Steps.{fitting, sameLength}
 

@@ -1,26 +1,12 @@
 -- What is held of a number, and that every sum over a condition of small numbers is. Assumes nothing.
-use mathlib.Core.Bool.{Bool, true, false, cond}
-use mathlib.Core.List.{List}
-use mathlib.Core.Path.{_≡_, sym, ap, _∙_, subst}
-use Prim.Native.Nat.{ℕ, _≤_, _<_}
-use native.Mathlib.Nat.{le-trans}
-use native.Mathlib.Omega.{arith}
-use borrow.Author.Tests.{lt-ltb, le-ltb, ltb-true, ltb-false}
-use lib.Dec.{T, lit≤}
-use lib.IntN.{ℤ, pos, negsuc, natAbs}
-use lib.ListN.{length}
-use lib.Signed.{ltZ}
-use Rattle.whole.specs.Lists.{listed}
-use Rattle.whole.specs.Sums.{vector}
+use Rattle.vocabulary.specs.{Bool, true, false, cond, List, _≡_, sym, ap, _∙_, subst, ℕ, _≤_, _<_, le-trans, arith, lt-ltb, le-ltb}
+use Rattle.vocabulary.specs.{ltb-true, ltb-false, T, lit≤, ℤ, pos, negsuc, natAbs, length, ltZ}
+use Rattle.whole.specs.{Lists.listed, Sums.vector}
 use Rattle.whole.proofs.Lists.{listed-ext}
-use Rattle.figures.specs.declared.Figure.{Figure}
-use Rattle.figures.specs.Figure.{angleCount, conditionCount}
-use Rattle.figures.specs.Numerators.{conditionSum}
+use Rattle.figures.specs.{declared.Figure.Figure, Figure.angleCount, Figure.conditionCount, Numerators.conditionSum}
 use Rattle.pass_steps.specs.Premises.{Within, mostSummed, mostTotal}
 use Rattle.pass_steps.specs.Steps.{fitting, held, mostHeld, sumsOf}
-use Rattle.pass_steps.proofs.Bounds.{condition-magnitude}
-use Rattle.pass_steps.proofs.Fitting.{fits}
-use Rattle.pass_steps.proofs.StepLaws.{listed-within}
+use Rattle.pass_steps.proofs.{Bounds.condition-magnitude, Fitting.fits, StepLaws.listed-within}
 
 -- −mostHeld
 abbrev pub leastHeld : ℤ

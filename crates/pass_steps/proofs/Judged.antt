@@ -1,32 +1,15 @@
 -- What numbers 2, 6 and 7 say where they passed, and that they pass; and what is stored by a verdict. Assumes nothing.
-use mathlib.Core.Bool.{Bool, false, not, _||_}
-use mathlib.Core.Path.{_≡_, sym, ap, ap₂, _∙_, subst}
-use mathlib.Core.List.{List, [], _∷_}
-use Prim.Native.Nat.{ℕ, zero, suc, _≤_, _<_, zero-le}
-use native.Mathlib.Decide.{decLt}
-use native.Mathlib.Nat.{le-of-suc-le-suc, not-suc-le-zero}
-use native.Mathlib.Omega.{arith}
-use lib.Dec.{leb→le, le→leb}
-use lib.IntN.{ℤ, pos, negsuc, negℤ, natAbs}
-use lib.ListN.{length, List·getD-eq-default}
-use lib.Signed.{_≤ℤ_}
+use Rattle.vocabulary.specs.{Bool, false, not, _||_, _≡_, sym, ap, ap₂, _∙_, subst, List, [], _∷_, ℕ, zero, suc, _≤_, _<_, zero-le, decLt}
+use Rattle.vocabulary.specs.{le-of-suc-le-suc, not-suc-le-zero, arith, leb→le, le→leb, ℤ, pos, negsuc, negℤ, natAbs, length}
+use Rattle.vocabulary.specs.{List·getD-eq-default, _≤ℤ_}
 use Rattle.whole.specs.Sums.{vector}
-use Rattle.refusals.specs.declared.Refusal.{Refusal}
-use Rattle.refusals.specs.declared.Verdict.{Verdict}
-use Rattle.refusals.specs.declared.Verdict.the-variants.{Passed, Failed}
-use Rattle.refusals.specs.Numbers.{numbered, refusalOf}
-use Rattle.refusals.specs.Order.{Row, verdictOf, failsIf, failsAt, judged}
-use Rattle.refusals.specs.Promise.{stored}
-use Rattle.refusals.specs.Questions.{asked, outsideSigned}
-use Rattle.refusals.specs.Ranges.{leastAngle, mostAngle}
+use Rattle.refusals.specs.{declared.Refusal.Refusal, declared.Verdict.Verdict, Numbers.numbered, Numbers.refusalOf, Promise.stored}
+use Rattle.refusals.specs.{declared.Verdict.the-variants.Passed, declared.Verdict.the-variants.Failed, Ranges.leastAngle, Ranges.mostAngle}
+use Rattle.refusals.specs.{Order.Row, Order.verdictOf, Order.failsIf, Order.failsAt, Order.judged, Questions.asked, Questions.outsideSigned}
 use Rattle.refusals.specs.Table.{lengthsRow, misclosuresRow, resultsRow}
-use Rattle.refusals.proofs.Answers.{answer-of-one}
-use Rattle.refusals.proofs.Decided.{not-less-signed}
-use Rattle.refusals.proofs.InSteps.{judged-after-pass, judged-after-failure}
-use Rattle.refusals.proofs.Nowhere.{misclosures-within, results-within, between}
-use Rattle.refusals.proofs.NumberLists.{same-itself}
+use Rattle.refusals.proofs.{Answers.answer-of-one, Decided.not-less-signed, InSteps.judged-after-pass, InSteps.judged-after-failure}
+use Rattle.refusals.proofs.{Nowhere.misclosures-within, Nowhere.results-within, Nowhere.between, NumberLists.same-itself, Rows.row-passes}
 use Rattle.refusals.proofs.Places.{lowest-is-nowhere}
-use Rattle.refusals.proofs.Rows.{row-passes}
 use Rattle.pass_steps.specs.Premises.{Within}
 
 -- ---- 2

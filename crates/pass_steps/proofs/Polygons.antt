@@ -1,14 +1,8 @@
 -- The figures that the arms of a match take together: those of code 2, and those of code 3 in the last arm. Assumes nothing.
-use mathlib.Core.List.{List, [], _∷_}
-use mathlib.Core.Path.{_≡_, refl}
-use Prim.Native.Nat.{ℕ}
-use denote.Enum.Declared.{tagOf}
-use lib.Dec.{T}
-use types.Run.{OneOf, miss}
-use Rattle.figures.proofs.Figure.{the-type}
+use Rattle.vocabulary.specs.{List, [], _∷_, _≡_, refl, ℕ, tagOf, T, OneOf, miss}
+use Rattle.figures.proofs.{Figure.the-type, Families.isPointInside, Families.isPolygon}
 use Rattle.figures.specs.declared.Figure.{Figure}
 use Rattle.figures.specs.declared.Figure.the-variants.{Quadrilateral, PointInTriangle, PointInQuadrilateral, CentralTriangle, CentralQuadrilateral, CentralPentagon, CentralHexagon, CentralHeptagon, CentralOctagon}
-use Rattle.figures.proofs.Families.{isPointInside, isPolygon}
 use Rattle.pass_steps.specs.Premises.{hasFive}
 
 abbrev pub pointArm : List ℕ

@@ -1,20 +1,10 @@
 -- What is listed by a rule is the rule within the list; and a sum over a condition and a numerator look only at the figure's own angles
 -- and conditions. Assumes nothing.
-use mathlib.Core.Path.{_≡_, refl, sym, ap, ap₂, _∙_, subst}
-use mathlib.Core.List.{List, [], _∷_}
-use Prim.Native.Nat.{ℕ, zero, suc, _≤_, _<_, zero-le}
-use native.Mathlib.Decide.{decLt}
-use native.Mathlib.Omega.{arith}
-use lib.Dec.{T, leb, leb→le}
-use lib.IntN.{ℤ, pos, natAbs, _+ℤ_}
-use lib.ListN.{length, List·getD-eq-default}
-use Rattle.whole.specs.Lists.{listed, every}
-use Rattle.whole.specs.Sums.{table, vector}
-use Rattle.whole.proofs.Computed.{and-left, and-right}
-use Rattle.whole.proofs.Lists.{length-listed, getD-listed, listed-ext}
-use Rattle.whole.proofs.Sums.{applied-ext}
-use Rattle.figures.specs.declared.Figure.{Figure}
-use Rattle.figures.specs.Figure.{description, angleCount, conditionCount, membersOf}
+use Rattle.vocabulary.specs.{_≡_, refl, sym, ap, ap₂, _∙_, subst, List, [], _∷_, ℕ, zero, suc, _≤_, _<_, zero-le, decLt, arith, T, leb}
+use Rattle.vocabulary.specs.{leb→le, ℤ, pos, natAbs, _+ℤ_, length, List·getD-eq-default}
+use Rattle.whole.specs.{Lists.listed, Lists.every, Sums.table, Sums.vector}
+use Rattle.whole.proofs.{Computed.and-left, Computed.and-right, Lists.length-listed, Lists.getD-listed, Lists.listed-ext, Sums.applied-ext}
+use Rattle.figures.specs.{declared.Figure.Figure, Figure.description, Figure.angleCount, Figure.conditionCount, Figure.membersOf}
 use Rattle.figures.specs.Numerators.{sumOver, conditionSum, numerator}
 use Rattle.figures.proofs.Figures.{isAmong, members-are-angles}
 use Rattle.pass_steps.specs.Premises.{Within}

@@ -1,16 +1,8 @@
 -- A table brought to one size and filled with 0 gives the numerators of the natural table, of every figure at once. Assumes nothing.
-use mathlib.Core.Path.{_≡_, sym, ap, _∙_, subst}
-use mathlib.Core.List.{List, [], map}
-use Prim.Native.Nat.{ℕ, _≤_, _<_}
-use native.Mathlib.Nat.{lt-of-lt-of-le}
-use lib.ListN.{getD, List·getD-map}
-use lib.IntN.{ℤ, pos}
-use Rattle.whole.specs.Lists.{listed, padded}
-use Rattle.whole.specs.Sums.{applied, table, vector}
-use Rattle.whole.proofs.Lists.{length-padded, getD-padded, getD-any, listed-ext}
-use Rattle.whole.proofs.Sums.{applied-rows}
-use Rattle.figures.specs.declared.Figure.{Figure}
-use Rattle.figures.specs.Figure.{description, angleCount, conditionCount}
+use Rattle.vocabulary.specs.{_≡_, sym, ap, _∙_, subst, List, [], map, ℕ, _≤_, _<_, lt-of-lt-of-le, getD, List·getD-map, ℤ, pos}
+use Rattle.whole.specs.{Lists.listed, Lists.padded, Sums.applied, Sums.table, Sums.vector}
+use Rattle.whole.proofs.{Lists.length-padded, Lists.getD-padded, Lists.getD-any, Lists.listed-ext, Sums.applied-rows}
+use Rattle.figures.specs.{declared.Figure.Figure, Figure.description, Figure.angleCount, Figure.conditionCount}
 use Rattle.figures.specs.Numerators.{numerator, mostAngles, mostConditions, paddedRows}
 use Rattle.figures.proofs.Figures.{angle-bound, condition-bound}
 

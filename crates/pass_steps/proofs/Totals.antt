@@ -1,15 +1,8 @@
 -- A total that a loop adds up, term by term, within its width. Assumes nothing.
-use mathlib.Core.Path.{_≡_, ap₂, _∙_}
-use Prim.Native.Nat.{ℕ, _+_, _*_, _^_, _≤_, _<_}
-use native.Mathlib.Nat.{lt-of-le-of-lt}
-use native.Mathlib.Omega.{arith}
-use lib.IntN.{ℤ, natAbs, _+ℤ_}
-use mir.Syntax.{Width}
-use mir.Val.{SFits, toZ, ofZ, hbits}
-use mir.Facts.{toZ-ofZ}
+use Rattle.vocabulary.specs.{_≡_, ap₂, _∙_, ℕ, _+_, _*_, _^_, _≤_, _<_, lt-of-le-of-lt, arith, ℤ, natAbs, _+ℤ_, Width, SFits, toZ, ofZ}
+use Rattle.vocabulary.specs.{hbits, toZ-ofZ}
 use Rattle.whole.specs.Sums.{sum}
-use Rattle.whole.proofs.Magnitudes.{natAbs-add, magnitude-fits}
-use Rattle.whole.proofs.Sums.{sum-more}
+use Rattle.whole.proofs.{Magnitudes.natAbs-add, Magnitudes.magnitude-fits, Sums.sum-more}
 
 -- one more term, added to the total of those before it
 pub record More (w : Width) (most : ℕ) (f : ℕ → ℤ) (k : ℕ) (total : ℤ) : Type 0 where

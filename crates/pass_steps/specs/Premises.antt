@@ -1,15 +1,8 @@
 -- What the steps of the work ask of what they take, so that no sum and no product passes its width.
-use Prim.Native.Nat.{ℕ, _+_, _*_, _^_, _≤_, _<_}
-use mathlib.Core.Bool.{Bool, _&&_}
-use mathlib.Core.List.{List}
-use lib.Dec.{eqb, leb}
-use lib.ListN.{getD}
-use lib.IntN.{ℤ, natAbs}
+use Rattle.vocabulary.specs.{ℕ, _+_, _*_, _^_, _≤_, _<_, Bool, _&&_, List, eqb, leb, getD, ℤ, natAbs}
 use Rattle.whole.specs.Sums.{vector}
 use Rattle.refusals.specs.Ranges.{mostLogSine, mostDifference}
-use Rattle.figures.specs.declared.Figure.{Figure}
-use Rattle.figures.specs.Figure.{description}
-use Rattle.figures.specs.Numerators.{mostConditions, mostMembers}
+use Rattle.figures.specs.{declared.Figure.Figure, Figure.description, Numerators.mostConditions, Numerators.mostMembers}
 
 -- no magnitude is greater
 abbrev pub Within : (most : ℕ) → List ℤ → Type 0

@@ -1,21 +1,9 @@
 -- What the steps that both passes share give, and what they leave where what is lent does not fit.
-use Prim.Native.Nat.{ℕ}
-use mathlib.Core.Bool.{cond}
-use mathlib.Core.List.{List, [], _∷_}
-use mathlib.Core.Path.{_≡_}
-use lib.Dec.{eqb, ltb}
-use lib.IntN.{ℤ, pos, natAbs}
-use lib.ListN.{length, take}
-use Rattle.whole.specs.Lists.{listed}
-use Rattle.whole.specs.Sums.{vector}
-use Rattle.refusals.specs.declared.Verdict.{Verdict}
-use Rattle.refusals.specs.Order.{Row}
-use Rattle.refusals.specs.Promise.{Promised, stored}
-use Rattle.refusals.specs.Table.{lengthsRow, resultsRow}
+use Rattle.vocabulary.specs.{ℕ, cond, List, [], _∷_, _≡_, eqb, ltb, ℤ, pos, natAbs, length, take}
+use Rattle.whole.specs.{Lists.listed, Sums.vector}
+use Rattle.refusals.specs.{declared.Verdict.Verdict, Order.Row, Promise.Promised, Promise.stored, Table.lengthsRow, Table.resultsRow}
 use Rattle.judging.specs.Searches.{resultsOf}
-use Rattle.figures.specs.declared.Figure.{Figure}
-use Rattle.figures.specs.Figure.{angleCount, conditionCount}
-use Rattle.figures.specs.Numerators.{conditionSum, numerator}
+use Rattle.figures.specs.{declared.Figure.Figure, Figure.angleCount, Figure.conditionCount, Numerators.conditionSum, Numerators.numerator}
 
 -- the verdict is answered, and what is lent holds the new values where it passed
 abbrev pub StoredIf : {L : Type 0} → (verdict : Verdict) → (new entry : L) → (answer : Verdict) → (exit : L) → Type 0

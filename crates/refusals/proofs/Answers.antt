@@ -1,11 +1,6 @@
 -- The answer of a list of tests: of one, of two parts, and when every test passes. Assumes nothing.
-use Prim.Native.Nat.{ℕ}
-use mathlib.Core.List.{List, [], _∷_, _++_}
-use mathlib.Core.Logic.{_↔_}
-use mathlib.Core.Path.{_≡_, refl, sym}
-use native.Mathlib.Omega.{arith}
-use Rattle.refusals.specs.declared.Verdict.{Verdict}
-use Rattle.refusals.specs.declared.Verdict.the-variants.{Passed, Failed}
+use Rattle.vocabulary.specs.{ℕ, List, [], _∷_, _++_, _↔_, _≡_, refl, sym, arith}
+use Rattle.refusals.specs.{declared.Verdict.Verdict, declared.Verdict.the-variants.Passed, declared.Verdict.the-variants.Failed}
 use Rattle.refusals.specs.Order.{answerOf}
 
 pub answer-of-one : (t : Verdict) → answerOf (t ∷ []) ≡ t

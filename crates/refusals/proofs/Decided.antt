@@ -1,17 +1,8 @@
 -- What a question asks is computed: `asked` is true exactly if its case holds. Assumes nothing.
-use Prim.Native.Nat.{ℕ, zero, suc, _≤_, _<_, zero-le, suc-le-suc}
-use mathlib.Core.Bool.{Bool, true, false, not, _||_, true≢false, false≢true}
-use mathlib.Core.List.{List, [], _∷_}
-use mathlib.Core.Logic.{_↔_, _⊎_, inl, inr, ⊎-elim}
-use mathlib.Core.Path.{_≡_, refl, sym, ap, subst, _∙_}
-use native.Mathlib.Decide.{decLt}
-use native.Mathlib.Nat.{le-of-suc-le-suc, not-suc-le-zero}
-use native.Mathlib.Omega.{arith}
-use borrow.Author.Tests.{ltb-true, lt-ltb, eqb-true, eq-eqb, not-true}
-use lib.Dec.{T, eqb}
-use lib.IntN.{ℤ, pos, negsuc, natAbs}
-use lib.ListN.{length, getD}
-use lib.Signed.{ltZ, _≤ℤ_, _<ℤ_, ltZ-yes, ltZ-no, clashℤ}
+use Rattle.vocabulary.specs.{ℕ, zero, suc, _≤_, _<_, zero-le, suc-le-suc, Bool, true, false, not, _||_, true≢false, false≢true, List, []}
+use Rattle.vocabulary.specs.{_∷_, _↔_, _⊎_, inl, inr, ⊎-elim, _≡_, refl, sym, ap, subst, _∙_, decLt, le-of-suc-le-suc, not-suc-le-zero}
+use Rattle.vocabulary.specs.{arith, ltb-true, lt-ltb, eqb-true, eq-eqb, not-true, T, eqb, ℤ, pos, negsuc, natAbs, length, getD, ltZ, _≤ℤ_}
+use Rattle.vocabulary.specs.{_<ℤ_, ltZ-yes, ltZ-no, clashℤ}
 use Rattle.refusals.specs.Questions.{Question, less, lessSigned, unequal, differ, noneOf, isZero, someOne, either, someAt, Holds, IsNoneOf, asked, sameNumbers, among, anyOne, anyPlace}
 use Rattle.refusals.proofs.NumberLists.{same-lists, same-itself}
 

@@ -1,9 +1,7 @@
 -- How the code answers an order: one row after the other, each by its own promise, or one part of the order after the other. Assumes
 -- nothing.
-use mathlib.Core.List.{List, [], _∷_, _++_, map, map-append}
-use mathlib.Core.Path.{_≡_, sym, ap, ap₂, _∙_}
-use Rattle.refusals.specs.declared.Refusal.{Refusal}
-use Rattle.refusals.specs.declared.Verdict.{Verdict}
+use Rattle.vocabulary.specs.{List, [], _∷_, _++_, map, map-append, _≡_, sym, ap, ap₂, _∙_}
+use Rattle.refusals.specs.{declared.Refusal.Refusal, declared.Verdict.Verdict}
 use Rattle.refusals.specs.declared.Verdict.the-variants.{Passed, Failed}
 use Rattle.refusals.specs.Order.{Row, answerOf, verdictOf, judged}
 use Rattle.refusals.proofs.Answers.{answer-of-one, answer-of-cons, answer-of-append, cons-passes}

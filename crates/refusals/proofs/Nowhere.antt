@@ -1,23 +1,11 @@
 -- What it says of the values that a row holds nowhere: they are as the table wants them. Assumes nothing.
-use Prim.Native.Nat.{ℕ, zero, suc, _*_, _≤_, _<_, zero-le, suc-le-suc}
-use mathlib.Core.Bool.{false}
-use mathlib.Core.List.{List, []}
-use mathlib.Core.Logic.{inl, inr}
-use mathlib.Core.Path.{_≡_, refl, sym, subst}
-use native.Mathlib.Decide.{decLt}
-use native.Mathlib.Omega.{arith}
-use borrow.Author.Tests.{not-false}
-use lib.Dec.{leb→le}
-use lib.IntN.{ℤ, pos, negsuc, negℤ, natAbs, _*ℤ_}
-use lib.ListN.{length, getD, List·getD-eq-default}
-use lib.Signed.{_≤ℤ_}
-use Rattle.refusals.specs.Numbers.{numbered}
-use Rattle.refusals.specs.Order.{row, rowAt, HoldsNowhere}
+use Rattle.vocabulary.specs.{ℕ, zero, suc, _*_, _≤_, _<_, zero-le, suc-le-suc, false, List, [], inl, inr, _≡_, refl, sym, subst, decLt}
+use Rattle.vocabulary.specs.{arith, not-false, leb→le, ℤ, pos, negsuc, negℤ, natAbs, _*ℤ_, length, getD, List·getD-eq-default, _≤ℤ_}
+use Rattle.refusals.specs.{Numbers.numbered, Order.row, Order.rowAt, Order.HoldsNowhere}
 use Rattle.refusals.specs.Questions.{Question, lessSigned, unequal, differ, outside, outsideSigned, Holds, asked, sameNumbers}
 use Rattle.refusals.specs.Ranges.{leastAngle, mostAngle, leastLogSine, mostLogSine, mostDifference, leastRounds}
 use Rattle.refusals.specs.Table.{lengthsRow, limitOrToleranceRow, anglesRow, fixedRow, misclosuresRow, resultsRow, sineEntriesRow, sineMisclosureRow, sumOfSquaresRow, sheetSizeRow, sumOfAll, fixedSum, fixedSumRow, roundsRow}
-use Rattle.refusals.proofs.Decided.{decided-not, not-less-signed}
-use Rattle.refusals.proofs.NumberLists.{same-lists}
+use Rattle.refusals.proofs.{Decided.decided-not, Decided.not-less-signed, NumberLists.same-lists}
 
 -- ---- rows without a place
 

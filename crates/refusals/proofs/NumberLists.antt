@@ -1,15 +1,7 @@
 -- Lists of numbers, compared and added up one by one. Assumes nothing.
-use mathlib.Core.Path.{_≡_, refl, sym, ap, ap₂, _∙_}
-use mathlib.Core.Bool.{Bool, true, false, _&&_, false≢true}
-use mathlib.Core.List.{List, [], _∷_}
-use Prim.Native.Nat.{ℕ, suc, _+_, _<_}
-use native.Mathlib.Numerals.{add-one}
-use borrow.Author.Tests.{eqb-true, eq-eqb, ne-eqb}
-use lib.Dec.{eqb}
-use lib.ListN.{length, getD, drop}
-use lib.Seq.{drop-cons, drop-length}
-use Rattle.refusals.specs.Questions.{sameNumbers}
-use Rattle.refusals.specs.Table.{sumOfAll}
+use Rattle.vocabulary.specs.{_≡_, refl, sym, ap, ap₂, _∙_, Bool, true, false, _&&_, false≢true, List, [], _∷_, ℕ, suc, _+_, _<_, add-one}
+use Rattle.vocabulary.specs.{eqb-true, eq-eqb, ne-eqb, eqb, length, getD, drop, drop-cons, drop-length}
+use Rattle.refusals.specs.{Questions.sameNumbers, Table.sumOfAll}
 
 and-false : (a : Bool) {b : Bool} → b ≡ false → (a && b) ≡ false
 and-false true e = e

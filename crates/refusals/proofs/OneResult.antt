@@ -1,5 +1,5 @@
 -- Two results that one promise allows are equal, with everything lent. Assumes nothing.
-use mathlib.Core.Path.{_≡_, refl, _∙⁻¹_}
+use Rattle.vocabulary.specs.{_≡_, refl, _∙⁻¹_}
 use Rattle.refusals.specs.Promise.{Promised}
 
 pub one-result : {R L : Type 0} {answer : R} {left : L} {r r′ : R} {exit exit′ : L}

@@ -1,10 +1,5 @@
 -- No order answers a place past the most that its rows have. Assumes nothing.
-use Prim.Native.Nat.{ℕ, _≤_, zero-le}
-use mathlib.Core.List.{List, [], _∷_}
-use mathlib.Core.Logic.{⊎-elim}
-use mathlib.Core.Path.{refl, sym, subst}
-use native.Mathlib.Nat.{le-trans}
-use lib.Dec.{T}
+use Rattle.vocabulary.specs.{ℕ, _≤_, zero-le, List, [], _∷_, ⊎-elim, refl, sym, subst, le-trans, T}
 use Rattle.refusals.specs.Numbers.{verdictTold}
 use Rattle.refusals.specs.Order.{Row, row, rowAt, HoldsNowhere, Answers, allInTable, judged}
 use Rattle.refusals.proofs.Rows.{answers-exactly}

@@ -1,13 +1,8 @@
 -- A search for the lowest place says p exactly if the test fails at p and at no lower place, and says that there is none exactly if it
 -- fails at no place. By induction over the count of places; what a search says of the places determines its answer.
-use Prim.Native.Nat.{ℕ, zero, suc, _≤_, _<_}
-use mathlib.Core.Bool.{Bool, true, false, true≢false}
-use mathlib.Core.Logic.{_↔_, ⊎-elim}
-use mathlib.Core.Path.{_≡_, refl, sym, ap, subst, _∙_}
-use native.Mathlib.Nat.{eq-or-lt-of-le}
-use native.Mathlib.Omega.{arith}
-use Rattle.refusals.specs.declared.Lowest.{Lowest}
-use Rattle.refusals.specs.declared.Lowest.the-variants.{Nowhere, At}
+use Rattle.vocabulary.specs.{ℕ, zero, suc, _≤_, _<_, Bool, true, false, true≢false, _↔_, ⊎-elim, _≡_, refl, sym, ap, subst, _∙_}
+use Rattle.vocabulary.specs.{eq-or-lt-of-le, arith}
+use Rattle.refusals.specs.{declared.Lowest.Lowest, declared.Lowest.the-variants.Nowhere, declared.Lowest.the-variants.At}
 use Rattle.refusals.specs.Order.{lowestPlace, orHere}
 
 -- of the places 1, 2, .., count, the test fails at p and at no lower one

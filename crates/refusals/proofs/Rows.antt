@@ -1,24 +1,14 @@
 -- The law of every order: number k at place p is answered if and only if its row holds at p, at no lower place, and no row before it
 -- holds anywhere; the operation is done if and only if no row holds; and no number is given that does not stand in the order. Assumes
 -- nothing.
-use Prim.Native.Nat.{ℕ, zero, suc, _≤_, _<_}
-use mathlib.Core.Bool.{Bool, true, false, cond, _&&_}
-use mathlib.Core.List.{List, [], _∷_, map}
-use mathlib.Core.Logic.{_↔_, _⊎_, inl, inr, ⊎-elim}
-use mathlib.Core.Path.{_≡_, refl, sym, ap, ap₂, subst, _∙_}
-use native.Mathlib.Omega.{arith}
-use lib.Dec.{T, eqb, eqb→eq}
-use lib.ListN.{List·getD-map}
-use Rattle.refusals.specs.declared.Refusal.{Refusal}
-use Rattle.refusals.specs.declared.Verdict.{Verdict}
+use Rattle.vocabulary.specs.{ℕ, zero, suc, _≤_, _<_, Bool, true, false, cond, _&&_, List, [], _∷_, map, _↔_, _⊎_, inl, inr, ⊎-elim, _≡_}
+use Rattle.vocabulary.specs.{refl, sym, ap, ap₂, subst, _∙_, arith, T, eqb, eqb→eq, List·getD-map}
+use Rattle.refusals.specs.{declared.Refusal.Refusal, declared.Verdict.Verdict, declared.Lowest.Lowest}
 use Rattle.refusals.specs.declared.Verdict.the-variants.{Passed, Failed}
-use Rattle.refusals.specs.declared.Lowest.{Lowest}
-use Rattle.refusals.specs.declared.Lowest.the-variants.{Nowhere, At}
+use Rattle.refusals.specs.{declared.Lowest.the-variants.Nowhere, declared.Lowest.the-variants.At, Questions.Question, Questions.asked}
 use Rattle.refusals.specs.Numbers.{numberOf, placeOf, numbered, tableAt, refusalOf, Told, told, refusalTold, verdictTold}
 use Rattle.refusals.specs.Order.{Row, row, rowAt, number, LowestAt, HoldsNowhere, Answers, NoneHolds, Stands, inTable, allInTable, answerOf, failsIf, failsAt, lowestPlace, verdictOf, judged}
-use Rattle.refusals.specs.Questions.{Question, asked}
-use Rattle.refusals.proofs.Answers.{cons-passes}
-use Rattle.refusals.proofs.Decided.{decided, decided-not}
+use Rattle.refusals.proofs.{Answers.cons-passes, Decided.decided, Decided.decided-not}
 use Rattle.refusals.proofs.Places.{LowestFailing, lowest-is, lowest-is-nowhere}
 
 -- ---- the table by number

@@ -1,10 +1,7 @@
 -- The table of document 01, "Numbers given when a sheet is turned back", with what document 02 adds to it: the number of each refusal,
 -- and its place.
-use Prim.Native.Nat.{ℕ, zero, suc}
-use mathlib.Core.List.{List, [], _∷_}
-use lib.ListN.{getD}
-use Rattle.refusals.specs.declared.Refusal.{Refusal}
-use Rattle.refusals.specs.declared.Verdict.{Verdict}
+use Rattle.vocabulary.specs.{ℕ, zero, suc, List, [], _∷_, getD}
+use Rattle.refusals.specs.{declared.Refusal.Refusal, declared.Verdict.Verdict}
 use Rattle.refusals.specs.declared.Verdict.the-variants.{Passed, Failed}
 
 -- the column "No."

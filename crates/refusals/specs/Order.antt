@@ -1,19 +1,11 @@
 -- How an operation answers: document 01, "Numbers given when a sheet is turned back". Its order is one list of rows, each with its number
 -- and its stated case. The first row that holds anywhere is answered, at its lowest place. Places are counted from 1, as the paper counts
 -- angles and conditions; a row without a place has place 0.
-use Prim.Native.Nat.{ℕ, zero, suc, _≤_, _<_}
-use mathlib.Core.Bool.{Bool, true, false, _&&_}
-use mathlib.Core.List.{List, [], _∷_, map}
-use mathlib.Core.Logic.{_⊎_}
-use mathlib.Core.Path.{_≡_}
-use lib.Dec.{eqb}
-use Rattle.refusals.specs.declared.Refusal.{Refusal}
-use Rattle.refusals.specs.declared.Verdict.{Verdict}
+use Rattle.vocabulary.specs.{ℕ, zero, suc, _≤_, _<_, Bool, true, false, _&&_, List, [], _∷_, map, _⊎_, _≡_, eqb}
+use Rattle.refusals.specs.{declared.Refusal.Refusal, declared.Verdict.Verdict, declared.Lowest.Lowest}
 use Rattle.refusals.specs.declared.Verdict.the-variants.{Passed, Failed}
-use Rattle.refusals.specs.declared.Lowest.{Lowest}
 use Rattle.refusals.specs.declared.Lowest.the-variants.{Nowhere, At}
-use Rattle.refusals.specs.Numbers.{numberOf, placeOf, refusalOf}
-use Rattle.refusals.specs.Questions.{Question, Holds, asked}
+use Rattle.refusals.specs.{Numbers.numberOf, Numbers.placeOf, Numbers.refusalOf, Questions.Question, Questions.Holds, Questions.asked}
 
 -- ---- rows
 

@@ -1,15 +1,8 @@
 -- What the table asks: document 01, "Numbers given when a sheet is turned back", the column "Given when". A question is data: `Holds`
 -- says what it means that its case holds, and `asked` computes whether it does. That the two agree is one law, `decided`
 -- (proofs/Decided.antt).
-use Prim.Native.Nat.{ℕ, zero, suc, _≤_, _<_}
-use mathlib.Core.Bool.{Bool, true, false, not, _||_, _&&_}
-use mathlib.Core.List.{List, [], _∷_}
-use mathlib.Core.Logic.{_⊎_}
-use mathlib.Core.Path.{_≡_}
-use lib.Dec.{eqb, ltb}
-use lib.IntN.{ℤ, pos, natAbs}
-use lib.ListN.{length, getD}
-use lib.Signed.{ltZ, _<ℤ_}
+use Rattle.vocabulary.specs.{ℕ, zero, suc, _≤_, _<_, Bool, true, false, not, _||_, _&&_, List, [], _∷_, _⊎_, _≡_, eqb, ltb, ℤ, pos, natAbs}
+use Rattle.vocabulary.specs.{length, getD, ltZ, _<ℤ_}
 
 pub data Question : Type 0 where
   -- a number is less than another; the same of signed numbers

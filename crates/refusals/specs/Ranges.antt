@@ -1,5 +1,5 @@
 -- The ranges of document 01, "Units and ranges". Both ends are inside.
-use Prim.Native.Nat.{ℕ}
+use Rattle.vocabulary.specs.{ℕ}
 
 -- angle, in tenths of an arc second
 abbrev pub leastAngle : ℕ

@@ -1,12 +1,6 @@
 -- The rows of the table, each once: document 01, "Numbers given when a sheet is turned back". An operation's order is a list of these.
-use Prim.Native.Nat.{ℕ, _+_, _*_}
-use mathlib.Core.Bool.{Bool, cond}
-use mathlib.Core.List.{List, [], _∷_}
-use lib.Dec.{eqb}
-use lib.IntN.{ℤ, pos, negℤ, _*ℤ_}
-use lib.ListN.{length}
-use Rattle.refusals.specs.Numbers.{numbered}
-use Rattle.refusals.specs.Order.{Row, row, rowAt}
+use Rattle.vocabulary.specs.{ℕ, _+_, _*_, Bool, cond, List, [], _∷_, eqb, ℤ, pos, negℤ, _*ℤ_, length}
+use Rattle.refusals.specs.{Numbers.numbered, Order.Row, Order.row, Order.rowAt}
 use Rattle.refusals.specs.Questions.{Question, less, lessSigned, unequal, differ, noneOf, isZero, someOne, either, someAt, outside, outsideSigned}
 use Rattle.refusals.specs.Ranges.{leastAngle, mostAngle, leastLogSine, mostLogSine, mostDifference, leastRounds}
 

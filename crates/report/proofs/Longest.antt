@@ -1,26 +1,13 @@
 -- No bytes have a longer text than `longestText`: an accepted pass has numbers of few digits, by the passes' theorems, and no refusal a
 -- place past the largest figure's angles. Assumes nothing.
-use mathlib.Core.Path.{_≡_, sym, ap, subst, _∙_}
-use mathlib.Core.List.{List}
-use mathlib.Core.Logic.{⊎-elim}
-use Prim.Native.Nat.{ℕ, _^_, _≤_, _<_}
-use native.Mathlib.Decide.{decLt}
-use native.Mathlib.Nat.{lt-of-le-of-lt}
-use native.Mathlib.Omega.{arith}
-use lib.Dec.{lit<}
-use lib.ListN.{length, getD, List·getD-eq-default}
-use lib.IntN.{ℤ, pos, natAbs}
-use Rattle.whole.specs.Lists.{listed}
-use Rattle.whole.specs.Sums.{vector, naturals}
+use Rattle.vocabulary.specs.{_≡_, sym, ap, subst, _∙_, List, ⊎-elim, ℕ, _^_, _≤_, _<_, decLt, lt-of-le-of-lt, arith, lit<, length, getD}
+use Rattle.vocabulary.specs.{List·getD-eq-default, ℤ, pos, natAbs}
+use Rattle.whole.specs.{Lists.listed, Sums.vector, Sums.naturals}
 use Rattle.whole.proofs.Lists.{getD-listed, length-listed}
-use Rattle.refusals.specs.declared.Refusal.{Refusal}
-use Rattle.refusals.specs.Numbers.{placeOf, Told, refusalTold, verdictTold}
-use Rattle.refusals.specs.Order.{judged}
+use Rattle.refusals.specs.{declared.Refusal.Refusal, Numbers.placeOf, Numbers.Told, Numbers.refusalTold, Numbers.verdictTold, Order.judged}
 use Rattle.refusals.specs.Ranges.{mostDifference}
 use Rattle.refusals.proofs.PlaceBounds.{place-within}
-use Rattle.figures.specs.declared.Figure.{Figure}
-use Rattle.figures.specs.Figure.{angleCount, conditionCount}
-use Rattle.figures.specs.Numerators.{mostAngles}
+use Rattle.figures.specs.{declared.Figure.Figure, Figure.angleCount, Figure.conditionCount, Numerators.mostAngles}
 use Rattle.pass_rules.specs.FirstPass.{misclosure, firstNumerator, firstRounded, corrected, firstRest, misclosuresOf, numeratorsOf, roundedOf, correctedOf, restsOf}
 use Rattle.pass_rules.specs.SecondPass.{SineEntries, sineMisclosure, sideMisclosure, secondReduced, sideReduced, divisor, secondNumerator, secondRounded, secondAdjusted, secondRest, reducedOf, sideReducedCount, sideReducedOf, secondRoundedOf, adjustedOf, secondRestsOf}
 use Rattle.pass_steps.specs.Premises.{Within}

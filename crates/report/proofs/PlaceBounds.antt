@@ -1,29 +1,15 @@
 -- No sheet is turned back at a place past the number of angles of the largest figure, whoever turns it back: the reader, or a pass.
 -- Assumes nothing.
-use Prim.Native.Nat.{ℕ, _≤_}
-use mathlib.Core.List.{List, [], _++_}
-use native.Mathlib.Nat.{le-trans}
-use native.Mathlib.Omega.{arith}
-use lib.Dec.{lit≤}
-use lib.ListN.{length, length-append}
+use Rattle.vocabulary.specs.{ℕ, _≤_, List, [], _++_, le-trans, arith, lit≤, length, length-append}
 use Rattle.whole.proofs.Lists.{length-listed}
-use Rattle.refusals.specs.Order.{Row, HoldsNowhere}
-use Rattle.refusals.specs.Table.{lengthsRow}
+use Rattle.refusals.specs.{Order.Row, Order.HoldsNowhere, Table.lengthsRow}
 use Rattle.refusals.proofs.PlaceBounds.{PlacesWithin}
-use Rattle.figures.specs.declared.Figure.{Figure}
-use Rattle.figures.specs.Figure.{angleCount, conditionCount}
-use Rattle.figures.specs.Numerators.{mostAngles}
+use Rattle.figures.specs.{declared.Figure.Figure, Figure.angleCount, Figure.conditionCount, Numerators.mostAngles}
 use Rattle.figures.proofs.Figures.{angle-bound, condition-bound}
-use Rattle.sheet_layout.specs.declared.Kind.{Kind}
-use Rattle.sheet_layout.specs.declared.Pass.{Pass}
-use Rattle.sheet_layout.specs.Kinds.{passOf}
-use Rattle.sheet_layout.specs.Layout.{fixedIn, sineEntriesIn, sidesIn}
-use Rattle.sheet_layout.specs.declared.head.Look.{Look}
-use Rattle.sheet_layout.specs.declared.head.Look.the-variants.{Head}
-use Rattle.sheet_layout.specs.Head.{headRows, lookOf, ofHead}
+use Rattle.sheet_layout.specs.{declared.Kind.Kind, declared.Pass.Pass, Kinds.passOf, Layout.fixedIn, Layout.sineEntriesIn, Layout.sidesIn}
+use Rattle.sheet_layout.specs.{declared.head.Look.Look, declared.head.Look.the-variants.Head, Head.headRows, Head.lookOf, Head.ofHead}
 use Rattle.sheet_layout.proofs.Sizes.{entry-bound}
-use Rattle.sheet_rules.specs.Sheet.{valuesRead}
-use Rattle.sheet_rules.specs.Judging.{ownLengths, bodyRows}
+use Rattle.sheet_rules.specs.{Sheet.valuesRead, Judging.ownLengths, Judging.bodyRows}
 use Rattle.pass_rules.specs.FirstPass.{firstLengths, firstRows, misclosure, corrected}
 use Rattle.pass_rules.specs.SecondPass.{SineEntries, secondLengths, secondRows, secondAdjusted}
 use Rattle.pass_sheet.specs.Worked.{entriesOf, rowsOfPass, passRows, sheetRows}

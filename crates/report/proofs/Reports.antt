@@ -1,20 +1,12 @@
 -- Whether a text that was laid by itself has room in what is lent, told by the position after it; and that 2048 bytes are room for every
 -- text. Assumes nothing.
-use mathlib.Core.Path.{_≡_, refl, sym, ap, _∙_}
-use mathlib.Core.Bool.{Bool, true, false}
-use mathlib.Core.List.{List, _++_}
-use Prim.Native.Nat.{ℕ, _≤_, _<_}
-use native.Mathlib.Nat.{zero-add, le-trans}
-use native.Mathlib.Omega.{arith}
-use borrow.Author.Tests.{le-leb, lt-leb, leb-true}
-use lib.Dec.{leb}
-use lib.ListN.{length, take, drop, replicate}
-use Rattle.text.specs.Text.{laid}
-use Rattle.text.specs.Holds.{Holds}
+use Rattle.vocabulary.specs.{_≡_, refl, sym, ap, _∙_, Bool, true, false, List, _++_, ℕ, _≤_, _<_, zero-add, le-trans, arith, le-leb}
+use Rattle.vocabulary.specs.{lt-leb, leb-true, leb, length, take, drop, replicate}
+use Rattle.text.specs.{Text.laid, Holds.Holds}
 use Rattle.text.proofs.Laying.{laid-room, holds-size, holds-length, holds-taken}
 use Rattle.report.specs.declared.reporting.Reported.the-variants.{Written}
-use Rattle.lines.specs.Lines.{longestText}
 use Rattle.report.specs.Report.{reportText, hasRoom, reportedOf, afterReport}
+use Rattle.lines.specs.Lines.{longestText}
 use Rattle.report.proofs.Longest.{text-fits}
 
 module _ (t buffer : List ℕ) (end : ℕ) (held : Holds (replicate longestText 0) t buffer end) (fits : length t ≤ longestText) where

@@ -1,9 +1,5 @@
 -- What the program writes for a sheet: document 01, "Sheets worked through". The lines of the worked sheet, or its refusal.
-use mathlib.Core.Bool.{Bool, true, false}
-use mathlib.Core.List.{List, _++_}
-use Prim.Native.Nat.{ℕ}
-use lib.Dec.{leb}
-use lib.ListN.{length, drop}
+use Rattle.vocabulary.specs.{Bool, true, false, List, _++_, ℕ, leb, length, drop}
 use Rattle.refusals.specs.Promise.{Promised}
 use Rattle.pass_sheet.specs.Texts.{workedText}
 use Rattle.report.specs.declared.reporting.Reported.{Reported}

@@ -1,14 +1,11 @@
 -- What every kind passes, every kind and figure pass: tests that antt computes. Assumes nothing.
-use mathlib.Core.Bool.{Bool}
-use lib.Dec.{T}
+use Rattle.vocabulary.specs.{Bool, T}
 use Rattle.whole.specs.Lists.{every}
 use Rattle.whole.proofs.Computed.{and-left, and-right}
-use Rattle.figures.specs.declared.Figure.{Figure}
-use Rattle.figures.specs.Figure.{allFigures}
+use Rattle.figures.specs.{declared.Figure.Figure, Figure.allFigures}
 use Rattle.figures.proofs.Figures.{each-figure}
-use Rattle.sheet_layout.specs.declared.Kind.{Kind}
+use Rattle.sheet_layout.specs.{declared.Kind.Kind, Kinds.allKinds}
 use Rattle.sheet_layout.specs.declared.Kind.the-variants.{One, Two, Three, Four, Five}
-use Rattle.sheet_layout.specs.Kinds.{allKinds}
 
 pub each-kind : (test : Kind → Bool) → T (every test allKinds) → (kind : Kind) → T (test kind)
 each-kind test t kind =

@@ -1,33 +1,17 @@
 -- What the numbers of a head name, and what a look answers by its rows. Assumes nothing.
-use Prim.Native.Nat.{ℕ, _<_, _≤_}
-use mathlib.Core.Bool.{Bool, true, false, cond, not, _&&_, _||_}
-use mathlib.Core.List.{List, [], _∷_, map}
-use mathlib.Core.Logic.{_↔_}
-use mathlib.Core.Path.{_≡_, refl, sym, ap, ap₂, _∙_}
-use native.Mathlib.Decide.{decLt}
-use native.Mathlib.Omega.{arith}
-use lib.ListN.{length}
-use borrow.Author.Tests.{lt-ltb, le-ltb}
-use lib.Dec.{T, eqb, eqb→eq}
+use Rattle.vocabulary.specs.{ℕ, _<_, _≤_, Bool, true, false, cond, not, _&&_, _||_, List, [], _∷_, map, _↔_, _≡_, refl, sym, ap, ap₂, _∙_}
+use Rattle.vocabulary.specs.{decLt, arith, length, lt-ltb, le-ltb, T, eqb, eqb→eq}
 use Rattle.bits.specs.Bits.{fieldAt}
-use Rattle.refusals.specs.declared.Refusal.{Refusal}
-use Rattle.refusals.specs.declared.Verdict.{Verdict}
+use Rattle.refusals.specs.{declared.Refusal.Refusal, declared.Verdict.Verdict, Numbers.verdictTold}
 use Rattle.refusals.specs.declared.Verdict.the-variants.{Passed, Failed}
-use Rattle.refusals.specs.Numbers.{verdictTold}
-use Rattle.refusals.specs.Order.{answerOf, failsIf, judged}
-use Rattle.refusals.specs.Questions.{noneOf, among, asked}
-use Rattle.figures.specs.declared.Figure.{Figure}
-use Rattle.figures.specs.declared.Named.{Named}
-use Rattle.figures.specs.declared.Named.the-variants.{As, Nothing}
+use Rattle.refusals.specs.{Order.answerOf, Order.failsIf, Order.judged, Questions.noneOf, Questions.among, Questions.asked}
+use Rattle.figures.specs.{declared.Figure.Figure, declared.Named.Named, declared.Named.the-variants.As, declared.Named.the-variants.Nothing}
 use Rattle.figures.specs.Figure.{description, figureOf, figureNames}
 use Rattle.figures.proofs.Naming.{own-name, none-named, one-named}
-use Rattle.sheet_layout.specs.declared.Kind.{Kind}
+use Rattle.sheet_layout.specs.{declared.Kind.Kind, Kinds.allKinds, Kinds.numberOfKind, declared.head.NamedKind.NamedKind}
 use Rattle.sheet_layout.specs.declared.Kind.the-variants.{One, Two, Three, Four, Five}
-use Rattle.sheet_layout.specs.Kinds.{allKinds, numberOfKind}
-use Rattle.sheet_layout.specs.Layout.{sort, numberOfItem, same, positionOf, held}
-use Rattle.sheet_layout.specs.declared.head.NamedKind.{NamedKind}
+use Rattle.sheet_layout.specs.{Layout.sort, Layout.numberOfItem, Layout.same, Layout.positionOf, Layout.held, declared.head.Look.Look}
 use Rattle.sheet_layout.specs.declared.head.NamedKind.the-variants.{Is, NoKind}
-use Rattle.sheet_layout.specs.declared.head.Look.{Look}
 use Rattle.sheet_layout.specs.declared.head.Look.the-variants.{Head}
 use Rattle.sheet_layout.specs.Head.{kindAmong, kindOf, kindNumbers, headNamed, headOf, nameRows, headRows, kindNumberIn, codeIn, nIn, lookAfter, lookOf, lookTold}
 

@@ -1,20 +1,11 @@
 -- Sizes of sheets, computed over all kinds and figures: document 01, "Packed sheets", and document 02, M-106.
-use Prim.Native.Nat.{ℕ, _+_, _*_, _≤_, _<_}
-use mathlib.Core.Bool.{Bool}
-use mathlib.Core.List.{[], _∷_, map}
-use mathlib.Core.Path.{_≡_, refl}
-use native.Mathlib.Omega.{arith}
-use lib.Dec.{eqb, leb, eqb→eq, leb→le}
+use Rattle.vocabulary.specs.{ℕ, _+_, _*_, _≤_, _<_, Bool, [], _∷_, map, _≡_, refl, arith, eqb, leb, eqb→eq, leb→le}
 use Rattle.bits.specs.Bits.{totalWidth, byteCount}
-use Rattle.figures.specs.declared.Figure.{Figure}
-use Rattle.figures.specs.declared.Counts.{Counts}
+use Rattle.figures.specs.{declared.Figure.Figure, declared.Counts.Counts, Numerators.mostAngles, Numerators.mostSides}
 use Rattle.figures.specs.Figure.{allFigures, angleCount, fixedCount, sideCount, countsOf}
-use Rattle.figures.specs.Numerators.{mostAngles, mostSides}
 use Rattle.figures.proofs.Figures.{each-figure, angle-bound, side-signed}
-use Rattle.sheet_layout.specs.declared.Kind.{Kind}
+use Rattle.sheet_layout.specs.{declared.Kind.Kind, declared.Pass.Pass, Kinds.passOf, Kinds.carriesRounds, Kinds.ofPass}
 use Rattle.sheet_layout.specs.declared.Kind.the-variants.{One, Two, Three, Four, Five}
-use Rattle.sheet_layout.specs.declared.Pass.{Pass}
-use Rattle.sheet_layout.specs.Kinds.{passOf, carriesRounds, ofPass}
 use Rattle.sheet_layout.specs.Layout.{layout, roundsBits, sineEntriesIn, sidesIn, bitCount, sheetSize}
 use Rattle.sheet_layout.proofs.EachKind.{each-kind, each}
 

@@ -1,26 +1,14 @@
 -- The head of a sheet: document 01, "Packed sheets" and "Numbers given when a sheet is turned back". What its numbers name, and the rows
 -- that reader and writer begin with.
-use Prim.Native.Nat.{ℕ}
-use mathlib.Core.Bool.{cond}
-use mathlib.Core.List.{List, [], _∷_, map}
-use lib.Dec.{eqb}
-use lib.ListN.{length}
-use Rattle.refusals.specs.declared.Refusal.{Refusal}
-use Rattle.refusals.specs.declared.Verdict.{Verdict}
-use Rattle.refusals.specs.declared.Verdict.the-variants.{Passed, Failed}
-use Rattle.refusals.specs.Numbers.{Told, told, refusalTold}
-use Rattle.refusals.specs.Order.{Row, judged}
+use Rattle.vocabulary.specs.{ℕ, cond, List, [], _∷_, map, eqb, length}
+use Rattle.refusals.specs.{declared.Refusal.Refusal, declared.Verdict.Verdict, Numbers.Told, Numbers.told, Numbers.refusalTold}
+use Rattle.refusals.specs.{declared.Verdict.the-variants.Passed, declared.Verdict.the-variants.Failed, Order.Row, Order.judged}
 use Rattle.refusals.specs.Table.{kindRow, figureRow, sheetShortRow}
-use Rattle.figures.specs.declared.Figure.{Figure}
-use Rattle.figures.specs.declared.Named.{Named}
-use Rattle.figures.specs.declared.Named.the-variants.{As, Nothing}
+use Rattle.figures.specs.{declared.Figure.Figure, declared.Named.Named, declared.Named.the-variants.As, declared.Named.the-variants.Nothing}
 use Rattle.figures.specs.Figure.{figureOf, figureNames}
-use Rattle.sheet_layout.specs.declared.Kind.{Kind}
-use Rattle.sheet_layout.specs.Kinds.{allKinds, numberOfKind}
-use Rattle.sheet_layout.specs.Layout.{theKind, theCode, theN, head, held}
-use Rattle.sheet_layout.specs.declared.head.NamedKind.{NamedKind}
+use Rattle.sheet_layout.specs.{declared.Kind.Kind, Kinds.allKinds, Kinds.numberOfKind, declared.head.NamedKind.NamedKind}
+use Rattle.sheet_layout.specs.{Layout.theKind, Layout.theCode, Layout.theN, Layout.head, Layout.held, declared.head.Look.Look}
 use Rattle.sheet_layout.specs.declared.head.NamedKind.the-variants.{Is, NoKind}
-use Rattle.sheet_layout.specs.declared.head.Look.{Look}
 use Rattle.sheet_layout.specs.declared.head.Look.the-variants.{Head}
 
 -- ---- what a kind's number, a code and an n name

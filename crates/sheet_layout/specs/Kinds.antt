@@ -1,13 +1,9 @@
 -- The kinds of packed sheets: document 01, "Packed sheets", and document 02, M-102 and M-106. A kind is data: its number, the pass that
 -- it is for and whether each observed angle has its rounds after it, from which its fields follow (specs/Layout.antt), and what L or e of
 -- 0 stands for in it.
-use Prim.Native.Nat.{ℕ}
-use mathlib.Core.Bool.{Bool, true, false}
-use mathlib.Core.List.{List, [], _∷_}
-use Rattle.sheet_layout.specs.declared.Kind.{Kind}
+use Rattle.vocabulary.specs.{ℕ, Bool, true, false, List, [], _∷_}
+use Rattle.sheet_layout.specs.{declared.Kind.Kind, declared.KindRow.KindRow, declared.Pass.Pass}
 use Rattle.sheet_layout.specs.declared.Kind.the-variants.{One, Two, Three, Four, Five}
-use Rattle.sheet_layout.specs.declared.KindRow.{KindRow}
-use Rattle.sheet_layout.specs.declared.Pass.{Pass}
 
 abbrev pub kindFrom : (number : ℕ) → Pass → (default : ℕ) → (rounds : Bool) → KindRow
 kindFrom number pass default rounds = record { number = number; pass = pass; default = default; rounds = rounds }

@@ -1,17 +1,10 @@
 -- The layout of a packed sheet: document 01, "Packed sheets". "Fields run on without gaps, most significant bit first; zero bits fill the
 -- last byte." A kind's fields are one row of `layout`, by the pass that it is for and whether it carries rounds; the size of a sheet, the
 -- values that are read off it and its bytes all follow from that row.
-use Prim.Native.Nat.{ℕ, _+_}
-use mathlib.Core.Bool.{Bool, cond, _&&_}
-use mathlib.Core.List.{List, [], _∷_, _++_, map}
-use lib.Dec.{eqb}
-use Rattle.figures.specs.declared.Figure.{Figure}
-use Rattle.figures.specs.Figure.{angleCount, fixedCount, sideCount}
-use Rattle.figures.specs.Rows.{eachOf}
+use Rattle.vocabulary.specs.{ℕ, _+_, Bool, cond, _&&_, List, [], _∷_, _++_, map, eqb}
+use Rattle.figures.specs.{declared.Figure.Figure, Figure.angleCount, Figure.fixedCount, Figure.sideCount, Rows.eachOf}
 use Rattle.bits.specs.Bits.{fieldAt, totalWidth, byteCount}
-use Rattle.sheet_layout.specs.declared.Kind.{Kind}
-use Rattle.sheet_layout.specs.declared.Lengths.{Lengths}
-use Rattle.sheet_layout.specs.declared.Pass.{Pass}
+use Rattle.sheet_layout.specs.{declared.Kind.Kind, declared.Lengths.Lengths, declared.Pass.Pass}
 use Rattle.sheet_layout.specs.Kinds.{passOf, carriesRounds, ofPass}
 
 -- ---- what stands in a sheet, and in which width

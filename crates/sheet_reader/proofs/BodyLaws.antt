@@ -1,27 +1,13 @@
 -- What the reader promises once kind and figure are known, from what its parts answer. Assumes nothing.
-use Prim.Native.Nat.{ℕ, _≤_}
-use mathlib.Core.List.{List}
-use mathlib.Core.Path.{_≡_, refl, sym, ap, subst, _∙_}
-use native.Mathlib.Omega.{arith}
-use lib.ListN.{length, getD}
-use Rattle.refusals.specs.declared.Refusal.{Refusal}
-use Rattle.refusals.specs.declared.Verdict.{Verdict}
+use Rattle.vocabulary.specs.{ℕ, _≤_, List, _≡_, refl, sym, ap, subst, _∙_, arith, length, getD}
+use Rattle.refusals.specs.{declared.Refusal.Refusal, declared.Verdict.Verdict, Order.judged, Promise.Promised}
 use Rattle.refusals.specs.declared.Verdict.the-variants.{Passed, Failed}
-use Rattle.refusals.specs.Order.{judged}
-use Rattle.refusals.specs.Promise.{Promised}
-use Rattle.refusals.proofs.Nowhere.{same-lengths}
-use Rattle.refusals.proofs.Rows.{none-holds}
-use Rattle.figures.specs.declared.Figure.{Figure}
-use Rattle.figures.specs.Numerators.{mostAngles, mostFixed, mostSides}
-use Rattle.sheet_layout.specs.declared.Kind.{Kind}
-use Rattle.sheet_layout.specs.declared.head.Look.{Look}
-use Rattle.sheet_layout.specs.declared.head.Look.the-variants.{Head}
-use Rattle.sheet_layout.specs.Head.{lookOf}
-use Rattle.sheet_rules.specs.declared.Reading.{Reading}
-use Rattle.sheet_rules.specs.Sheet.{valuesRead}
+use Rattle.refusals.proofs.{Nowhere.same-lengths, Rows.none-holds, InSteps.judged-after-pass, InSteps.judged-after-failure}
+use Rattle.figures.specs.{declared.Figure.Figure, Numerators.mostAngles, Numerators.mostFixed, Numerators.mostSides}
+use Rattle.sheet_layout.specs.{declared.Kind.Kind, declared.head.Look.Look, declared.head.Look.the-variants.Head, Head.lookOf}
+use Rattle.sheet_rules.specs.{declared.Reading.Reading, Sheet.valuesRead}
 use Rattle.sheet_rules.specs.Judging.{ownLengths, valueRows, bodyRows, readingAfter, afterReading}
 use Rattle.sheet_rules.specs.Promises.{Slices, slicesOf, lengthsLent, readAnswer, ReaderPromise}
-use Rattle.refusals.proofs.InSteps.{judged-after-pass, judged-after-failure}
 use Rattle.sheet_rules.proofs.Accepted.{head-refused, head-found, kept}
 use Rattle.sheet_reader.specs.Parts.{shapeRows, answered, valuesOf, afterVerdict, ValuesPromise, bodyAnswer, BodyPromise}
 use Rattle.sheet_reader.proofs.ColumnLaws.{few-of-each}

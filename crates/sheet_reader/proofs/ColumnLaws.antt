@@ -1,28 +1,15 @@
 -- The columns of the reader are those of the layout, by tests that antt computes over all kinds and figures, and hold the values of the
 -- sheet. Assumes nothing.
-use Prim.Native.Nat.{ℕ, suc, _+_, _*_, _≤_, _<_}
-use mathlib.Core.Bool.{Bool, true, false, cond, _&&_}
-use mathlib.Core.List.{List}
-use mathlib.Core.Path.{_≡_, sym, ap, ap₂, subst, _∙_}
-use native.Mathlib.Omega.{arith}
-use lib.Dec.{T, eqb, eqb→eq}
-use lib.IntN.{ℤ}
-use lib.ListN.{length, take, getD, replicate, length-replicate, getD-replicate}
-use lib.Seq.{length-take-le}
+use Rattle.vocabulary.specs.{ℕ, suc, _+_, _*_, _≤_, _<_, Bool, true, false, cond, _&&_, List, _≡_, sym, ap, ap₂, subst, _∙_, arith, T, eqb}
+use Rattle.vocabulary.specs.{eqb→eq, ℤ, length, take, getD, replicate, length-replicate, getD-replicate, length-take-le}
 use Rattle.whole.specs.Lists.{listed, every, everyBelow}
-use Rattle.whole.proofs.Computed.{and-left, and-right, every-below}
-use Rattle.whole.proofs.Lists.{listed-ext}
-use Rattle.bits.specs.Bits.{fieldAt}
-use Rattle.bits.specs.Complement.{signedOf}
-use Rattle.figures.specs.declared.Figure.{Figure}
-use Rattle.figures.specs.Figure.{allFigures, angleCount, fixedCount, sideCount}
+use Rattle.whole.proofs.{Computed.and-left, Computed.and-right, Computed.every-below, Lists.listed-ext}
+use Rattle.bits.specs.{Bits.fieldAt, Complement.signedOf}
+use Rattle.figures.specs.{declared.Figure.Figure, Figure.allFigures, Figure.angleCount, Figure.fixedCount, Figure.sideCount}
 use Rattle.figures.proofs.Figures.{angle-bound}
-use Rattle.sheet_layout.specs.declared.Kind.{Kind}
-use Rattle.sheet_layout.specs.declared.Pass.{Pass}
-use Rattle.sheet_layout.specs.Kinds.{allKinds, passOf, carriesRounds, ofPass}
+use Rattle.sheet_layout.specs.{declared.Kind.Kind, declared.Pass.Pass, Kinds.allKinds, Kinds.passOf, Kinds.carriesRounds, Kinds.ofPass}
 use Rattle.sheet_layout.specs.Layout.{Item, angle, angleRounds, fixedAngle, logSine, difference, logSide, widthOf, layout, lengthsOf, limitOrToleranceItem, roundsIn, fixedIn, sineEntriesIn, sidesIn, sort, numberOfItem, same, positionOf, held}
-use Rattle.sheet_layout.proofs.EachKind.{each}
-use Rattle.sheet_layout.proofs.Sizes.{fixed-bound, side-bound}
+use Rattle.sheet_layout.proofs.{EachKind.each, Sizes.fixed-bound, Sizes.side-bound}
 use Rattle.sheet_rules.specs.Sheet.{valuesRead, mostBits}
 use Rattle.sheet_reader.specs.declared.columns.Column.{Column}
 use Rattle.sheet_reader.specs.Columns.{angleColumn, roundsColumn, fixedColumn, logSineColumn, differenceColumn, logSideColumn, ColumnFits, columnValues, signedColumnValues}

@@ -1,12 +1,6 @@
 -- The steps of a loop that takes the values of a column, for values of any sort. Assumes nothing.
-use Prim.Native.Nat.{ℕ, zero, suc, _+_, _*_, _≤_, _<_}
-use mathlib.Core.List.{List, [], _∷_}
-use mathlib.Core.Path.{_≡_, refl, sym, ap, _∙_}
-use native.Mathlib.Nat.{le-of-suc-le-suc, not-suc-le-zero, add-assoc, mul-suc, mul-zero, add-zero, mul-le-mul-left}
-use native.Mathlib.Numerals.{add-one}
-use native.Mathlib.Omega.{arith}
-use lib.IntN.{ℤ}
-use lib.ListN.{length, getD, take, set}
+use Rattle.vocabulary.specs.{ℕ, zero, suc, _+_, _*_, _≤_, _<_, List, [], _∷_, _≡_, refl, sym, ap, _∙_, le-of-suc-le-suc, not-suc-le-zero}
+use Rattle.vocabulary.specs.{add-assoc, mul-suc, mul-zero, add-zero, mul-le-mul-left, add-one, arith, ℤ, length, getD, take, set}
 use Rattle.whole.specs.Lists.{listed}
 use Rattle.whole.proofs.Lists.{Filled, filled-none, filled-more, filled-all, listed-getD}
 use Rattle.sheet_rules.specs.Promises.{slices}

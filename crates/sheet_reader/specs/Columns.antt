@@ -1,17 +1,10 @@
 -- Where the reader looks for the values of one sort: at start, start + step, start + 2·step and so on, each in the same width. That
 -- these are where the layout has them is a law (proofs/ColumnLaws.antt).
-use Prim.Native.Nat.{ℕ, _+_, _*_, _≤_}
-use mathlib.Core.Bool.{Bool}
-use mathlib.Core.List.{List}
-use lib.IntN.{ℤ}
+use Rattle.vocabulary.specs.{ℕ, _+_, _*_, _≤_, Bool, List, ℤ}
 use Rattle.whole.specs.Lists.{listed}
-use Rattle.figures.specs.declared.Figure.{Figure}
-use Rattle.figures.specs.Figure.{angleCount, sideCount}
-use Rattle.figures.specs.Numerators.{mostAngles}
-use Rattle.bits.specs.Bits.{fieldAt}
-use Rattle.bits.specs.Complement.{signedOf}
-use Rattle.sheet_layout.specs.declared.Pass.{Pass}
-use Rattle.sheet_layout.specs.Layout.{roundsBits}
+use Rattle.figures.specs.{declared.Figure.Figure, Figure.angleCount, Figure.sideCount, Numerators.mostAngles}
+use Rattle.bits.specs.{Bits.fieldAt, Complement.signedOf}
+use Rattle.sheet_layout.specs.{declared.Pass.Pass, Layout.roundsBits}
 use Rattle.sheet_rules.specs.Sheet.{mostBits}
 use Rattle.sheet_reader.specs.declared.columns.Column.{Column}
 

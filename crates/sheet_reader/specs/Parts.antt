@@ -1,20 +1,12 @@
 -- What the parts of the reader answer, in the words of the whole (specs/Judging.antt and specs/Promises.antt of `sheet_rules`).
-use Prim.Native.Nat.{ℕ}
-use mathlib.Core.List.{List, [], _∷_}
-use lib.ListN.{length}
-use Rattle.refusals.specs.declared.Verdict.{Verdict}
-use Rattle.refusals.specs.declared.Verdict.the-variants.{Passed, Failed}
-use Rattle.refusals.specs.Order.{Row, judged}
-use Rattle.refusals.specs.Promise.{Promised}
-use Rattle.refusals.specs.Table.{lengthsRow, sheetSizeRow, fillingRow}
+use Rattle.vocabulary.specs.{ℕ, List, [], _∷_, length}
+use Rattle.refusals.specs.{declared.Verdict.Verdict, declared.Verdict.the-variants.Passed, declared.Verdict.the-variants.Failed}
+use Rattle.refusals.specs.{Order.Row, Order.judged, Promise.Promised, Table.lengthsRow, Table.sheetSizeRow, Table.fillingRow}
 use Rattle.figures.specs.declared.Figure.{Figure}
-use Rattle.sheet_layout.specs.declared.Kind.{Kind}
-use Rattle.sheet_layout.specs.Layout.{sheetSize}
-use Rattle.sheet_rules.specs.declared.Reading.{Reading}
-use Rattle.sheet_rules.specs.declared.Reading.the-variants.{Read}
-use Rattle.sheet_rules.specs.Sheet.{Values, valuesFrom, valuesRead}
+use Rattle.sheet_layout.specs.{declared.Kind.Kind, Layout.sheetSize}
+use Rattle.sheet_rules.specs.{declared.Reading.Reading, declared.Reading.the-variants.Read}
+use Rattle.sheet_rules.specs.{Sheet.Values, Sheet.valuesFrom, Sheet.valuesRead, Promises.Slices, Promises.slicesOf, Promises.lengthsLent}
 use Rattle.sheet_rules.specs.Judging.{ownLengths, fillingBits, valueRows, bodyRows, readingAfter, afterReading}
-use Rattle.sheet_rules.specs.Promises.{Slices, slicesOf, lengthsLent}
 
 -- the rows of the body before those of the values: 12, 2, 13
 abbrev pub shapeRows : Kind → Figure → (sheet lent : List ℕ) → List Row

@@ -1,30 +1,15 @@
 -- What the reader and the writer answer once kind and figure are known, and what an accepted sheet is. Assumes nothing.
-use Prim.Native.Nat.{ℕ, _≤_}
-use mathlib.Core.List.{List, [], _∷_, _++_}
-use mathlib.Core.Path.{_≡_, refl, sym, ap, ap₂, subst, _∙_}
-use native.Mathlib.Omega.{arith}
-use lib.ListN.{length, getD, take}
+use Rattle.vocabulary.specs.{ℕ, _≤_, List, [], _∷_, _++_, _≡_, refl, sym, ap, ap₂, subst, _∙_, arith, length, getD, take}
 use Rattle.whole.proofs.Lists.{length-listed}
-use Rattle.refusals.specs.declared.Refusal.{Refusal}
-use Rattle.refusals.specs.declared.Verdict.{Verdict}
-use Rattle.refusals.specs.declared.Verdict.the-variants.{Passed, Failed}
-use Rattle.refusals.specs.Order.{Row, HoldsNowhere, NoneHolds, judged}
-use Rattle.refusals.specs.Table.{lengthsRow, fillingRow}
-use Rattle.refusals.proofs.InSteps.{judged-after-pass}
-use Rattle.refusals.proofs.Nowhere.{same-lengths, size-right}
-use Rattle.refusals.proofs.Rows.{none-holds, done-exactly}
-use Rattle.figures.specs.declared.Figure.{Figure}
-use Rattle.figures.specs.declared.Named.the-variants.{As}
-use Rattle.figures.specs.Figure.{angleCount, figureOf}
-use Rattle.sheet_layout.specs.declared.Kind.{Kind}
-use Rattle.sheet_layout.specs.Layout.{fixedIn, sineEntriesIn, sidesIn, sheetSize}
-use Rattle.sheet_layout.specs.declared.head.NamedKind.the-variants.{Is}
-use Rattle.sheet_layout.specs.declared.head.Look.{Look}
-use Rattle.sheet_layout.specs.declared.head.Look.the-variants.{Head}
+use Rattle.refusals.specs.{declared.Refusal.Refusal, declared.Verdict.Verdict, Order.Row, Order.HoldsNowhere, Order.NoneHolds, Order.judged}
+use Rattle.refusals.specs.{declared.Verdict.the-variants.Passed, declared.Verdict.the-variants.Failed, Table.lengthsRow, Table.fillingRow}
+use Rattle.refusals.proofs.{InSteps.judged-after-pass, Nowhere.same-lengths, Nowhere.size-right, Rows.none-holds, Rows.done-exactly}
+use Rattle.figures.specs.{declared.Figure.Figure, declared.Named.the-variants.As, Figure.angleCount, Figure.figureOf}
+use Rattle.sheet_layout.specs.{declared.Kind.Kind, Layout.fixedIn, Layout.sineEntriesIn, Layout.sidesIn, Layout.sheetSize}
+use Rattle.sheet_layout.specs.{declared.head.NamedKind.the-variants.Is, declared.head.Look.Look, declared.head.Look.the-variants.Head}
 use Rattle.sheet_layout.specs.Head.{kindOf, nameRows, kindNumberIn, codeIn, nIn, headRows, lookOf, headOf, ofHead}
 use Rattle.sheet_layout.proofs.Naming.{named, headVerdict, names-judged, look-judged, look-names, long-enough}
-use Rattle.sheet_rules.specs.declared.Reading.{Reading}
-use Rattle.sheet_rules.specs.declared.Reading.the-variants.{Read}
+use Rattle.sheet_rules.specs.{declared.Reading.Reading, declared.Reading.the-variants.Read}
 use Rattle.sheet_rules.specs.Sheet.{Values, valuesRead, packedSheet}
 use Rattle.sheet_rules.specs.Judging.{ownLengths, lengthsGiven, valueRows, fillingBits, bodyRows, readerRows, readingAfter, readingFound, readingOf, afterReading, givenRows, writerRows, writingOf, afterWriting, writtenOf}
 

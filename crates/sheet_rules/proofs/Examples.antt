@@ -1,24 +1,15 @@
 -- The definitions at work: sheets that are read, and sheets that are turned back, each computed.
-use Prim.Native.Nat.{ℕ}
-use mathlib.Core.List.{List, [], _∷_, _++_}
-use mathlib.Core.Path.{_≡_, refl}
-use lib.IntN.{pos, negℤ}
-use lib.ListN.{replicate}
+use Rattle.vocabulary.specs.{ℕ, List, [], _∷_, _++_, _≡_, refl, pos, negℤ, replicate}
 use Rattle.whole.specs.Lists.{listed}
-use Rattle.refusals.specs.declared.Refusal.{Refusal}
-use Rattle.refusals.specs.declared.Verdict.the-variants.{Failed}
-use Rattle.refusals.specs.Order.{answerOf, lowestPlace}
+use Rattle.refusals.specs.{declared.Refusal.Refusal, declared.Verdict.the-variants.Failed, Order.answerOf, Order.lowestPlace}
 use Rattle.bits.specs.Bits.{odd, bits, digit, value, bitsOf, firstByte, bytesFrom, byteCount, bytesOf, inside, fieldAt, packedBits, totalWidth}
 use Rattle.bits.specs.Complement.{halfRange, signedOf, fitsSigned, twosComplement}
-use Rattle.figures.specs.declared.Figure.{Figure}
+use Rattle.figures.specs.{declared.Figure.Figure, Figure.figureOf}
 use Rattle.figures.specs.declared.Figure.the-variants.{Quadrilateral, PointInTriangle, CentralTriangle}
-use Rattle.figures.specs.Figure.{figureOf}
-use Rattle.sheet_layout.specs.declared.Kind.{Kind}
+use Rattle.sheet_layout.specs.{declared.Kind.Kind, Head.headOf, Head.headRows, Head.lookOf}
 use Rattle.sheet_layout.specs.declared.Kind.the-variants.{One, Two, Four, Five}
 use Rattle.sheet_layout.specs.Layout.{layout, bitCount, sheetSize, sort, numberOfItem, same, positionOf, held}
-use Rattle.sheet_layout.specs.Head.{headOf, headRows, lookOf}
-use Rattle.sheet_rules.specs.declared.Reading.{Reading}
-use Rattle.sheet_rules.specs.declared.Reading.the-variants.{Read}
+use Rattle.sheet_rules.specs.{declared.Reading.Reading, declared.Reading.the-variants.Read}
 use Rattle.sheet_rules.specs.Sheet.{Values, valuesRead, packedSheet, valuesFrom}
 use Rattle.sheet_rules.specs.Judging.{ownLengths, bodyRows, readerRows, readingOf, givenRows, writerRows, writingOf}
 

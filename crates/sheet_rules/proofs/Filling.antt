@@ -1,26 +1,13 @@
 -- Number 13, "a filling bit is 1": some bit after the last field is 1 exactly if the field that they make up does not hold 0. Assumes
 -- nothing.
-use Prim.Native.Nat.{ℕ, _+_, _*_, _^_, _<_}
-use mathlib.Core.Bool.{Bool, true, false, not}
-use mathlib.Core.List.{List, [], _∷_}
-use mathlib.Core.Logic.{_↔_}
-use mathlib.Core.Path.{_≡_, refl, sym, ap, _∙_}
-use native.Mathlib.Omega.{arith}
-use borrow.Author.Tests.{eqb-true, eq-eqb, ne-eqb, not-false}
-use lib.Dec.{eqb}
-use lib.ListN.{length, drop, length-drop}
-use lib.Pow.{pow-pos}
-use lib.Seq.{take-all}
-use Rattle.refusals.specs.Order.{HoldsNowhere}
-use Rattle.refusals.specs.Questions.{someOne, anyOne, asked}
-use Rattle.refusals.specs.Table.{fillingRow}
+use Rattle.vocabulary.specs.{ℕ, _+_, _*_, _^_, _<_, Bool, true, false, not, List, [], _∷_, _↔_, _≡_, refl, sym, ap, _∙_, arith, eqb-true}
+use Rattle.vocabulary.specs.{eq-eqb, ne-eqb, not-false, eqb, length, drop, length-drop, pow-pos, take-all}
+use Rattle.refusals.specs.{Order.HoldsNowhere, Questions.someOne, Questions.anyOne, Questions.asked, Table.fillingRow}
 use Rattle.refusals.proofs.Decided.{decided-not}
 use Rattle.bits.specs.Bits.{digit, value, bitsOf, byteCount, fillingWidth, fieldAt}
-use Rattle.bits.proofs.Bytes.{length-bitsOf}
-use Rattle.bits.proofs.Fields.{is-inside, fieldAt-is}
+use Rattle.bits.proofs.{Bytes.length-bitsOf, Fields.is-inside, Fields.fieldAt-is}
 use Rattle.figures.specs.declared.Figure.{Figure}
-use Rattle.sheet_layout.specs.declared.Kind.{Kind}
-use Rattle.sheet_layout.specs.Layout.{bitCount, sheetSize}
+use Rattle.sheet_layout.specs.{declared.Kind.Kind, Layout.bitCount, Layout.sheetSize}
 use Rattle.sheet_rules.specs.Judging.{fillingBits}
 
 -- bits stand for 0 exactly if none is 1

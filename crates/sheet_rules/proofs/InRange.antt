@@ -1,19 +1,11 @@
 -- What the rows of the values let pass: every value lies within its range, and so fits its field. Assumes nothing.
-use Prim.Native.Nat.{ℕ, _+_, _≤_, _<_, _^_}
-use mathlib.Core.List.{List, _++_}
-use mathlib.Core.Path.{_≡_, subst}
-use native.Mathlib.Omega.{arith}
-use lib.Dec.{leb→le}
-use lib.IntN.{ℤ, pos, negsuc, negℤ}
-use lib.ListN.{length, getD, length-append, List·getD-append}
-use lib.Seq.{getD-append-add}
-use lib.Signed.{mag, _≤ℤ_}
+use Rattle.vocabulary.specs.{ℕ, _+_, _≤_, _<_, _^_, List, _++_, _≡_, subst, arith, leb→le, ℤ, pos, negsuc, negℤ, length, getD}
+use Rattle.vocabulary.specs.{length-append, List·getD-append, getD-append-add, mag, _≤ℤ_}
 use Rattle.refusals.specs.Order.{NoneHolds}
 use Rattle.refusals.specs.Ranges.{leastAngle, mostAngle, leastLogSine, mostLogSine, mostDifference, leastRounds}
 use Rattle.refusals.proofs.Nowhere.{limit-within, angles-within, rounds-within, fixed-within, log-sines-within, differences-within}
 use Rattle.sheet_layout.specs.declared.Kind.{Kind}
-use Rattle.sheet_rules.specs.Sheet.{Values}
-use Rattle.sheet_rules.specs.Judging.{mostLimitOrTolerance, mostRoundsOf, valueRows}
+use Rattle.sheet_rules.specs.{Sheet.Values, Judging.mostLimitOrTolerance, Judging.mostRoundsOf, Judging.valueRows}
 
 pub record InRange (kind : Kind) (v : Values) : Type 0 where
   pub limitOrTolerance : v .limitOrTolerance ≤ mostLimitOrTolerance kind

@@ -1,11 +1,8 @@
 -- The fields of a layout have the widths and the bits that it counts. Assumes nothing.
-use Prim.Native.Nat.{ℕ}
-use mathlib.Core.List.{List, [], _∷_, map}
-use mathlib.Core.Path.{_≡_, refl, ap}
+use Rattle.vocabulary.specs.{ℕ, List, [], _∷_, map, _≡_, refl, ap}
 use Rattle.bits.specs.Bits.{widths, totalWidth}
 use Rattle.figures.specs.declared.Figure.{Figure}
-use Rattle.sheet_layout.specs.declared.Kind.{Kind}
-use Rattle.sheet_layout.specs.Layout.{Item, widthOf, layout, bitCount}
+use Rattle.sheet_layout.specs.{declared.Kind.Kind, Layout.Item, Layout.widthOf, Layout.layout, Layout.bitCount}
 use Rattle.sheet_rules.specs.Sheet.{Values, fieldOf}
 
 module _ (kind : Kind) (f : Figure) (v : Values) where

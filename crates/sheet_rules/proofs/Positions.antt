@@ -1,22 +1,15 @@
 -- Where each item of a layout stands, by tests that antt computes over all kinds and figures: no item stands twice, and each value that
 -- is counted stands there. Assumes nothing.
-use Prim.Native.Nat.{ℕ, suc, _+_, _≤_, _<_, zero-le, suc-le-suc}
-use mathlib.Core.Bool.{Bool, true, false, cond, _&&_}
-use mathlib.Core.List.{List, [], _∷_, map}
-use mathlib.Core.Path.{_≡_, refl, sym, ap, ap₂, _∙_}
-use native.Mathlib.Nat.{le-of-suc-le-suc, not-suc-le-zero}
-use native.Mathlib.Omega.{arith}
-use lib.Dec.{T, eqb, leb, ltb, eqb→eq, leb→le, ltb→lt, lit≤}
-use lib.ListN.{length, getD, take}
+use Rattle.vocabulary.specs.{ℕ, suc, _+_, _≤_, _<_, zero-le, suc-le-suc, Bool, true, false, cond, _&&_, List, [], _∷_, map, _≡_, refl, sym}
+use Rattle.vocabulary.specs.{ap, ap₂, _∙_, le-of-suc-le-suc, not-suc-le-zero, arith, T, eqb, leb, ltb, eqb→eq, leb→le, ltb→lt, lit≤}
+use Rattle.vocabulary.specs.{length, getD, take}
 use Rattle.whole.specs.Lists.{every, everyBelow}
 use Rattle.whole.proofs.Computed.{and-left, and-right, every-at, every-below}
 use Rattle.bits.specs.Bits.{totalWidth}
-use Rattle.figures.specs.declared.Figure.{Figure}
-use Rattle.figures.specs.Figure.{allFigures, angleCount}
-use Rattle.sheet_layout.specs.declared.Kind.{Kind}
-use Rattle.sheet_layout.specs.Kinds.{allKinds}
-use Rattle.sheet_layout.proofs.EachKind.{each}
+use Rattle.figures.specs.{declared.Figure.Figure, Figure.allFigures, Figure.angleCount}
+use Rattle.sheet_layout.specs.{declared.Kind.Kind, Kinds.allKinds}
 use Rattle.sheet_layout.specs.Layout.{Item, theKind, theCode, theN, limit, tolerance, angle, angleRounds, fixedAngle, logSine, difference, logSide, widthOf, head, layout, limitOrToleranceItem, roundsIn, fixedIn, sineEntriesIn, sidesIn, sort, numberOfItem, same, positionOf, held}
+use Rattle.sheet_layout.proofs.EachKind.{each}
 
 -- ---- items and their indexes
 

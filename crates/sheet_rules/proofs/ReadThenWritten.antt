@@ -1,38 +1,21 @@
 -- An accepted sheet, written again from the values that are read off it, has the same bytes: for every kind and figure, and sheets of
 -- every length.
-use Prim.Native.Nat.{ℕ, zero, suc, _*_, _≤_, _<_}
-use mathlib.Core.Bool.{Bool, true, false, cond, _&&_}
-use mathlib.Core.List.{List, [], _∷_, map}
-use mathlib.Core.Path.{_≡_, refl, sym, ap, ap₂, subst, _∙_}
-use native.Mathlib.Nat.{le-of-suc-le-suc, not-suc-le-zero}
-use native.Mathlib.Omega.{arith}
-use lib.Dec.{T, leb, leb→le, lit≤}
-use lib.IntN.{pos}
-use lib.ListN.{length, getD, take, drop, length-map, List·getD-map}
-use lib.Seq.{ext-getD}
+use Rattle.vocabulary.specs.{ℕ, zero, suc, _*_, _≤_, _<_, Bool, true, false, cond, _&&_, List, [], _∷_, map, _≡_, refl, sym, ap, ap₂}
+use Rattle.vocabulary.specs.{subst, _∙_, le-of-suc-le-suc, not-suc-le-zero, arith, T, leb, leb→le, lit≤, pos, length, getD, take, drop}
+use Rattle.vocabulary.specs.{length-map, List·getD-map, ext-getD}
 use Rattle.whole.specs.Lists.{listed}
-use Rattle.whole.proofs.Computed.{and-right}
-use Rattle.whole.proofs.Lists.{getD-listed, getD-any}
-use Rattle.refusals.specs.Numbers.{numbered}
-use Rattle.refusals.specs.declared.Verdict.the-variants.{Passed}
+use Rattle.whole.proofs.{Computed.and-right, Lists.getD-listed, Lists.getD-any}
+use Rattle.refusals.specs.{Numbers.numbered, declared.Verdict.the-variants.Passed}
 use Rattle.bits.specs.Bits.{Field, bitsOf, bytesOf, fieldAt, totalWidth, packedBits, readFields}
 use Rattle.bits.specs.Complement.{signedOf, twosComplement}
-use Rattle.bits.proofs.Bytes.{AreBytes}
-use Rattle.bits.proofs.Fields.{fieldAt-lt}
-use Rattle.bits.proofs.Packed.{fieldAt-offset, written-back}
-use Rattle.bits.proofs.Complement.{twosComplement-signedOf}
-use Rattle.figures.specs.declared.Figure.{Figure}
-use Rattle.figures.specs.Figure.{description, angleCount}
+use Rattle.bits.proofs.{Bytes.AreBytes, Fields.fieldAt-lt, Packed.fieldAt-offset, Packed.written-back, Complement.twosComplement-signedOf}
+use Rattle.figures.specs.{declared.Figure.Figure, Figure.description, Figure.angleCount}
 use Rattle.figures.proofs.Naming.{named-exactly}
-use Rattle.sheet_layout.specs.declared.Kind.{Kind}
-use Rattle.sheet_layout.specs.Kinds.{numberOfKind, carriesRounds}
+use Rattle.sheet_layout.specs.{declared.Kind.Kind, Kinds.numberOfKind, Kinds.carriesRounds, Head.kindNumberIn, Head.codeIn, Head.nIn}
 use Rattle.sheet_layout.specs.Layout.{Item, theKind, theCode, theN, limit, tolerance, angle, angleRounds, fixedAngle, logSine, difference, logSide, widthOf, limitOrToleranceItem, layout, fixedIn, sineEntriesIn, sidesIn, bitCount, sheetSize, positionOf, held}
-use Rattle.sheet_layout.specs.Head.{kindNumberIn, codeIn, nIn}
-use Rattle.sheet_layout.proofs.Sizes.{bits-within}
-use Rattle.sheet_layout.proofs.Naming.{kind-exactly, own-head}
-use Rattle.sheet_rules.specs.declared.Reading.the-variants.{Read}
+use Rattle.sheet_layout.proofs.{Sizes.bits-within, Naming.kind-exactly, Naming.own-head}
+use Rattle.sheet_rules.specs.{declared.Reading.the-variants.Read, Judging.readingOf, Judging.writingOf, Judging.writtenOf}
 use Rattle.sheet_rules.specs.Sheet.{Values, numberAt, fieldOf, packedSheet, valuesRead}
-use Rattle.sheet_rules.specs.Judging.{readingOf, writingOf, writtenOf}
 use Rattle.sheet_rules.proofs.Positions.{same-item, position-by-index, stands-once, none-among, counted, each-counted, narrow, kind-in-head, code-in-head, n-in-head}
 use Rattle.sheet_rules.proofs.Accepted.{Accepted, accepted, writer-found, sheet-written, given-back, as-many-read}
 use Rattle.sheet_rules.proofs.Filling.{no-filling-bit}

@@ -1,19 +1,11 @@
 -- The orders of a look, of the reader and of the writer, for demand 1: every row is in the table, what is answered tells what the rows
 -- are judged to be, and a refusal leaves what was lent. Assumes nothing.
-use Prim.Native.Nat.{ℕ}
-use mathlib.Core.List.{List, [], _++_}
-use mathlib.Core.Path.{_≡_, refl, ap, _∙_}
-use lib.ListN.{length}
-use lib.Dec.{T}
-use Rattle.refusals.specs.declared.Refusal.{Refusal}
-use Rattle.refusals.specs.declared.Verdict.{Verdict}
+use Rattle.vocabulary.specs.{ℕ, List, [], _++_, _≡_, refl, ap, _∙_, length, T}
+use Rattle.refusals.specs.{declared.Refusal.Refusal, declared.Verdict.Verdict, Numbers.verdictTold}
 use Rattle.refusals.specs.declared.Verdict.the-variants.{Passed, Failed}
-use Rattle.refusals.specs.Numbers.{verdictTold}
 use Rattle.refusals.specs.Order.{Row, allInTable, judged}
 use Rattle.figures.specs.declared.Figure.{Figure}
-use Rattle.sheet_layout.specs.declared.Kind.{Kind}
-use Rattle.sheet_layout.specs.declared.head.Look.{Look}
-use Rattle.sheet_layout.specs.declared.head.Look.the-variants.{Head}
+use Rattle.sheet_layout.specs.{declared.Kind.Kind, declared.head.Look.Look, declared.head.Look.the-variants.Head}
 use Rattle.sheet_layout.specs.Head.{nameRows, headOf, ofHead, headRows, lookOf, lookTold}
 use Rattle.sheet_layout.proofs.Naming.{look-told, look-judged}
 use Rattle.sheet_rules.specs.Sheet.{Values}

@@ -1,48 +1,29 @@
 -- A sheet that the writer has accepted reads back as the same kind, figure, L or e and values: for every kind and figure.
-use Prim.Native.Nat.{ℕ, zero, suc, _≤_, _<_, _^_, zero-le, suc-le-suc}
-use mathlib.Core.Bool.{Bool, true, false, cond, _&&_}
-use mathlib.Core.List.{List, [], _∷_, map}
-use mathlib.Core.Path.{_≡_, refl, sym, ap, ap₂, subst, _∙_}
-use native.Mathlib.Nat.{lt-of-le-of-lt}
-use native.Mathlib.Omega.{arith}
-use lib.Dec.{T, leb, ltb, leb→le, ltb→lt, lit<, lit≤}
-use lib.IntN.{pos}
-use lib.ListN.{length, getD, take, replicate, length-map, List·getD-map}
+use Rattle.vocabulary.specs.{ℕ, zero, suc, _≤_, _<_, _^_, zero-le, suc-le-suc, Bool, true, false, cond, _&&_, List, [], _∷_, map, _≡_}
+use Rattle.vocabulary.specs.{refl, sym, ap, ap₂, subst, _∙_, lt-of-le-of-lt, arith, T, leb, ltb, leb→le, ltb→lt, lit<, lit≤, pos, length}
+use Rattle.vocabulary.specs.{getD, take, replicate, length-map, List·getD-map}
 use Rattle.whole.specs.Lists.{listed}
-use Rattle.whole.proofs.Computed.{and-right}
-use Rattle.whole.proofs.Lists.{listed-ext, listed-getD}
-use Rattle.refusals.specs.declared.Verdict.the-variants.{Passed}
-use Rattle.refusals.specs.Numbers.{numbered}
-use Rattle.refusals.specs.Order.{NoneHolds}
+use Rattle.whole.proofs.{Computed.and-right, Lists.listed-ext, Lists.listed-getD}
+use Rattle.refusals.specs.{declared.Verdict.the-variants.Passed, Numbers.numbered, Order.NoneHolds}
+use Rattle.refusals.specs.Ranges.{mostLimit, mostTolerance, leastRounds, mostRounds}
 use Rattle.bits.specs.Bits.{Field, bytesOf, byteCount, fillingWidth, fieldAt, totalWidth, widths, packedBits, AllFit}
 use Rattle.bits.specs.Complement.{signedOf}
-use Rattle.bits.proofs.Bytes.{bitsOf-bytesOf, length-bytesOf}
-use Rattle.bits.proofs.Packed.{length-packedBits, fieldAt-packed, filling-zero}
+use Rattle.bits.proofs.{Bytes.bitsOf-bytesOf, Bytes.length-bytesOf, Packed.length-packedBits, Packed.fieldAt-packed, Packed.filling-zero}
 use Rattle.bits.proofs.Complement.{signedOf-twosComplement, twosComplement-lt}
-use Rattle.figures.specs.declared.Figure.{Figure}
-use Rattle.figures.specs.Figure.{description, angleCount}
-use Rattle.figures.proofs.Figures.{each-figure}
-use Rattle.figures.proofs.Naming.{named-exactly}
-use Rattle.sheet_layout.specs.declared.Kind.{Kind}
-use Rattle.refusals.specs.Ranges.{mostLimit, mostTolerance, leastRounds, mostRounds}
-use Rattle.sheet_layout.specs.declared.Pass.{Pass}
-use Rattle.sheet_layout.specs.Kinds.{numberOfKind, passOf, carriesRounds, ofPass}
+use Rattle.figures.specs.{declared.Figure.Figure, Figure.description, Figure.angleCount}
+use Rattle.figures.proofs.{Figures.each-figure, Naming.named-exactly}
+use Rattle.sheet_layout.specs.{declared.Kind.Kind, declared.Pass.Pass, Kinds.numberOfKind, Kinds.passOf, Kinds.carriesRounds, Kinds.ofPass}
 use Rattle.sheet_layout.specs.Layout.{Item, theKind, theCode, theN, limit, tolerance, angle, angleRounds, fixedAngle, logSine, difference, logSide, widthOf, limitOrToleranceItem, layout, fixedIn, sineEntriesIn, sidesIn, bitCount, sheetSize, positionOf, held}
-use Rattle.sheet_layout.specs.declared.head.Look.the-variants.{Head}
-use Rattle.sheet_layout.specs.Head.{kindNumberIn, codeIn, nIn, headOf}
-use Rattle.sheet_layout.proofs.EachKind.{each-kind, each}
-use Rattle.sheet_layout.proofs.Naming.{kind-exactly}
-use Rattle.sheet_rules.specs.declared.Reading.{Reading}
-use Rattle.sheet_rules.specs.declared.Reading.the-variants.{Read}
+use Rattle.sheet_layout.specs.{declared.head.Look.the-variants.Head, Head.kindNumberIn, Head.codeIn, Head.nIn, Head.headOf}
+use Rattle.sheet_layout.proofs.{EachKind.each-kind, EachKind.each, Naming.kind-exactly}
+use Rattle.sheet_rules.specs.{declared.Reading.Reading, declared.Reading.the-variants.Read}
 use Rattle.sheet_rules.specs.Sheet.{Values, numberAt, fieldOf, packedSheet, valuesRead}
 use Rattle.sheet_rules.specs.Judging.{mostRoundsOf, valueRows, ownLengths, lengthsGiven, readingOf, afterReading, writingOf, writtenOf}
 use Rattle.sheet_rules.specs.Promises.{Slices, slicesOf, lengthsLent, readAnswer, readLeft}
 use Rattle.sheet_rules.proofs.Positions.{same-item, indexOf, position-by-index, item-at-index, none-among, counted, each-counted, narrow, kind-stands, code-stands, n-stands, limit-stands, angle-stands, rounds-stand, fixed-stands, log-sine-stands, difference-stands, log-side-stands, kind-in-head, code-in-head, n-in-head}
 use Rattle.sheet_rules.proofs.Accepted.{Accepted, AsMany, own-lengths, accepted-back, writer-accepted, sheet-written}
-use Rattle.sheet_rules.proofs.Filling.{no-filling-bit}
-use Rattle.sheet_rules.proofs.InRange.{InRange, in-range, difference-fits}
-use Rattle.sheet_rules.proofs.Layouts.{fields-widths, fields-bits}
-use Rattle.sheet_rules.proofs.ReadThenWritten.{width-at}
+use Rattle.sheet_rules.proofs.{Filling.no-filling-bit, InRange.InRange, InRange.in-range, InRange.difference-fits}
+use Rattle.sheet_rules.proofs.{Layouts.fields-widths, Layouts.fields-bits, ReadThenWritten.width-at}
 
 -- ---- every number fits its field
 

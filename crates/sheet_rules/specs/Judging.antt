@@ -1,26 +1,17 @@
 -- How sheets are turned back: document 01, "Numbers given when a sheet is turned back", and document 02, M-101 for number 14 and M-106 for
 -- number 16. The reader's order and the writer's, each as one list of rows. Both begin with the rows of the head (specs/Head.antt of
 -- `sheet_layout`).
-use Prim.Native.Nat.{ℕ}
-use mathlib.Core.Bool.{Bool, cond}
-use mathlib.Core.List.{List, [], _∷_, _++_}
-use lib.ListN.{length, drop}
-use Rattle.refusals.specs.declared.Verdict.{Verdict}
-use Rattle.refusals.specs.declared.Verdict.the-variants.{Passed, Failed}
-use Rattle.refusals.specs.Numbers.{Told, told, refusalTold}
-use Rattle.refusals.specs.Order.{Row, judged}
+use Rattle.vocabulary.specs.{ℕ, Bool, cond, List, [], _∷_, _++_, length, drop}
+use Rattle.refusals.specs.{declared.Verdict.Verdict, declared.Verdict.the-variants.Passed, declared.Verdict.the-variants.Failed}
+use Rattle.refusals.specs.{Numbers.Told, Numbers.told, Numbers.refusalTold, Order.Row, Order.judged}
 use Rattle.refusals.specs.Ranges.{mostLimit, mostTolerance, mostRounds}
 use Rattle.refusals.specs.Table.{lengthsRow, limitOrToleranceRow, anglesRow, roundsRow, fixedRow, fixedSumRow, sineEntriesRow, sheetSizeRow, fillingRow}
 use Rattle.figures.specs.declared.Figure.{Figure}
 use Rattle.bits.specs.Bits.{bitsOf}
-use Rattle.sheet_layout.specs.declared.Kind.{Kind}
-use Rattle.sheet_layout.specs.Kinds.{passOf, carriesRounds, ofPass}
-use Rattle.sheet_layout.specs.Layout.{lengthsOf, bitCount, sheetSize}
-use Rattle.sheet_layout.specs.declared.head.Look.{Look}
-use Rattle.sheet_layout.specs.declared.head.Look.the-variants.{Head}
+use Rattle.sheet_layout.specs.{declared.Kind.Kind, Kinds.passOf, Kinds.carriesRounds, Kinds.ofPass, declared.head.Look.Look}
+use Rattle.sheet_layout.specs.{Layout.lengthsOf, Layout.bitCount, Layout.sheetSize, declared.head.Look.the-variants.Head}
 use Rattle.sheet_layout.specs.Head.{nameRows, headOf, ofHead, headRows, lookOf}
-use Rattle.sheet_rules.specs.declared.Reading.{Reading}
-use Rattle.sheet_rules.specs.declared.Reading.the-variants.{Read}
+use Rattle.sheet_rules.specs.{declared.Reading.Reading, declared.Reading.the-variants.Read}
 use Rattle.sheet_rules.specs.Sheet.{Values, valuesRead, packedSheet}
 
 -- ---- the values: 3, 4, 16, 5, 14, 8

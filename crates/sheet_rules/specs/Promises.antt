@@ -1,12 +1,7 @@
 -- What the reader and the writer of packed sheets promise: document 01, "Packed sheets" and "What the promises must decide".
-use Prim.Native.Nat.{ℕ}
-use mathlib.Core.List.{List, [], _∷_}
-use lib.IntN.{ℤ}
-use lib.ListN.{length}
-use Rattle.refusals.specs.declared.Verdict.{Verdict}
-use Rattle.refusals.specs.Promise.{Promised}
-use Rattle.sheet_rules.specs.declared.Reading.{Reading}
-use Rattle.sheet_rules.specs.Sheet.{Values, valuesRead}
+use Rattle.vocabulary.specs.{ℕ, List, [], _∷_, ℤ, length}
+use Rattle.refusals.specs.{declared.Verdict.Verdict, Promise.Promised}
+use Rattle.sheet_rules.specs.{declared.Reading.Reading, Sheet.Values, Sheet.valuesRead}
 use Rattle.sheet_rules.specs.Judging.{readingOf, afterReading, writingOf, writtenOf}
 
 -- ---- the reader

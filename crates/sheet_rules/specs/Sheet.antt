@@ -1,17 +1,11 @@
 -- The values of a packed sheet and its bytes: document 01, "Packed sheets", and document 02, M-106, for the rounds. Both follow from the
 -- layout of its kind and figure.
-use Prim.Native.Nat.{ℕ, suc}
-use mathlib.Core.Bool.{cond}
-use mathlib.Core.List.{List, map}
-use lib.IntN.{ℤ, pos}
+use Rattle.vocabulary.specs.{ℕ, suc, cond, List, map, ℤ, pos}
 use Rattle.whole.specs.Lists.{listed}
 use Rattle.refusals.specs.Numbers.{numbered}
-use Rattle.figures.specs.declared.Figure.{Figure}
-use Rattle.figures.specs.Figure.{description, angleCount}
-use Rattle.bits.specs.Bits.{Field, bytesOf, packedBits}
-use Rattle.bits.specs.Complement.{signedOf, twosComplement}
-use Rattle.sheet_layout.specs.declared.Kind.{Kind}
-use Rattle.sheet_layout.specs.Kinds.{numberOfKind, carriesRounds}
+use Rattle.figures.specs.{declared.Figure.Figure, Figure.description, Figure.angleCount}
+use Rattle.bits.specs.{Bits.Field, Bits.bytesOf, Bits.packedBits, Complement.signedOf, Complement.twosComplement}
+use Rattle.sheet_layout.specs.{declared.Kind.Kind, Kinds.numberOfKind, Kinds.carriesRounds}
 use Rattle.sheet_layout.specs.Layout.{Item, theKind, theCode, theN, limit, tolerance, angle, angleRounds, fixedAngle, logSine, difference, logSide, widthOf, limitOrToleranceItem, layout, fixedIn, sineEntriesIn, sidesIn, held}
 
 -- ---- the values of a sheet, and its bytes

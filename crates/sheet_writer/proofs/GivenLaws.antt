@@ -1,25 +1,13 @@
 -- What the writer promises, from what its parts answer. Assumes nothing.
-use Prim.Native.Nat.{ℕ}
-use mathlib.Core.List.{List, [], _∷_, _++_}
-use mathlib.Core.Path.{_≡_, sym, ap, _∙_}
-use lib.ListN.{length}
-use Rattle.refusals.specs.declared.Refusal.{Refusal}
-use Rattle.refusals.specs.declared.Verdict.{Verdict}
+use Rattle.vocabulary.specs.{ℕ, List, [], _∷_, _++_, _≡_, sym, ap, _∙_, length}
+use Rattle.refusals.specs.{declared.Refusal.Refusal, declared.Verdict.Verdict, Order.Row, Order.verdictOf, Order.judged, Table.lengthsRow}
 use Rattle.refusals.specs.declared.Verdict.the-variants.{Passed, Failed}
-use Rattle.refusals.specs.Order.{Row, verdictOf, judged}
-use Rattle.refusals.specs.Table.{lengthsRow}
-use Rattle.refusals.proofs.Answers.{answer-of-one}
-use Rattle.refusals.proofs.InSteps.{judged-after-pass, judged-after-failure}
-use Rattle.refusals.proofs.Rows.{row-passes}
+use Rattle.refusals.proofs.{Answers.answer-of-one, InSteps.judged-after-pass, InSteps.judged-after-failure, Rows.row-passes}
 use Rattle.figures.specs.declared.Figure.{Figure}
-use Rattle.sheet_layout.specs.declared.Kind.{Kind}
-use Rattle.sheet_layout.specs.Layout.{sheetSize}
-use Rattle.sheet_layout.specs.declared.head.Look.{Look}
-use Rattle.sheet_layout.specs.declared.head.Look.the-variants.{Head}
+use Rattle.sheet_layout.specs.{declared.Kind.Kind, Layout.sheetSize, declared.head.Look.Look, declared.head.Look.the-variants.Head}
 use Rattle.sheet_layout.specs.Head.{headOf}
-use Rattle.sheet_rules.specs.Sheet.{Values, packedSheet}
+use Rattle.sheet_rules.specs.{Sheet.Values, Sheet.packedSheet, Promises.WriterPromise}
 use Rattle.sheet_rules.specs.Judging.{lengthsGiven, ownLengths, valueRows, givenRows, writingOf, afterWriting}
-use Rattle.sheet_rules.specs.Promises.{WriterPromise}
 use Rattle.sheet_rules.proofs.Accepted.{right-lengths, writer-refused, writer-found, sheet-kept, written-found}
 use Rattle.sheet_writer.specs.Parts.{GivenPromise}
 

@@ -1,24 +1,15 @@
 -- Fields that are packed one after the other: what is packed so far grows by each field's bits. Assumes nothing.
-use Prim.Native.Nat.{ℕ, _+_, _-_, _*_, _/_, _%_, _^_, _≤_, _<_}
-use mathlib.Core.Bool.{Bool, true, false}
-use mathlib.Core.List.{List, [], _∷_, _++_, append-assoc, append-nil}
-use mathlib.Core.Path.{_≡_, refl, sym, ap, ap₂, subst, _∙_}
-use native.Mathlib.Nat.{add-zero, add-assoc, mod-lt}
-use native.Mathlib.Numerals.{add-one}
-use native.Mathlib.Omega.{arith}
-use lib.ListN.{length, length-append, length-set, take, set, getD, replicate, length-replicate, replicate-append-replicate}
-use borrow.Author.Tests.{eqb-true, eqb-false}
-use lib.Arith.{digits-lt}
-use lib.Dec.{eqb}
-use lib.Seq.{length-take-le, take-all, take-append-seam, take-suc-set, getD-set-same, getD-set-other}
-use lib.Pow.{pow-pos, pow-add, split, low, mod-pow-add, mod-mod-pow, shl-lt, shl-shr}
+use Rattle.vocabulary.specs.{ℕ, _+_, _-_, _*_, _/_, _%_, _^_, _≤_, _<_, Bool, true, false, List, [], _∷_, _++_, append-assoc, append-nil}
+use Rattle.vocabulary.specs.{_≡_, refl, sym, ap, ap₂, subst, _∙_, add-zero, add-assoc, mod-lt, add-one, arith, length, length-append}
+use Rattle.vocabulary.specs.{length-set, take, set, getD, replicate, length-replicate, replicate-append-replicate, eqb-true, eqb-false}
+use Rattle.vocabulary.specs.{digits-lt, eqb, length-take-le, take-all, take-append-seam, take-suc-set, getD-set-same, getD-set-other}
+use Rattle.vocabulary.specs.{pow-pos, pow-add, split, low, mod-pow-add, mod-mod-pow, shl-lt, shl-shr}
 use Rattle.bits.specs.Bits.{Field, bits, bitsOf, bytesOf, byteCount, fillingWidth, widths, totalWidth, packedBits}
 use Rattle.bits.proofs.Bytes.{AreBytes, length-bitsOf, bitsOf-append, bitsOf-injective, bytesOf-bytes, bitsOf-bytesOf}
 use Rattle.bits.proofs.Numbers.{length-bits, bits-append, value-bits-mod, bits-value, bits-zero}
 use Rattle.bits.proofs.Packed.{packedBits-append, totalWidth-append, widths-append}
-use Rattle.sheet_writer.specs.declared.packer.Packer.{Packer}
+use Rattle.sheet_writer.specs.{declared.packer.Packer.Packer, Parts.fieldFrom}
 use Rattle.sheet_writer.specs.Packer.{packerFrom, packedSoFar, packedCount, WellHeld, HasRoom, Packs, wordBytes}
-use Rattle.sheet_writer.specs.Parts.{fieldFrom}
 
 -- ---- fields after fields
 

@@ -1,20 +1,12 @@
 -- Rows of fields packed one after the other, as the loops of the writer do it. Assumes nothing.
-use Prim.Native.Nat.{ℕ, zero, suc, _+_, _*_, _≤_, _<_}
-use mathlib.Core.Bool.{Bool, true, false}
-use mathlib.Core.List.{List, [], _∷_}
-use mathlib.Core.Path.{_≡_, refl, sym, ap, ap₂, subst, _∙_}
-use native.Mathlib.Nat.{add-zero, mul-zero, mul-suc, mul-le-mul-left}
-use native.Mathlib.Numerals.{add-one}
-use native.Mathlib.Omega.{arith}
-use lib.IntN.{ℤ}
-use lib.ListN.{length}
+use Rattle.vocabulary.specs.{ℕ, zero, suc, _+_, _*_, _≤_, _<_, Bool, true, false, List, [], _∷_, _≡_, refl, sym, ap, ap₂, subst, _∙_}
+use Rattle.vocabulary.specs.{add-zero, mul-zero, mul-suc, mul-le-mul-left, add-one, arith, ℤ, length}
 use Rattle.refusals.specs.Numbers.{numbered}
 use Rattle.bits.specs.Bits.{Field, widths, totalWidth}
 use Rattle.bits.proofs.Packed.{totalWidth-append, widths-append}
 use Rattle.figures.specs.Rows.{eachOf}
 use Rattle.sheet_layout.specs.Layout.{roundsBits}
-use Rattle.sheet_writer.specs.declared.packer.Packer.{Packer}
-use Rattle.sheet_writer.specs.Packer.{packedCount, WellHeld, HasRoom, Packs}
+use Rattle.sheet_writer.specs.{declared.packer.Packer.Packer, Packer.packedCount, Packer.WellHeld, Packer.HasRoom, Packer.Packs}
 use Rattle.sheet_writer.specs.Parts.{fieldFrom, angleFields, rowOf}
 use Rattle.sheet_writer.proofs.PackerLaws.{packs-none, packs-then, room-after}
 

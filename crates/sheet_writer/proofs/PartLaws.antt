@@ -1,28 +1,17 @@
 -- The fields of a layout, part by part as the writer writes them. Assumes nothing.
-use Prim.Native.Nat.{ℕ, zero, suc, _+_, _*_, _≤_}
-use mathlib.Core.Bool.{Bool, true, false}
-use mathlib.Core.List.{List, [], _∷_, _++_, map, map-append}
-use mathlib.Core.Path.{_≡_, refl, sym, ap, ap₂, subst, _∙_}
-use native.Mathlib.Nat.{zero-add, add-zero}
-use native.Mathlib.Omega.{arith}
-use lib.IntN.{pos}
-use lib.ListN.{length}
+use Rattle.vocabulary.specs.{ℕ, zero, suc, _+_, _*_, _≤_, Bool, true, false, List, [], _∷_, _++_, map, map-append, _≡_, refl, sym, ap, ap₂}
+use Rattle.vocabulary.specs.{subst, _∙_, zero-add, add-zero, arith, pos, length}
 use Rattle.refusals.specs.Numbers.{numbered}
 use Rattle.bits.specs.Bits.{Field, bits, bitsOf, bytesOf, widths, totalWidth, byteCount}
-use Rattle.figures.specs.declared.Figure.{Figure}
-use Rattle.figures.specs.Figure.{description, angleCount, fixedCount, sideCount}
-use Rattle.figures.specs.Rows.{eachOf}
-use Rattle.sheet_layout.specs.declared.Kind.{Kind}
-use Rattle.sheet_layout.specs.declared.Pass.{Pass}
-use Rattle.sheet_layout.specs.Kinds.{numberOfKind, passOf, carriesRounds, ofPass}
+use Rattle.figures.specs.{declared.Figure.Figure, Figure.description, Figure.angleCount, Figure.fixedCount, Figure.sideCount, Rows.eachOf}
+use Rattle.sheet_layout.specs.{declared.Kind.Kind, declared.Pass.Pass, Kinds.numberOfKind, Kinds.passOf, Kinds.carriesRounds, Kinds.ofPass}
 use Rattle.sheet_layout.specs.Layout.{Item, limit, tolerance, fixedAngle, logSine, difference, logSide, widthOf, limitOrToleranceItem, angleItems, body, layout, roundsBits, sheetSize}
 use Rattle.sheet_layout.proofs.Sizes.{bitsFor, pass-bits, bits-within}
 use Rattle.sheet_rules.specs.Sheet.{Values, valuesFrom, fieldOf, packedSheet}
 use Rattle.sheet_writer.specs.declared.packer.Packer.{Packer}
 use Rattle.sheet_writer.specs.Packer.{nonePacked, packedSoFar, packedCount, WellHeld, HasRoom, Packs}
 use Rattle.sheet_writer.specs.Parts.{fieldFrom, headFields, angleFields, rowOf, bodyFields, BodyFits}
-use Rattle.sheet_rules.proofs.Accepted.{AsMany}
-use Rattle.sheet_rules.proofs.Layouts.{fields-bits}
+use Rattle.sheet_rules.proofs.{Accepted.AsMany, Layouts.fields-bits}
 use Rattle.sheet_writer.proofs.PackerLaws.{packs-then}
 
 map-each : {A B : Type 0} (g : A → B) (n : ℕ) (r : ℕ → List A) → map g (eachOf n r) ≡ eachOf n (λ i. map g (r i))

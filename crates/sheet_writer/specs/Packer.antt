@@ -1,10 +1,6 @@
 -- Fields packed one after the other, as the writer holds them: whole bytes that are out, and the bits after them that do not yet fill
 -- four bytes.
-use Prim.Native.Nat.{ℕ, _+_, _*_, _/_, _%_, _≤_, _<_}
-use mathlib.Core.Bool.{Bool}
-use mathlib.Core.List.{List, [], _∷_, _++_}
-use mathlib.Core.Path.{_≡_}
-use lib.ListN.{length, take}
+use Rattle.vocabulary.specs.{ℕ, _+_, _*_, _/_, _%_, _≤_, _<_, Bool, List, [], _∷_, _++_, _≡_, length, take}
 use Rattle.bits.specs.Bits.{Field, bits, bitsOf, widths, totalWidth, packedBits}
 use Rattle.sheet_writer.specs.declared.packer.Packer.{Packer}
 

@@ -1,25 +1,12 @@
 -- What the parts of the writer compute, in the words of the whole (specs/Sheet.antt of `sheet_rules`).
-use Prim.Native.Nat.{ℕ, _+_, _*_}
-use mathlib.Core.Bool.{Bool, cond}
-use mathlib.Core.List.{List, [], _∷_, _++_}
-use mathlib.Core.Path.{_≡_}
-use lib.IntN.{ℤ, pos}
-use lib.ListN.{length}
-use Rattle.refusals.specs.declared.Verdict.{Verdict}
-use Rattle.refusals.specs.Numbers.{numbered}
-use Rattle.refusals.specs.Order.{judged}
-use Rattle.refusals.specs.Promise.{Promised}
-use Rattle.bits.specs.Bits.{Field}
-use Rattle.bits.specs.Complement.{twosComplement}
-use Rattle.figures.specs.declared.Figure.{Figure}
-use Rattle.figures.specs.Rows.{eachOf}
-use Rattle.sheet_layout.specs.declared.Kind.{Kind}
-use Rattle.sheet_layout.specs.declared.Pass.{Pass}
+use Rattle.vocabulary.specs.{ℕ, _+_, _*_, Bool, cond, List, [], _∷_, _++_, _≡_, ℤ, pos, length}
+use Rattle.refusals.specs.{declared.Verdict.Verdict, Numbers.numbered, Order.judged, Promise.Promised}
+use Rattle.bits.specs.{Bits.Field, Complement.twosComplement}
+use Rattle.figures.specs.{declared.Figure.Figure, Rows.eachOf}
+use Rattle.sheet_layout.specs.{declared.Kind.Kind, declared.Pass.Pass}
 use Rattle.sheet_layout.specs.Layout.{theKind, theCode, theN, widthOf, roundsBits}
-use Rattle.sheet_rules.specs.Sheet.{Values, packedSheet}
-use Rattle.sheet_rules.specs.Judging.{givenRows, afterWriting}
-use Rattle.sheet_writer.specs.declared.packer.Packer.{Packer}
-use Rattle.sheet_writer.specs.Packer.{HasRoom}
+use Rattle.sheet_rules.specs.{Sheet.Values, Sheet.packedSheet, Judging.givenRows, Judging.afterWriting}
+use Rattle.sheet_writer.specs.{declared.packer.Packer.Packer, Packer.HasRoom}
 
 abbrev pub fieldFrom : (width holds : ℕ) → Field
 fieldFrom w v = record { width = w; holds = v }

@@ -1,10 +1,6 @@
 -- The first two lines that document 01, "Sheets worked through", prints, computed from the definitions: "figure 1 0 denominator 8" and
 -- "1 1620004 -12 -2 1620002". And the ends of the range of a 64-bit number. Assumes nothing.
-use mathlib.Core.Path.{_≡_, refl}
-use mathlib.Core.List.{List, [], _∷_, map}
-use Prim.Native.Nat.{ℕ}
-use lib.IntN.{pos, negsuc}
-use lib.ListN.{length}
+use Rattle.vocabulary.specs.{_≡_, refl, List, [], _∷_, map, ℕ, pos, negsuc, length}
 use Rattle.text.specs.Text.{decimal, natural, digits, lines, line, spaced}
 
 figure : List ℕ

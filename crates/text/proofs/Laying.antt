@@ -1,17 +1,10 @@
 -- Laws of laying text in a buffer: where it has room and where not, and several texts laid one after the other. Assumes nothing.
-use mathlib.Core.Path.{_≡_, refl, sym, ap, ap₂, _∙_}
-use mathlib.Core.Bool.{Bool, true, false, cond}
-use mathlib.Core.List.{List, [], _∷_, _++_, append-assoc, append-nil}
-use Prim.Native.Nat.{ℕ, _+_, _-_, _≤_, _<_}
-use native.Mathlib.Nat.{zero-add}
-use native.Mathlib.Numerals.{add-one}
-use native.Mathlib.Omega.{arith}
-use borrow.Author.Tests.{le-leb, lt-leb, leb-true, leb-false}
-use lib.Dec.{leb}
-use lib.ListN.{length, take, drop, set, length-append, length-take, length-drop, length-set, drop-of-length-le}
-use lib.Seq.{take-all, take-append-seam, take-append-le, take-append-add, take-at, drop-at, drop-drop, length-take-le, paste, take-length, append-snoc, set-split, take-set-le}
-use Rattle.text.specs.Text.{laid, after}
-use Rattle.text.specs.Holds.{Holds}
+use Rattle.vocabulary.specs.{_≡_, refl, sym, ap, ap₂, _∙_, Bool, true, false, cond, List, [], _∷_, _++_, append-assoc, append-nil, ℕ, _+_}
+use Rattle.vocabulary.specs.{_-_, _≤_, _<_, zero-add, add-one, arith, le-leb, lt-leb, leb-true, leb-false, leb, length, take, drop, set}
+use Rattle.vocabulary.specs.{length-append, length-take, length-drop, length-set, drop-of-length-le, take-all, take-append-seam}
+use Rattle.vocabulary.specs.{take-append-le, take-append-add, take-at, drop-at, drop-drop, length-take-le, paste, take-length, append-snoc}
+use Rattle.vocabulary.specs.{set-split, take-set-le}
+use Rattle.text.specs.{Text.laid, Text.after, Holds.Holds}
 
 room-or-none : (P : Type 0) (m n : ℕ) → (m ≤ n → P) → (n < m → P) → P
 room-or-none P m n room none = go (leb m n) refl

@@ -1,14 +1,6 @@
 -- Laws of lines: a text split at its line feeds, and each line at its spaces, gives back the parts; how long lines are. Assumes nothing.
-use mathlib.Core.Path.{_≡_, refl, sym, ap, ap₂, _∙_}
-use mathlib.Core.Bool.{Bool, true, false, not}
-use mathlib.Core.List.{List, [], _∷_, _++_, map, append-assoc, append-nil}
-use Prim.Native.Nat.{ℕ, zero, suc, _+_, _*_, _≤_, _<_}
-use native.Mathlib.Numerals.{add-one}
-use native.Mathlib.Omega.{arith}
-use borrow.Author.Tests.{eq-eqb}
-use lib.Dec.{T, eqb}
-use lib.ListN.{length, length-append}
-use lib.Seq.{append-snoc}
+use Rattle.vocabulary.specs.{_≡_, refl, sym, ap, ap₂, _∙_, Bool, true, false, not, List, [], _∷_, _++_, map, append-assoc, append-nil, ℕ}
+use Rattle.vocabulary.specs.{zero, suc, _+_, _*_, _≤_, _<_, add-one, arith, eq-eqb, T, eqb, length, length-append, append-snoc}
 use Rattle.whole.specs.Lists.{every, listed}
 use Rattle.whole.proofs.Computed.{and-left, and-right}
 use Rattle.text.specs.Text.{space, lineFeed, spaced, line, lines, isPlain, isWord, begun, split, splitLines, parts, readLines}

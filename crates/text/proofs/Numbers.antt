@@ -1,16 +1,9 @@
 -- Laws of a number's text: it reads back as the number, so that no two numbers have one text; what its bytes are; how long it is at most.
 -- Each goes by the number without its last digit. Assumes nothing.
-use mathlib.Core.Path.{_≡_, refl, sym, ap, ap₂, _∙_, subst⁻¹}
-use mathlib.Core.Bool.{Bool, true, false, _||_}
-use mathlib.Core.List.{List, [], _∷_, _++_, map}
-use Prim.Native.Nat.{ℕ, zero, suc, _+_, _*_, _-_, _/_, _%_, _^_, _≤_, _<_}
-use native.Mathlib.Nat.{not-suc-le-zero, pow-suc, div-lt-iff-lt-mul, div-eq-of-lt, mod-eq-of-lt}
-use native.Mathlib.Omega.{arith}
-use borrow.Author.Tests.{ne-eqb, ltb-true, ltb-false}
-use lib.Dec.{T, leb, ltb, eqb, leb→le, le→leb, eqb→eq, lit<}
-use lib.IntN.{ℤ, pos, negsuc, negℤ, natAbs}
-use lib.ListN.{length, getD, length-append, List·getD-append}
-use lib.Signed.{mag}
+use Rattle.vocabulary.specs.{_≡_, refl, sym, ap, ap₂, _∙_, subst⁻¹, Bool, true, false, _||_, List, [], _∷_, _++_, map, ℕ, zero, suc, _+_}
+use Rattle.vocabulary.specs.{_*_, _-_, _/_, _%_, _^_, _≤_, _<_, not-suc-le-zero, pow-suc, div-lt-iff-lt-mul, div-eq-of-lt, mod-eq-of-lt}
+use Rattle.vocabulary.specs.{arith, ne-eqb, ltb-true, ltb-false, T, leb, ltb, eqb, leb→le, le→leb, eqb→eq, lit<, ℤ, pos, negsuc, negℤ}
+use Rattle.vocabulary.specs.{natAbs, length, getD, length-append, List·getD-append, mag}
 use Rattle.whole.specs.Lists.{every}
 use Rattle.whole.proofs.Computed.{and-left}
 use Rattle.text.proofs.Tests.{and-both, or-left, or-cases, every-append, every-also}

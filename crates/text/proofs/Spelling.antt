@@ -1,12 +1,8 @@
 -- A number's digits laid from the last one backwards: what the loop of `text::numerals::put_digits` keeps, and its steps. Assumes nothing.
-use mathlib.Core.Path.{_≡_, sym, ap, ap₂, _∙_}
-use mathlib.Core.List.{List, [], _∷_, _++_}
-use Prim.Native.Nat.{ℕ, _+_, _-_, _/_, _%_, _≤_, _<_}
-use native.Mathlib.Omega.{arith}
-use lib.ListN.{length, set, length-append, length-set}
+use Rattle.vocabulary.specs.{_≡_, sym, ap, ap₂, _∙_, List, [], _∷_, _++_, ℕ, _+_, _-_, _/_, _%_, _≤_, _<_, arith, length, set}
+use Rattle.vocabulary.specs.{length-append, length-set}
 use Rattle.text.specs.Text.{digit, natural, laid}
-use Rattle.text.proofs.Laying.{laid-byte, laid-last}
-use Rattle.text.proofs.Numbers.{natural-last, natural-before, natural-some}
+use Rattle.text.proofs.{Laying.laid-byte, Laying.laid-last, Numbers.natural-last, Numbers.natural-before, Numbers.natural-some}
 
 pub length-last : (n : ℕ) → n < 10 → length (natural n) ≡ 1
 length-last n h = ap length (natural-last n h)

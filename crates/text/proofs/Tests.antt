@@ -1,7 +1,5 @@
 -- Tests joined, and tests of every entry of a list. Assumes nothing.
-use mathlib.Core.Bool.{Bool, true, false, _&&_, _||_}
-use mathlib.Core.List.{List, [], _∷_, _++_}
-use lib.Dec.{T}
+use Rattle.vocabulary.specs.{Bool, true, false, _&&_, _||_, List, [], _∷_, _++_, T}
 use Rattle.whole.specs.Lists.{every}
 use Rattle.whole.proofs.Computed.{and-left, and-right}
 

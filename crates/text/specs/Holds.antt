@@ -1,9 +1,6 @@
 -- What a buffer and a position are after texts were laid one after the other from the start: as if `t`, all of them together, had been laid
 -- at once. `start` is the buffer as it was before the first.
-use mathlib.Core.Path.{_≡_}
-use mathlib.Core.List.{List}
-use Prim.Native.Nat.{ℕ}
-use lib.ListN.{length}
+use Rattle.vocabulary.specs.{_≡_, List, ℕ, length}
 use Rattle.text.specs.Text.{laid, after}
 
 pub record Holds (start t buffer : List ℕ) (at : ℕ) : Type 0 where

@@ -1,11 +1,7 @@
 -- Printed text: document 01, "Sheets worked through". A line's parts are words and numbers with one space between, "every line ends in
 -- one line feed", and a number is decimal, with a minus sign and no plus, and no zeros before it. A text is the list of its bytes.
-use mathlib.Core.Bool.{Bool, false, not, cond, _&&_}
-use mathlib.Core.List.{List, [], _∷_, _++_, map}
-use Prim.Native.Nat.{ℕ, zero, suc, _+_, _-_, _*_, _/_, _%_}
-use lib.Dec.{leb, eqb}
-use lib.IntN.{ℤ, pos, negsuc, negℤ}
-use lib.ListN.{length, take, drop}
+use Rattle.vocabulary.specs.{Bool, false, not, cond, _&&_, List, [], _∷_, _++_, map, ℕ, zero, suc, _+_, _-_, _*_, _/_, _%_, leb, eqb, ℤ}
+use Rattle.vocabulary.specs.{pos, negsuc, negℤ, length, take, drop}
 use Rattle.whole.specs.Lists.{every}
 
 -- ---- The bytes, by their codes

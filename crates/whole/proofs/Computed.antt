@@ -1,10 +1,5 @@
 -- What a test over a whole list or a run of numbers, which antt computes, says of each entry once it has passed. Assumes nothing.
-use mathlib.Core.Bool.{Bool, true, false, _&&_}
-use mathlib.Core.List.{List, [], _∷_}
-use Prim.Native.Nat.{ℕ, zero, suc, _<_}
-use native.Mathlib.Nat.{le-of-suc-le-suc, not-suc-le-zero}
-use lib.Dec.{T}
-use lib.ListN.{length, getD}
+use Rattle.vocabulary.specs.{Bool, true, false, _&&_, List, [], _∷_, ℕ, zero, suc, _<_, le-of-suc-le-suc, not-suc-le-zero, T, length, getD}
 use Rattle.whole.specs.Lists.{every, everyBelow}
 
 pub and-left : (a b : Bool) → T (a && b) → T a

@@ -1,10 +1,8 @@
 -- The laws of a commutative ring for ℤ that the kit's `lib.IntN` leaves out: the product distributes over the sum, is associative, and
 -- carries a minus sign. Each goes by one induction, by steps of one up and down from zero. Assumes nothing.
-use mathlib.Core.Path.{_≡_, sym, ap, _∙_}
-use Prim.Native.Nat.{ℕ, zero, suc}
-use lib.IntN.{ℤ, pos, negsuc, one, sucℤ, predℤ, negℤ, _+ℤ_, _-ℤ_, _*ℤ_}
-use lib.IntN.{+ℤ-assoc, +ℤ-comm, +ℤ-idl, sucℤ-+ℤ, predℤ-+ℤ, negℤ-+ℤ, negℤ-negℤ, negℤ-sucℤ, negℤ-predℤ}
-use lib.IntN.{*ℤ-comm, *ℤ-one, zero-*ℤ, sucℤ-*ℤ, predℤ-*ℤ}
+use Rattle.vocabulary.specs.{_≡_, sym, ap, _∙_, ℕ, zero, suc, ℤ, pos, negsuc, one, sucℤ, predℤ, negℤ, _+ℤ_, _-ℤ_, _*ℤ_, +ℤ-assoc, +ℤ-comm}
+use Rattle.vocabulary.specs.{+ℤ-idl, sucℤ-+ℤ, predℤ-+ℤ, negℤ-+ℤ, negℤ-negℤ, negℤ-sucℤ, negℤ-predℤ, *ℤ-comm, *ℤ-one, zero-*ℤ, sucℤ-*ℤ}
+use Rattle.vocabulary.specs.{predℤ-*ℤ}
 
 module _ (P : ℤ → Type 0) (start : P (pos zero)) (up : (k : ℤ) → P k → P (sucℤ k)) (down : (k : ℤ) → P k → P (predℤ k)) where
   from-zero-up : (n : ℕ) → P (pos n)

@@ -1,10 +1,5 @@
 -- The first n of an array, lent to a step and put back. Assumes nothing.
-use mathlib.Core.Path.{_≡_, sym, ap, _∙_}
-use mathlib.Core.List.{List, _++_}
-use Prim.Native.Nat.{ℕ, _≤_}
-use native.Mathlib.Omega.{arith}
-use lib.ListN.{length, take, drop, length-append}
-use lib.Seq.{length-take-le, take-at}
+use Rattle.vocabulary.specs.{_≡_, sym, ap, _∙_, List, _++_, ℕ, _≤_, arith, length, take, drop, length-append, length-take-le, take-at}
 
 module _ {A : Type 0} (n : ℕ) (whole : List A) (few : n ≤ length whole) where
   pub lent-length : n ≡ length (take n whole)

@@ -1,12 +1,7 @@
 -- Laws of lists made by a rule and of padded lists (specs/Lists.antt), and the one law of every loop that fills an array. Assumes nothing.
-use mathlib.Core.Path.{_≡_, refl, sym, ap, ap₂, _∙_}
-use mathlib.Core.List.{List, [], _∷_, _++_}
-use Prim.Native.Nat.{ℕ, zero, suc, _+_, _≤_, _<_}
-use native.Mathlib.Nat.{le-of-suc-le-suc, not-suc-le-zero}
-use native.Mathlib.Numerals.{add-one}
-use native.Mathlib.Omega.{arith}
-use lib.ListN.{length, getD, take, set, length-set}
-use lib.Seq.{take-suc, take-suc-set, take-all, getD-set-other}
+use Rattle.vocabulary.specs.{_≡_, refl, sym, ap, ap₂, _∙_, List, [], _∷_, _++_, ℕ, zero, suc, _+_, _≤_, _<_, le-of-suc-le-suc}
+use Rattle.vocabulary.specs.{not-suc-le-zero, add-one, arith, length, getD, take, set, length-set, take-suc, take-suc-set, take-all}
+use Rattle.vocabulary.specs.{getD-set-other}
 use Rattle.whole.specs.Lists.{listed, padded}
 
 module _ {A : Type 0} where

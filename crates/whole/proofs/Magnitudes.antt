@@ -1,18 +1,9 @@
 -- Laws of magnitudes: of sums, differences and products, of a sign given to one, and from a magnitude to the range of a signed machine
 -- number and back. `omega` reads natural numbers only, so bounds on whole numbers are stated of their magnitudes.
-use mathlib.Core.Path.{_≡_, refl, sym, ap, _∙_, subst}
-use mathlib.Core.Bool.{Bool, true, false, not, cond}
-use Prim.Native.Nat.{ℕ, zero, suc, _+_, _-_, _*_, _^_, _≤_, _<_, zero-le}
-use native.Mathlib.Nat.{not-suc-le-zero, le-refl, le-of-lt, lt-of-le-of-lt, le-of-suc-le-suc, mul-le-mul}
-use native.Mathlib.Omega.{arith}
-use borrow.Author.Tests.{ltb-true, le-ltb}
-use lib.Dec.{T, leb, ltb, ltb→lt, nltb→le}
-use lib.IntN.{ℤ, pos, negsuc, negℤ, natAbs, subℕ, _+ℤ_, _-ℤ_, _*ℤ_}
-use lib.Signed.{mag, ltZ, natAbs-le}
-use mir.Syntax.{Width}
-use mir.Val.{SFits, hbits, toZ, ofZ}
-use mir.Facts.{toZ-ofZ, sfits-widen}
-use lib.Pow.{pow-add, pow-lt}
+use Rattle.vocabulary.specs.{_≡_, refl, sym, ap, _∙_, subst, Bool, true, false, not, cond, ℕ, zero, suc, _+_, _-_, _*_, _^_, _≤_, _<_}
+use Rattle.vocabulary.specs.{zero-le, not-suc-le-zero, le-refl, le-of-lt, lt-of-le-of-lt, le-of-suc-le-suc, mul-le-mul, arith, ltb-true}
+use Rattle.vocabulary.specs.{le-ltb, T, leb, ltb, ltb→lt, nltb→le, ℤ, pos, negsuc, negℤ, natAbs, subℕ, _+ℤ_, _-ℤ_, _*ℤ_, mag, ltZ}
+use Rattle.vocabulary.specs.{natAbs-le, Width, SFits, hbits, toZ, ofZ, toZ-ofZ, sfits-widen, pow-add, pow-lt}
 use Rattle.whole.specs.Quotient.{withSign}
 
 -- ---- The sign

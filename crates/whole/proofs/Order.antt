@@ -1,13 +1,7 @@
 -- The order of ℤ and squares: `a ≤ℤ b` is `b ≡ a + n` for a natural n, so that an order is used as an equation. Assumes nothing.
-use mathlib.Core.Path.{_≡_, refl, sym, ap, _∙_, subst}
-use mathlib.Core.Bool.{Bool, true, false, cond}
-use Prim.Native.Nat.{ℕ, zero, suc, _+_, _*_, _-_, _≤_, _<_}
-use native.Mathlib.Nat.{mul-pos, zero-lt-suc, not-suc-le-zero}
-use native.Mathlib.Omega.{arith}
-use lib.Dec.{T, ltb, le→leb, leb→le}
-use lib.IntN.{ℤ, pos, negsuc, natAbs, subℕ, _+ℤ_, _-ℤ_, _*ℤ_}
-use lib.Signed.{leZ, _≤ℤ_, yes-nonNeg, pos-natAbs}
-use borrow.Author.Tests.{le-ltb}
+use Rattle.vocabulary.specs.{_≡_, refl, sym, ap, _∙_, subst, Bool, true, false, cond, ℕ, zero, suc, _+_, _*_, _-_, _≤_, _<_, mul-pos}
+use Rattle.vocabulary.specs.{zero-lt-suc, not-suc-le-zero, arith, T, ltb, le→leb, leb→le, ℤ, pos, negsuc, natAbs, subℕ, _+ℤ_, _-ℤ_, _*ℤ_}
+use Rattle.vocabulary.specs.{leZ, _≤ℤ_, yes-nonNeg, pos-natAbs, le-ltb}
 use Rattle.whole.proofs.Ring.{ring, _≐_, _⊕_, _⊖_}
 
 pub pos-injective : {m n : ℕ} → pos m ≡ pos n → m ≡ n

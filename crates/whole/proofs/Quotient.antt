@@ -1,15 +1,10 @@
 -- Laws of the rounded quotient, by which other crates know it.
 -- Only `nearest-down`, `nearest-up`, what stands under "The half", and the worked values say which way a half goes: the rest is so of every
 -- rounding to the nearest.
-use mathlib.Core.Bool.{Bool, true, false, cond}
-use mathlib.Core.Logic.{⊎-elim}
-use mathlib.Core.Path.{_≡_, refl, sym, ap, _∙_}
-use mathlib.Core.List.{List, [], _∷_, map}
-use Prim.Native.Nat.{ℕ, zero, suc, _+_, _-_, _*_, _/_, _%_, _^_, _≤_, _<_, zero-le}
-use native.Mathlib.Nat.{zero-mul, div-add-mod', mod-lt, div-eq-of-lt-le, eq-or-lt-of-le, eq-zero-or-pos, lt-of-mul-lt-mul-right, le-mul-of-pos-right}
-use native.Mathlib.Omega.{arith}
-use borrow.Author.Tests.{lt-ltb, le-ltb, eq-eqb, ne-eqb}
-use lib.IntN.{ℤ, pos, negsuc, negℤ, natAbs, negℤ-negℤ, negℤ-+ℤ, +ℤ-invr, _-ℤ_, _*ℤ_}
+use Rattle.vocabulary.specs.{Bool, true, false, cond, ⊎-elim, _≡_, refl, sym, ap, _∙_, List, [], _∷_, map, ℕ, zero, suc, _+_, _-_, _*_}
+use Rattle.vocabulary.specs.{_/_, _%_, _^_, _≤_, _<_, zero-le, zero-mul, div-add-mod', mod-lt, div-eq-of-lt-le, eq-or-lt-of-le}
+use Rattle.vocabulary.specs.{eq-zero-or-pos, lt-of-mul-lt-mul-right, le-mul-of-pos-right, arith, lt-ltb, le-ltb, eq-eqb, ne-eqb, ℤ, pos}
+use Rattle.vocabulary.specs.{negsuc, negℤ, natAbs, negℤ-negℤ, negℤ-+ℤ, +ℤ-invr, _-ℤ_, _*ℤ_}
 use Rattle.whole.specs.Quotient.{oneMore, nearest, withSign, roundedQuotient}
 use Rattle.whole.proofs.Magnitudes.{natAbs-neg, natAbs-withSign, natAbs-distance}
 

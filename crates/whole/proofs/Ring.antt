@@ -1,14 +1,8 @@
 -- Identities of whole numbers by reflection: `ring n (λ x y .. . left ≐ right) tt x y ..` proves `left ≡ right` for the n numbers
 -- named after it, where both sides are sums, differences and products of these and of fixed numbers. antt multiplies out the difference
 -- of the two sides and sees that nothing is left; a false identity leaves something, and `tt` is refused. Assumes nothing.
-use mathlib.Core.Path.{_≡_, refl, sym, ap, ap₂, _∙_}
-use mathlib.Core.Bool.{Bool, true, false, cond, _&&_}
-use mathlib.Core.List.{List, [], _∷_}
-use Prim.Native.Nat.{ℕ, zero, suc}
-use lib.Dec.{T, leb, ltb, eqb, eqb→eq}
-use lib.ListN.{getD}
-use lib.IntN.{ℤ, pos, negsuc, negℤ, _+ℤ_, _-ℤ_, _*ℤ_}
-use lib.IntN.{+ℤ-assoc, +ℤ-idl, +ℤ-idr, +ℤ-invl, zero-*ℤ, *ℤ-zero}
+use Rattle.vocabulary.specs.{_≡_, refl, sym, ap, ap₂, _∙_, Bool, true, false, cond, _&&_, List, [], _∷_, ℕ, zero, suc, T, leb, ltb, eqb}
+use Rattle.vocabulary.specs.{eqb→eq, getD, ℤ, pos, negsuc, negℤ, _+ℤ_, _-ℤ_, _*ℤ_, +ℤ-assoc, +ℤ-idl, +ℤ-idr, +ℤ-invl, zero-*ℤ, *ℤ-zero}
 use Rattle.whole.proofs.Computed.{and-left, and-right}
 use Rattle.whole.proofs.Integers.{*ℤ-unit, unit-*ℤ, +ℤ-left-comm, *ℤ-distribʳ, *ℤ-distribˡ, *ℤ-assoc, *ℤ-left-comm, negℤ-*ℤ}
 

@@ -1,17 +1,11 @@
 -- Laws of finite sums and of tables (specs/Sums.antt): sums add, scale and may be taken in either order; a table of a table is applied as
 -- one; a transposed table moves from one side of a sum of products to the other. Assumes nothing.
-use mathlib.Core.Path.{_≡_, refl, sym, ap, ap₂, _∙_, subst}
-use mathlib.Core.Logic.{⊎-elim}
-use Prim.Native.Nat.{ℕ, zero, suc, _+_, _*_, _≤_, _<_, zero-le}
-use native.Mathlib.Nat.{le-of-suc-le-suc, not-suc-le-zero, eq-or-lt-of-le}
-use native.Mathlib.Numerals.{add-one, unary-clauses}
-use native.Mathlib.Omega.{arith}
-use lib.IntN.{ℤ, pos, negsuc, negℤ, natAbs, _+ℤ_, _-ℤ_, _*ℤ_, +ℤ-idr, +ℤ-idl, +ℤ-comm, *ℤ-zero, zero-*ℤ, *ℤ-comm}
-use lib.Signed.{_≤ℤ_, ≤ℤ-refl}
+use Rattle.vocabulary.specs.{_≡_, refl, sym, ap, ap₂, _∙_, subst, ⊎-elim, ℕ, zero, suc, _+_, _*_, _≤_, _<_, zero-le, le-of-suc-le-suc}
+use Rattle.vocabulary.specs.{not-suc-le-zero, eq-or-lt-of-le, add-one, unary-clauses, arith, ℤ, pos, negsuc, negℤ, natAbs, _+ℤ_, _-ℤ_}
+use Rattle.vocabulary.specs.{_*ℤ_, +ℤ-idr, +ℤ-idl, +ℤ-comm, *ℤ-zero, zero-*ℤ, *ℤ-comm, _≤ℤ_, ≤ℤ-refl}
 use Rattle.whole.specs.Sums.{sum, dot, squares, applied, composed, identity, transposed}
-use Rattle.whole.proofs.Integers.{*ℤ-distribˡ, unit-*ℤ}
+use Rattle.whole.proofs.{Integers.*ℤ-distribˡ, Integers.unit-*ℤ, Magnitudes.natAbs-add}
 use Rattle.whole.proofs.Ring.{ring, constant, _≐_, _⊕_, _⊖_, _⊗_, ⊝_}
-use Rattle.whole.proofs.Magnitudes.{natAbs-add}
 use Rattle.whole.proofs.Order.{natural, zero-≤ℤ-pos, nonnegative-sum, square-nonnegative, square-zero, left-zero}
 
 -- ---- sums

@@ -1,7 +1,5 @@
 -- Lists made by a rule, lists brought to a fixed length as the arrays of the code have it, and tests of every entry.
-use Prim.Native.Nat.{ℕ, zero, suc}
-use mathlib.Core.Bool.{Bool, true, _&&_}
-use mathlib.Core.List.{List, [], _∷_}
+use Rattle.vocabulary.specs.{ℕ, zero, suc, Bool, true, _&&_, List, [], _∷_}
 
 module _ {A : Type 0} where
   -- f 0, f 1, .., f (n − 1)

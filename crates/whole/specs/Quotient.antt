@@ -1,10 +1,7 @@
 -- The rounded quotient: "nearest tenth", and "a half to the even tenth". Here document 02, M-105 overrides document 01, which has halves go
 -- away from zero.
 -- The exact value is a fraction, numerator over denominator, counted in tenths; what is nearest to it is a whole number of tenths.
-use mathlib.Core.Bool.{Bool, cond, _||_, _&&_}
-use Prim.Native.Nat.{ℕ, zero, suc, _+_, _*_, _/_, _%_}
-use lib.Dec.{ltb, eqb}
-use lib.IntN.{ℤ, pos, negsuc, negℤ, natAbs}
+use Rattle.vocabulary.specs.{Bool, cond, _||_, _&&_, ℕ, zero, suc, _+_, _*_, _/_, _%_, ltb, eqb, ℤ, pos, negsuc, negℤ, natAbs}
 
 -- Whether what a quotient leaves out counts as one more: where the remainder is more than half of the denominator d, or exactly half of
 -- it and the quotient is odd.

@@ -1,9 +1,6 @@
 -- Finite sums of whole numbers, and tables of whole numbers applied to them. A list of numbers is used as a function of the index, counted
 -- from 0 and 0 past its end; a table is a function of row and column.
-use Prim.Native.Nat.{ℕ, zero, suc}
-use mathlib.Core.List.{List, []}
-use lib.ListN.{getD}
-use lib.IntN.{ℤ, pos, _+ℤ_, _*ℤ_}
+use Rattle.vocabulary.specs.{ℕ, zero, suc, List, [], getD, ℤ, pos, _+ℤ_, _*ℤ_}
 
 -- f 0 + f 1 + .. + f (n − 1)
 unfoldable pub sum : ℕ → (ℕ → ℤ) → ℤ

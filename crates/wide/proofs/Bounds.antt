@@ -2,19 +2,12 @@
 -- multiplied out by antt, as `ring` of `whole` multiplies out an identity. `stays n (λ x y .. . result) x bound within y bound within ..
 -- tt` says `held result ≡ result` of the n numbers named after it, each with its bound and a proof of it. A result that could pass two
 -- words is refused at `tt`.
-use mathlib.Core.Path.{_≡_, ap}
-use mathlib.Core.List.{List, [], _∷_}
-use Prim.Native.Nat.{ℕ, zero, suc, _+_, _*_, _^_, _≤_, _<_}
-use native.Mathlib.Nat.{le-refl, le-trans, add-le-add, mul-le-mul, lt-of-le-of-lt}
-use lib.Dec.{T, ltb, ltb→lt}
-use lib.IntN.{ℤ, pos, negsuc, negℤ, natAbs, _-ℤ_, _*ℤ_}
-use lib.ListN.{getD}
+use Rattle.vocabulary.specs.{_≡_, ap, List, [], _∷_, ℕ, zero, suc, _+_, _*_, _^_, _≤_, _<_, le-refl, le-trans, add-le-add, mul-le-mul}
+use Rattle.vocabulary.specs.{lt-of-le-of-lt, T, ltb, ltb→lt, ℤ, pos, negsuc, negℤ, natAbs, _-ℤ_, _*ℤ_, getD}
 use Rattle.whole.proofs.Magnitudes.{natAbs-neg, natAbs-add, natAbs-mul}
 use Rattle.whole.proofs.Ring.{Expression, variable, constant, ⊝_, _⊕_, _⊖_, _⊗_, meaning}
-use Rattle.wide.specs.Wide.{limit, sizeOf, valueOf, held}
-use Rattle.wide.specs.declared.Wide.{Wide}
-use Rattle.wide.proofs.Signs.{signed-size}
-use Rattle.wide.proofs.Sizes.{in-words, size-within, held-size}
+use Rattle.wide.specs.{Wide.limit, Wide.sizeOf, Wide.valueOf, Wide.held, declared.Wide.Wide}
+use Rattle.wide.proofs.{Signs.signed-size, Sizes.in-words, Sizes.size-within, Sizes.held-size}
 
 -- ---- What is held, and what a wide number's size is
 

@@ -1,14 +1,11 @@
 -- Laws of the division of sizes: the leading bits of two sizes, how often the one goes into the other at least, and what a turn leaves.
-use mathlib.Core.Path.{_≡_, sym, ap, _∙_, subst}
-use Prim.Native.Nat.{ℕ, zero, suc, _+_, _-_, _*_, _/_, _%_, _^_, _≤_, _<_}
-use native.Mathlib.Nat.{add-comm, mul-le-mul-right, mul-le-mul-left, lt-of-mul-lt-mul-right, div-mul-le-self, lt-div-mul-add, mod-lt, mod-eq-of-lt, mul-add-div-right, div-add-mod', mul-assoc, mul-comm, zero-mul, zero-add, le-div-iff-mul-le, mul-zero, not-suc-le-zero}
-use native.Mathlib.Omega.{arith}
-use lib.Arith.{digits-lt, digits-div, digits-mod}
-use lib.Pow.{pow-pos, pow-add, shl-lt, shr-lt, shr-shr}
+use Rattle.vocabulary.specs.{_≡_, sym, ap, _∙_, subst, ℕ, zero, suc, _+_, _-_, _*_, _/_, _%_, _^_, _≤_, _<_, add-comm, mul-le-mul-right}
+use Rattle.vocabulary.specs.{mul-le-mul-left, lt-of-mul-lt-mul-right, div-mul-le-self, lt-div-mul-add, mod-lt, mod-eq-of-lt}
+use Rattle.vocabulary.specs.{mul-add-div-right, div-add-mod', mul-assoc, mul-comm, zero-mul, zero-add, le-div-iff-mul-le, mul-zero}
+use Rattle.vocabulary.specs.{not-suc-le-zero, arith, digits-lt, digits-div, digits-mod, pow-pos, pow-add, shl-lt, shr-lt, shr-shr}
 use Rattle.whole.specs.Quotient.{nearest}
 use Rattle.whole.proofs.Quotient.{nearest-down, nearest-up}
-use Rattle.wide.specs.Wide.{radix, sizeOf}
-use Rattle.wide.specs.declared.Size.{Size}
+use Rattle.wide.specs.{Wide.radix, Wide.sizeOf, declared.Size.Size}
 use Rattle.wide.proofs.Sizes.{InWords}
 
 -- ---- The leading bits

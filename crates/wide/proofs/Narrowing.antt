@@ -1,13 +1,7 @@
 -- Laws of narrowing to one word with a sign. A caller whose number has a magnitude below 2 ^ 63 gets the number.
-use mathlib.Core.Path.{_≡_, refl, ap, _∙_}
-use Prim.Native.Nat.{ℕ, zero, suc, _-_, _^_, _≤_, _<_}
-use native.Mathlib.Nat.{lt-of-le-of-lt, le-refl, le-suc}
-use native.Mathlib.Omega.{arith}
-use borrow.Author.Tests.{lt-ltb, le-ltb}
-use lib.IntN.{ℤ, pos, negsuc, negℤ, natAbs}
-use lib.Signed.{mag}
-use Rattle.wide.specs.Wide.{radix, sizeOf, narrowed}
-use Rattle.wide.specs.declared.Size.{Size}
+use Rattle.vocabulary.specs.{_≡_, refl, ap, _∙_, ℕ, zero, suc, _-_, _^_, _≤_, _<_, lt-of-le-of-lt, le-refl, le-suc, arith, lt-ltb, le-ltb}
+use Rattle.vocabulary.specs.{ℤ, pos, negsuc, negℤ, natAbs, mag}
+use Rattle.wide.specs.{Wide.radix, Wide.sizeOf, Wide.narrowed, declared.Size.Size}
 
 narrowed-fits : (z : ℤ) → mag z < 2 ^ 63 → narrowed z ≡ z
 unfolding narrowed

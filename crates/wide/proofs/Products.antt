@@ -1,8 +1,6 @@
 -- The product of two words by halves, column by column: no column passes a word, and together they are the product.
-use mathlib.Core.Path.{_≡_, sym, ap, _∙_}
-use Prim.Native.Nat.{ℕ, zero, suc, _+_, _-_, _*_, _/_, _%_, _^_, _≤_, _<_}
-use native.Mathlib.Nat.{mul-le-mul, lt-of-mul-lt-mul-right, div-add-mod', not-suc-le-zero}
-use native.Mathlib.Omega.{arith}
+use Rattle.vocabulary.specs.{_≡_, sym, ap, _∙_, ℕ, zero, suc, _+_, _-_, _*_, _/_, _%_, _^_, _≤_, _<_, mul-le-mul, lt-of-mul-lt-mul-right}
+use Rattle.vocabulary.specs.{div-add-mod', not-suc-le-zero, arith}
 use Rattle.wide.specs.Wide.{radix, sizeOf}
 
 -- a product of two halves, and two carries

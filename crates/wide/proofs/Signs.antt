@@ -1,17 +1,9 @@
 -- Laws of signed sizes: what their sums, products, order, rounded quotients and what is held of them are, by the two signs.
-use mathlib.Core.Path.{_≡_, refl, sym, ap, _∙_}
-use mathlib.Core.Bool.{Bool, true, false, not, Bool·beq}
-use Prim.Native.Nat.{ℕ, zero, suc, _+_, _-_, _*_, _≤_, _<_}
-use native.Mathlib.Nat.{sub-add-cancel, sub-le, lt-of-le-of-lt}
-use native.Mathlib.Omega.{arith}
-use borrow.Author.Tests.{lt-ltb, le-ltb}
-use lib.Dec.{eqb, ltb, leb·suc-suc, lit<, eqb·suc-zero}
-use lib.IntN.{ℤ, pos, negsuc, negℤ, natAbs, negℤ-negℤ, negℤ-+ℤ, +ℤ-negℤ-cancel, *ℤ-comm, _+ℤ_, _-ℤ_, _*ℤ_}
-use lib.Signed.{ltZ}
+use Rattle.vocabulary.specs.{_≡_, refl, sym, ap, _∙_, Bool, true, false, not, Bool·beq, ℕ, zero, suc, _+_, _-_, _*_, _≤_, _<_}
+use Rattle.vocabulary.specs.{sub-add-cancel, sub-le, lt-of-le-of-lt, arith, lt-ltb, le-ltb, eqb, ltb, leb·suc-suc, lit<, eqb·suc-zero, ℤ}
+use Rattle.vocabulary.specs.{pos, negsuc, negℤ, natAbs, negℤ-negℤ, negℤ-+ℤ, +ℤ-negℤ-cancel, *ℤ-comm, _+ℤ_, _-ℤ_, _*ℤ_, ltZ}
 use Rattle.whole.specs.Quotient.{nearest, roundedQuotient}
-use Rattle.whole.proofs.Integers.{negℤ-*ℤ}
-use Rattle.whole.proofs.Magnitudes.{natAbs-neg}
-use Rattle.whole.proofs.Quotient.{rounded-odd}
+use Rattle.whole.proofs.{Integers.negℤ-*ℤ, Magnitudes.natAbs-neg, Quotient.rounded-odd}
 use Rattle.wide.specs.Wide.{limit, signed, heldSize, held}
 use Rattle.wide.proofs.Sizes.{held-size}
 

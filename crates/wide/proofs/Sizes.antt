@@ -1,15 +1,8 @@
 -- Laws of sizes of two words: what their words make of them, with the radix as a number of which only its square is known. `omega` stops at
 -- numbers of 39 digits, which 2 ^ 128 has, so no law here opens the radix where its square stands.
-use mathlib.Core.Path.{_≡_, refl, sym, ap, _∙_}
-use mathlib.Core.Bool.{Bool, true, false}
-use Prim.Native.Nat.{ℕ, _+_, _-_, _*_, _^_, _≤_, _<_}
-use native.Mathlib.Nat.{mul-le-mul-right, sub-add-cancel}
-use native.Mathlib.Omega.{arith}
-use borrow.Author.Tests.{ltb-true, ltb-false, lt-ltb, le-ltb, ne-eqb}
-use lib.Arith.{digits-lt, lt-of-le-ne}
-use lib.Dec.{ltb, eqb}
-use Rattle.wide.specs.Wide.{radix, limit, sizeOf, heldSize}
-use Rattle.wide.specs.declared.Size.{Size}
+use Rattle.vocabulary.specs.{_≡_, refl, sym, ap, _∙_, Bool, true, false, ℕ, _+_, _-_, _*_, _^_, _≤_, _<_, mul-le-mul-right, sub-add-cancel}
+use Rattle.vocabulary.specs.{arith, ltb-true, ltb-false, lt-ltb, le-ltb, ne-eqb, digits-lt, lt-of-le-ne, ltb, eqb}
+use Rattle.wide.specs.{Wide.radix, Wide.limit, Wide.sizeOf, Wide.heldSize, declared.Size.Size}
 
 -- ---- Words, and the size of two
 
@@ -95,8 +88,7 @@ less-words a b v w differ =
 module _ (a b low high top : Size) (l : sizeOf low ≡ a .low + b .low) (h : sizeOf high ≡ a .high + b .high) (t : sizeOf top ≡ high .low + low .high) where
   sum-carried : sizeOf a + sizeOf b ≡ (high .high + top .high) * (radix * radix) + (top .low * radix + low .low)
   unfolding sizeOf
-  sum-carried =
-      omega (arith, l, ap (λ (k : ℕ). k * radix) h, ap (λ (k : ℕ). k * radix) t)
+  sum-carried = omega (arith, l, ap (λ (k : ℕ). k * radix) h, ap (λ (k : ℕ). k * radix) t)
 
   pub sum-exact : high .high ≡ 0 → top .high ≡ 0 → InWords low → InWords top → sizeOf (record { high = top .low; low = low .low }) ≡ heldSize (sizeOf a + sizeOf b)
   unfolding sizeOf

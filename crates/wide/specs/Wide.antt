@@ -1,13 +1,8 @@
 -- Whole numbers wider than 64 bits: a sign, and a size of two words. What such a number is worth, and what is held of a result that two
 -- words cannot hold.
-use mathlib.Core.Bool.{Bool, true, false, cond}
-use Prim.Native.Nat.{ℕ, _+_, _*_, _^_}
-use lib.Dec.{ltb}
-use lib.IntN.{ℤ, pos, negℤ, natAbs}
-use lib.Signed.{mag}
+use Rattle.vocabulary.specs.{Bool, true, false, cond, ℕ, _+_, _*_, _^_, ltb, ℤ, pos, negℤ, natAbs, mag}
 use Rattle.whole.specs.Quotient.{withSign}
-use Rattle.wide.specs.declared.Size.{Size}
-use Rattle.wide.specs.declared.Wide.{Wide}
+use Rattle.wide.specs.{declared.Size.Size, declared.Wide.Wide}
 
 -- How many numbers a word of 64 bits can hold, and two such words.
 unfoldable pub radix : ℕ

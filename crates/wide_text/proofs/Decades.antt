@@ -1,14 +1,7 @@
 -- A size as tens and units, found by words: the radix is 10 · 1844674407370955161 + 6. Assumes nothing.
-use mathlib.Core.Path.{_≡_, sym, ap, _∙_}
-use mathlib.Core.Bool.{false}
-use Prim.Native.Nat.{ℕ, _+_, _*_, _/_, _%_, _^_, _≤_, _<_}
-use native.Mathlib.Nat.{mod-lt, lt-trans}
-use native.Mathlib.Omega.{arith}
-use borrow.Author.Tests.{le-ltb}
-use lib.Arith.{digits-div, digits-mod}
-use lib.Dec.{ltb, lit<}
-use Rattle.wide.specs.Wide.{radix, limit, sizeOf}
-use Rattle.wide.specs.declared.Size.{Size}
+use Rattle.vocabulary.specs.{_≡_, sym, ap, _∙_, false, ℕ, _+_, _*_, _/_, _%_, _^_, _≤_, _<_, mod-lt, lt-trans, arith, le-ltb, digits-div}
+use Rattle.vocabulary.specs.{digits-mod, ltb, lit<}
+use Rattle.wide.specs.{Wide.radix, Wide.limit, Wide.sizeOf, declared.Size.Size}
 use Rattle.wide.proofs.Sizes.{low-word, in-words, size-within}
 
 module _ (size : Size) where

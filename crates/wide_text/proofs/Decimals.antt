@@ -1,16 +1,7 @@
 -- The decimal text of a wide number, by its sign and size. Assumes nothing.
-use mathlib.Core.Path.{_≡_, refl, ap, _∙_, subst}
-use mathlib.Core.Bool.{true, false}
-use mathlib.Core.List.{_∷_}
-use Prim.Native.Nat.{ℕ}
-use native.Mathlib.Nat.{not-suc-le-zero}
-use borrow.Author.Tests.{ltb-true}
-use lib.Dec.{T}
-use lib.IntN.{ℤ, pos, negsuc, natAbs}
-use lib.Signed.{ltZ}
+use Rattle.vocabulary.specs.{_≡_, refl, ap, _∙_, subst, true, false, _∷_, ℕ, not-suc-le-zero, ltb-true, T, ℤ, pos, negsuc, natAbs, ltZ}
 use Rattle.text.specs.Text.{minus, natural, decimal}
-use Rattle.wide.specs.Wide.{sizeOf, valueOf}
-use Rattle.wide.specs.declared.Wide.{Wide}
+use Rattle.wide.specs.{Wide.sizeOf, Wide.valueOf, declared.Wide.Wide}
 use Rattle.wide.proofs.Bounds.{value-size}
 
 text-below : (z : ℤ) → ltZ z (pos 0) ≡ true → decimal z ≡ minus ∷ natural (natAbs z)

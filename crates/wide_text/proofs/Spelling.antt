@@ -1,13 +1,8 @@
 -- A number's digits spelled at the end of a room of 39 bytes, from the last one backwards: what the loop of `wide_text::spell` keeps, and
 -- its steps. Assumes nothing.
-use mathlib.Core.Path.{_≡_, sym, ap, _∙_}
-use mathlib.Core.List.{List, [], _∷_, _++_, append-nil}
-use Prim.Native.Nat.{ℕ, suc, _+_, _-_, _/_, _%_, _^_, _≤_, _<_}
-use native.Mathlib.Numerals.{add-one}
-use native.Mathlib.Omega.{arith}
-use lib.Dec.{lit<}
-use lib.ListN.{length, take, drop, set, length-append, length-set, drop-of-length-le}
-use lib.Seq.{append-snoc, set-split, drop-at, length-take-le}
+use Rattle.vocabulary.specs.{_≡_, sym, ap, _∙_, List, [], _∷_, _++_, append-nil, ℕ, suc, _+_, _-_, _/_, _%_, _^_, _≤_, _<_, add-one, arith}
+use Rattle.vocabulary.specs.{lit<, length, take, drop, set, length-append, length-set, drop-of-length-le, append-snoc, set-split, drop-at}
+use Rattle.vocabulary.specs.{length-take-le}
 use Rattle.text.specs.Text.{digit, natural}
 use Rattle.text.proofs.Numbers.{natural-last, natural-before, natural-some, length-natural}
 

@@ -1,15 +1,9 @@
 -- Two words and the number that they are worth: the words of a number, joined, are the number, and two words are those of what they
 -- join to. Assumes nothing.
-use mathlib.Core.Path.{_≡_, refl, sym, ap, _∙_}
-use Prim.Native.Nat.{ℕ, suc, _+_, _-_, _*_, _/_, _%_, _^_, _<_}
-use native.Mathlib.Nat.{div-add-mod', mod-lt}
-use native.Mathlib.Omega.{arith}
-use lib.Arith.{digits-div, digits-mod}
-use lib.Dec.{lit<}
-use lib.IntN.{ℤ, pos, negsuc, negℤ, _+ℤ_}
+use Rattle.vocabulary.specs.{_≡_, refl, sym, ap, _∙_, ℕ, suc, _+_, _-_, _*_, _/_, _%_, _^_, _<_, div-add-mod', mod-lt, arith, digits-div}
+use Rattle.vocabulary.specs.{digits-mod, lit<, ℤ, pos, negsuc, negℤ, _+ℤ_}
 use Rattle.whole.proofs.Ring.{ring, _≐_, _⊕_, ⊝_}
-use Rattle.wide.specs.Wide.{radix, sizeOf}
-use Rattle.wide.specs.declared.Size.{Size}
+use Rattle.wide.specs.{Wide.radix, Wide.sizeOf, declared.Size.Size}
 use Rattle.wide.proofs.Sizes.{word, radix-is}
 use Rattle.wide_words.specs.Words.{joined, highWord, lowWord}
 

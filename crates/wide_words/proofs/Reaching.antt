@@ -1,19 +1,9 @@
 -- What two words reach, and the words that are found for it. Assumes nothing.
-use mathlib.Core.Path.{_≡_, refl, sym, ap, _∙_, subst}
-use mathlib.Core.Bool.{true, false}
-use Prim.Native.Nat.{ℕ, suc, _+_, _-_, _*_, _%_, _^_, _≤_, _<_}
-use native.Mathlib.Nat.{lt-of-le-of-lt, le-refl, le-suc, mul-le-mul-right, le-trans, le-add-right, div-eq-of-lt, mod-eq-of-lt, not-suc-le-zero}
-use native.Mathlib.Omega.{arith}
-use borrow.Author.Tests.{ltb-true, lt-ltb, le-ltb}
-use lib.Arith.{digits-lt}
-use lib.Dec.{T}
-use lib.IntN.{ℤ, pos, negsuc, natAbs}
-use lib.Signed.{mag, ltZ}
-use Rattle.wide.specs.Wide.{radix, sizeOf, valueOf}
-use Rattle.wide.specs.declared.Size.{Size}
-use Rattle.wide.specs.declared.Wide.{Wide}
-use Rattle.wide.proofs.Bounds.{value-size}
-use Rattle.wide.proofs.Sizes.{word, radix-is}
+use Rattle.vocabulary.specs.{_≡_, refl, sym, ap, _∙_, subst, true, false, ℕ, suc, _+_, _-_, _*_, _%_, _^_, _≤_, _<_, lt-of-le-of-lt}
+use Rattle.vocabulary.specs.{le-refl, le-suc, mul-le-mul-right, le-trans, le-add-right, div-eq-of-lt, mod-eq-of-lt, not-suc-le-zero, arith}
+use Rattle.vocabulary.specs.{ltb-true, lt-ltb, le-ltb, digits-lt, T, ℤ, pos, negsuc, natAbs, mag, ltZ}
+use Rattle.wide.specs.{Wide.radix, Wide.sizeOf, Wide.valueOf, declared.Size.Size, declared.Wide.Wide}
+use Rattle.wide.proofs.{Bounds.value-size, Sizes.word, Sizes.radix-is}
 use Rattle.wide_words.specs.Words.{highWord, lowWord, wordsFrom, reached}
 use Rattle.wide_words.proofs.Joining.{size-high, size-low}
 

@@ -1,10 +1,6 @@
 -- A whole number as two words in two's complement: a high word with a sign, a low word without. What two words are worth, and which two
 -- a number is.
-use mathlib.Core.Bool.{cond}
-use Prim.Native.Nat.{ℕ, _-_, _/_, _%_, _^_}
-use lib.Dec.{ltb}
-use lib.IntN.{ℤ, pos, negsuc, _+ℤ_, _*ℤ_}
-use lib.Signed.{mag}
+use Rattle.vocabulary.specs.{cond, ℕ, _-_, _/_, _%_, _^_, ltb, ℤ, pos, negsuc, _+ℤ_, _*ℤ_, mag}
 use Rattle.wide.specs.Wide.{radix}
 use Rattle.wide_words.specs.declared.Words.{Words}
 

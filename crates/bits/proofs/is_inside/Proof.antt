@@ -1,15 +1,7 @@
 -- `bits::is_inside` meets its contract: a field ends within the bytes exactly where the bytes that it spans, from the one in which it
 -- starts, are no more than are left from there.
-use mathlib.Core.Path.{_≡_, _∙_, sym}
-use mathlib.Core.List.{List}
-use Prim.Native.Nat.{ℕ, _+_, _-_, _/_, _%_, _≤_}
-use native.Mathlib.Decide.{decLe}
-use native.Mathlib.Nat.{lt-of-not-le}
-use native.Mathlib.Omega.{arith}
-use borrow.Author.Needs.{needs}
-use borrow.Author.Tests.{le-leb, lt-leb}
-use lib.Dec.{leb}
-use lib.ListN.{length}
+use Rattle.vocabulary.specs.{_≡_, _∙_, sym, List, ℕ, _+_, _-_, _/_, _%_, _≤_, decLe, lt-of-not-le, arith, needs, le-leb, lt-leb, leb}
+use Rattle.vocabulary.specs.{length}
 use Rattle.bits.specs.Bits.{inside}
 use Rattle.bits.proofs.Fields.{is-inside, inside-past, inside-wide}
 use Rattle.bits.proofs.is_inside.Statement.{statement}
@@ -22,30 +14,9 @@ spanned s at w n h =
       | no k ↦ lt-leb _ _ (lt-of-not-le k) ∙ sym (inside-past s at w (omega arith))
     ]
 
-returns : tie.Need-returns
-returns c =
-    let a = c .before .args in
-    sym (inside-wide (a .bytes .now) (a .at) (a .width) (c .if1 .taken))
-
-returns-2 : tie.Need-returns-2
-returns-2 c =
-    let a = c .before .before .args in
-    sym (inside-past (a .bytes .now) (a .at) (a .width) (omega arith))
-
-add-spanned : tie.Need-add-spanned
-add-spanned c = search needs
-
-add-spanned-2 : tie.Need-add-spanned-2
-add-spanned-2 c = search needs
-
-sub-result : tie.Need-sub-result
-sub-result c = search needs
-
-returns-3 : tie.Need-returns-3
-returns-3 c =
-    let a = c .before .before .args in
-    spanned (a .bytes .now) (a .at) (a .width) (omega arith) (omega arith)
-
 pub is-inside-spec : {M : Type 1} → statement M
 is-inside-spec =
-    tie.close (tie.spec returns returns-2 add-spanned add-spanned-2 sub-result returns-3)
+    tie.close (tie.spec (λ c. let a = c .before .args in sym (inside-wide (a .bytes .now) (a .at) (a .width) (c .if1 .taken)))
+    (λ c. let a = c .before .before .args in sym (inside-past (a .bytes .now) (a .at) (a .width) (omega arith))) (λ c. search needs)
+    (λ c. search needs) (λ c. search needs)
+    (λ c. let a = c .before .before .args in spanned (a .bytes .now) (a .at) (a .width) (omega arith) (omega arith)))

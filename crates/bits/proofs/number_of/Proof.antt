@@ -1,9 +1,6 @@
 -- `bits::number_of` meets its contract. The loop's invariant: what is held is the number of the bytes taken so far.
 -- The measure is how many are left.
-use mathlib.Core.Path.{_≡_, refl, sym, ap, _∙_}
-use Prim.Native.Nat.{ℕ, _+_, _-_, _*_, _^_, _≤_, _<_}
-use native.Mathlib.Omega.{arith}
-use lib.ListN.{getD}
+use Rattle.vocabulary.specs.{_≡_, refl, sym, ap, _∙_, ℕ, _+_, _-_, _*_, _^_, _≤_, _<_, arith, getD}
 use Rattle.bits.specs.Bits.{value, bitsOf}
 use Rattle.bits.proofs.Runs.{run, run-more, run-short}
 use Rattle.bits.proofs.number_of.Statement.{statement}
@@ -25,27 +22,9 @@ short c =
     let a = c .before .before .args in
     rw (c .before .loop .inv .1) (run-short (a .bytes .now) (a .first) (c .before .loop .taken) (omega arith) (omega arith))
 
-mul-held : tie.Need-mul-held Inv-loop μ-loop
-mul-held c = omega (arith, short c)
-
-add-held : tie.Need-add-held Inv-loop μ-loop
-add-held c = omega arith
-
-shared-slice-read-held : tie.Need-shared-slice-read-held Inv-loop μ-loop
-shared-slice-read-held c = omega arith
-
-cast-held : tie.Need-cast-held Inv-loop μ-loop
-cast-held c = omega (arith, c .shared-slice-known .given (c .before .before .before .args .first + c .before .before .loop .taken))
-
 add-held-2 : tie.Need-add-held-2 Inv-loop μ-loop
 add-held-2 c =
     omega (arith, short (c .before), c .shared-slice-known .given (c .before .before .before .args .first + c .before .before .loop .taken))
-
-add-taken : tie.Need-add-taken Inv-loop μ-loop
-add-taken c = omega arith
-
-loop-less : tie.Need-loop-less Inv-loop μ-loop
-loop-less c = omega arith
 
 loop-again : tie.Need-loop-again Inv-loop μ-loop
 loop-again c =
@@ -64,17 +43,6 @@ returns c =
 
 pub number-of-spec : {M : Type 1} → statement M
 number-of-spec =
-    tie.close
-    (tie.spec
-    Inv-loop
-    μ-loop
-    loop-holds
-    mul-held
-    add-held
-    shared-slice-read-held
-    cast-held
-    add-held-2
-    add-taken
-    loop-less
-    loop-again
-    returns)
+    tie.close (tie.spec Inv-loop μ-loop loop-holds (λ c. omega (arith, short c)) (λ c. omega arith) (λ c. omega arith)
+    (λ c. omega (arith, c .shared-slice-known .given (c .before .before .before .args .first + c .before .before .loop .taken))) add-held-2
+    (λ c. omega arith) (λ c. omega arith) loop-again returns)

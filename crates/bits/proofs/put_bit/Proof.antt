@@ -1,30 +1,9 @@
 -- `bits::put_bit` meets its contract: the byte that the position comes to is stored with the bit at its place.
-use borrow.Author.Needs.{needs}
+use Rattle.vocabulary.specs.{needs}
 use Rattle.bits.specs.Bits.{odd}
 use Rattle.bits.proofs.Places.{set-further}
 use Rattle.bits.proofs.put_bit.Statement.{statement}
 use Rattle.bits.proofs.put_bit.Tie as tie
-
-add-place : tie.Need-add-place
-add-place c = search needs
-
-add-index : tie.Need-add-index
-add-index c = search needs
-
-slice-read-with-bit : tie.Need-slice-read-with-bit
-slice-read-with-bit c = search needs
-
-cast-with-bit : tie.Need-cast-with-bit
-cast-with-bit c = search needs
-
-with-bit-requires : tie.Need-with-bit-requires
-with-bit-requires c κs = search needs
-
-slice-write-bytes : tie.Need-slice-write-bytes
-slice-write-bytes c = search needs
-
-same-length : tie.Need-same-length
-same-length c = search needs
 
 returns : tie.Need-returns
 returns c =
@@ -34,13 +13,5 @@ returns c =
 
 pub put-bit-spec : {M : Type 1} → statement M
 put-bit-spec =
-    tie.close
-    (tie.spec
-    add-place
-    add-index
-    slice-read-with-bit
-    cast-with-bit
-    with-bit-requires
-    slice-write-bytes
-    same-length
-    returns)
+    tie.close (tie.spec (λ c. search needs) (λ c. search needs) (λ c. search needs) (λ c. search needs) (λ c κs. search needs)
+    (λ c. search needs) (λ c. search needs) returns)

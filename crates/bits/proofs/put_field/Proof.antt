@@ -1,17 +1,10 @@
 -- `bits::put_field` meets its contract. The bits are written from the field's last one on. The loop's invariant: with those left of the
 -- value laid over the field, the bytes are what is wanted. The measure is how many are left.
-use mathlib.Core.Bool.{Bool, true}
-use mathlib.Core.List.{List}
-use mathlib.Core.Path.{_≡_, refl, sym, ap, _∙_, subst}
-use Prim.Native.Nat.{ℕ, _+_, _-_, _*_, _/_, _%_, _≤_, _<_}
-use native.Mathlib.Omega.{arith}
-use borrow.Author.Needs.{needs}
-use borrow.Author.Tests.{not-true, not-false}
-use lib.ListN.{length, set}
+use Rattle.vocabulary.specs.{Bool, true, List, _≡_, refl, sym, ap, _∙_, subst, ℕ, _+_, _-_, _*_, _/_, _%_, _≤_, _<_, arith, needs}
+use Rattle.vocabulary.specs.{not-true, not-false, length, set}
 use Rattle.bits.specs.Bits.{odd, bitsOf, bytesOf, inside, withField}
-use Rattle.bits.proofs.Bytes.{AreBytes, length-bitsOf, bytesOf-bitsOf}
+use Rattle.bits.proofs.{Bytes.AreBytes, Bytes.length-bitsOf, Bytes.bytesOf-bitsOf, Places.lay-last, Places.lay-none}
 use Rattle.bits.proofs.Fields.{inside-within, inside-narrow, laid, withField-is, withField-outside}
-use Rattle.bits.proofs.Places.{lay-last, lay-none}
 use Rattle.bits.proofs.put_field.Statement.{statement}
 use Rattle.bits.proofs.put_field.Tie as tie
 
@@ -48,35 +41,20 @@ Inv-loop bytes₀ at width value rest₀ left₀ bytes rest left = Going bytes�
 abbrev μ-loop : tie.MeasureT-loop
 μ-loop bytes₀ at width value rest₀ left₀ bytes rest left = left
 
-is-inside-requires : tie.Need-is-inside-requires Inv-loop μ-loop
-is-inside-requires c κs = search needs
-
-same-length : tie.Need-same-length Inv-loop μ-loop
-same-length c = search needs
-
 returns : tie.Need-returns Inv-loop μ-loop
 returns c =
     let a = c .before .before .before .before .args in
     sym (withField-outside (a .bytes .now) (a .at) (a .width) (a .value) (sym (c .before .is-inside .ensures) ∙ not-true _ (c .if1 .taken)))
 
-loop-holds : tie.Need-loop-holds Inv-loop μ-loop
-loop-holds c = record { fewer = omega arith; same = refl; bytes = λ i. c .before .before .before .slice-known .given i .fits; written = refl }
-
 -- the field lies within the bytes as they came
 found : (c : tie.At-loop Inv-loop μ-loop) → (let a = c .before .before .before .before .before .args in inside (a .bytes .now) (a .at) (a .width) ≡ true)
 found c = sym (c .before .before .is-inside .ensures) ∙ not-false _ (c .before .if1 .left)
-
-sub-left : tie.Need-sub-left Inv-loop μ-loop
-sub-left c = omega arith
 
 put-bit-requires : tie.Need-put-bit-requires Inv-loop μ-loop
 put-bit-requires c κs =
     let at-loop = c .before .before in
     let a = at-loop .before .before .before .before .before .args in
     omega (arith, at-loop .loop .inv .same, inside-within (a .bytes .now) (a .at) (a .width) (found at-loop), inside-narrow (a .bytes .now) (a .at) (a .width) (found at-loop))
-
-loop-less : tie.Need-loop-less Inv-loop μ-loop
-loop-less c = omega (arith, c .before .before .before .before .loop-test .taken)
 
 loop-again : tie.Need-loop-again Inv-loop μ-loop
 loop-again c =
@@ -86,9 +64,6 @@ loop-again c =
     turn (a .bytes .now) (a .at) (a .width) (a .value) (at-loop .loop .bytes) (at-loop .loop .rest) (at-loop .loop .left)
     (inside-within (a .bytes .now) (a .at) (a .width) (found at-loop)) (put .before .before .loop-test .taken) (at-loop .loop .inv)
     (put .put-bit .last .0) (put .put-bit .ensures) (put .put-bit .kept .0) (λ i. c .slice-known2 .given i .fits)
-
-same-length-2 : tie.Need-same-length-2 Inv-loop μ-loop
-same-length-2 c = c .before .loop .inv .same
 
 returns-2 : tie.Need-returns-2 Inv-loop μ-loop
 returns-2 c =
@@ -100,17 +75,7 @@ returns-2 c =
 
 pub put-field-spec : {M : Type 1} → statement M
 put-field-spec =
-    tie.close
-    (tie.spec
-    Inv-loop
-    μ-loop
-    is-inside-requires
-    same-length
-    returns
-    loop-holds
-    sub-left
-    put-bit-requires
-    loop-less
-    loop-again
-    same-length-2
-    returns-2)
+    tie.close (tie.spec Inv-loop μ-loop (λ c κs. search needs) (λ c. search needs) returns
+    (λ c. record { fewer = omega arith; same = refl; bytes = λ i. c .before .before .before .slice-known .given i .fits; written = refl })
+    (λ c. omega arith) put-bit-requires (λ c. omega (arith, c .before .before .before .before .loop-test .taken)) loop-again
+    (λ c. c .before .loop .inv .same) returns-2)

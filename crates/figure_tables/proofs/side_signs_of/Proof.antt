@@ -1,17 +1,8 @@
 -- `figure_tables::side_signs_of` meets its contract: of the figures one alone has a side condition.
-use mathlib.Core.Path.{_≡_, refl}
-use mathlib.Core.List.{List, [], _∷_}
-use Prim.Native.Nat.{ℕ}
-use borrow.Author.Needs.{needs}
-use denote.Enum.Declared.{tagOf}
-use lib.IntN.{pos}
-use lib.ListN.{take, replicate}
-use types.Run.{OneOf, miss}
+use Rattle.vocabulary.specs.{_≡_, refl, List, [], _∷_, ℕ, needs, tagOf, pos, take, replicate, OneOf, miss}
 use Rattle.figures.proofs.Figure.{the-type}
-use Rattle.figures.specs.declared.Figure.{Figure}
+use Rattle.figures.specs.{declared.Figure.Figure, Figure.angleCount, Figure.side, Numerators.mostAngles}
 use Rattle.figures.specs.declared.Figure.the-variants.{Quadrilateral, PointInTriangle, PointInQuadrilateral, CentralTriangle, CentralQuadrilateral, CentralPentagon, CentralHexagon, CentralHeptagon, CentralOctagon}
-use Rattle.figures.specs.Figure.{angleCount, side}
-use Rattle.figures.specs.Numerators.{mostAngles}
 use Rattle.figure_tables.proofs.side_signs_of.Statement.{statement}
 use Rattle.figure_tables.proofs.side_signs_of.Tie as tie
 
@@ -29,8 +20,7 @@ of-none CentralHexagon key = refl
 of-none CentralHeptagon key = refl
 of-none CentralOctagon key = refl
 
-returns-2 : tie.Need-returns-2
-returns-2 c = of-none (c .before .args .figure) (c .match .keys2)
-
 pub side-signs-of-spec : {M : Type 1} → statement M
-side-signs-of-spec = tie.close (tie.spec (λ c. search needs) (λ c κs. search needs) (λ c. search needs) returns-2)
+side-signs-of-spec =
+    tie.close (tie.spec (λ c. search needs) (λ c κs. search needs) (λ c. search needs)
+    (λ c. of-none (c .before .args .figure) (c .match .keys2)))

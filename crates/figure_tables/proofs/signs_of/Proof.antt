@@ -1,17 +1,8 @@
 -- `figure_tables::signs_of` meets its contract: the triangles of a figure are the first of the largest figure's.
-use mathlib.Core.Path.{_≡_, refl, ap, _∙_}
-use mathlib.Core.List.{List, [], _∷_}
-use Prim.Native.Nat.{ℕ}
-use borrow.Author.Needs.{needs}
-use denote.Enum.Declared.{tagOf}
-use lib.IntN.{ℤ}
-use lib.ListN.{take}
-use types.Run.{OneOf, miss}
+use Rattle.vocabulary.specs.{_≡_, refl, ap, _∙_, List, [], _∷_, ℕ, needs, tagOf, ℤ, take, OneOf, miss}
 use Rattle.figures.proofs.Figure.{the-type}
-use Rattle.figures.specs.declared.Figure.{Figure}
+use Rattle.figures.specs.{declared.Figure.Figure, Figure.angleCount, Figure.pole, Rows.triangleSigns}
 use Rattle.figures.specs.declared.Figure.the-variants.{Quadrilateral, PointInTriangle, PointInQuadrilateral, CentralTriangle, CentralQuadrilateral, CentralPentagon, CentralHexagon, CentralHeptagon, CentralOctagon}
-use Rattle.figures.specs.Figure.{angleCount, pole}
-use Rattle.figures.specs.Rows.{triangleSigns}
 use Rattle.figure_tables.proofs.signs_of.Statement.{statement}
 use Rattle.figure_tables.proofs.signs_of.Tie as tie
 

@@ -1,6 +1,5 @@
 -- `pass_pair::clamped_size` meets its contract: a size with a high word is past the bound, and any other is its low word.
-use mathlib.Core.Path.{sym, ap, _∙_}
-use native.Mathlib.Nat.{le-of-lt}
+use Rattle.vocabulary.specs.{sym, ap, _∙_, le-of-lt}
 use Rattle.wide.specs.Wide.{sizeOf}
 use Rattle.wide.proofs.Sizes.{low-word}
 use Rattle.pass_pair.specs.Pair.{clampedSize}
@@ -18,10 +17,7 @@ returns-2 c =
     let size = c .before .before .before .before .args .size in
     sym (ap clampedSize (low-word size (c .before .before .if1 .taken)) ∙ size-large (size .low) (c .if2 .left))
 
-returns-3 : tie.Need-returns-3
-returns-3 c =
-    let size = c .before .before .args .size in
-    sym (size-large (sizeOf size) (high-large size (c .if1 .left)))
-
 pub clamped-size-spec : {M : Type 1} → statement M
-clamped-size-spec = tie.close (tie.spec returns returns-2 returns-3)
+clamped-size-spec =
+    tie.close (tie.spec returns returns-2
+    (λ c. let size = c .before .before .args .size in sym (size-large (sizeOf size) (high-large size (c .if1 .left)))))

@@ -1,13 +1,6 @@
 -- `pass_pair::clamped_tenths` meets its contract: the size is clamped, which 32 bits hold, and the sign stays.
-use mathlib.Core.Path.{_≡_, ap, _∙_}
-use Prim.Native.Nat.{_^_, _<_}
-use native.Mathlib.Nat.{lt-of-le-of-lt}
-use borrow.Author.Needs.{needs}
-use lib.Dec.{lit<}
-use lib.IntN.{ℤ, pos, negℤ, _-ℤ_, +ℤ-idl}
-use mir.Syntax.{w32}
-use mir.Val.{SFits, toZ}
-use mir.Facts.{toZ-ofZ, toZ-pos}
+use Rattle.vocabulary.specs.{_≡_, ap, _∙_, _^_, _<_, lt-of-le-of-lt, needs, lit<, ℤ, pos, negℤ, _-ℤ_, +ℤ-idl, w32, SFits, toZ, toZ-ofZ}
+use Rattle.vocabulary.specs.{toZ-pos}
 use Rattle.whole.proofs.Magnitudes.{magnitude-fits, natAbs-neg}
 use Rattle.wide.specs.Wide.{sizeOf, valueOf}
 use Rattle.wide.proofs.Signs.{signed-above, signed-below}
@@ -28,12 +21,6 @@ module _ (c : tie.After-clamped-size) where
   in-range : SFits w32 (negℤ (pos (c .clamped-size .result)))
   in-range = magnitude-fits w32 (negℤ (pos (c .clamped-size .result))) (rw (natAbs-neg (pos (c .clamped-size .result))) few)
 
-cast-size : tie.Need-cast-size
-cast-size c = record { sfits = few c }
-
-sub-result : tie.Need-sub-result
-sub-result c = rw (turned (c .before)) (in-range (c .before))
-
 returns : tie.Need-returns
 unfolding valueOf
 returns c =
@@ -48,4 +35,6 @@ returns-2 c =
     (read (c .before))
 
 pub clamped-tenths-spec : {M : Type 1} → statement M
-clamped-tenths-spec = tie.close (tie.spec (λ c κs. search needs) cast-size sub-result returns returns-2)
+clamped-tenths-spec =
+    tie.close (tie.spec (λ c κs. search needs) (λ c. record { sfits = few c }) (λ c. rw (turned (c .before)) (in-range (c .before))) returns
+    returns-2)

@@ -1,13 +1,9 @@
 -- `pass_pair::pair_correction` meets its contract: each step is that of the definition.
-use mathlib.Core.Path.{_≡_, sym, ap, ap₂, _∙_}
-use borrow.Author.Needs.{needs}
-use lib.IntN.{ℤ, _*ℤ_}
-use mir.Facts.{toZ-ofZ}
+use Rattle.vocabulary.specs.{_≡_, sym, ap, ap₂, _∙_, needs, ℤ, _*ℤ_, toZ-ofZ}
 use Rattle.whole.specs.Quotient.{roundedQuotient}
 use Rattle.wide.specs.Wide.{valueOf, held}
 use Rattle.wide.proofs.Bounds.{value-size}
-use Rattle.wide_words.specs.Words.{wordsFrom, reached}
-use Rattle.wide_words.specs.declared.Words.{Words}
+use Rattle.wide_words.specs.{Words.wordsFrom, Words.reached, declared.Words.Words}
 use Rattle.pass_pair.specs.Pair.{heldNumerator, clamped, correctionFrom}
 use Rattle.pass_pair.proofs.pair_correction.Statement.{statement}
 use Rattle.pass_pair.proofs.pair_correction.Tie as tie
@@ -54,13 +50,5 @@ returns c =
 
 pub pair-correction-spec : {M : Type 1} → statement M
 pair-correction-spec =
-    tie.close
-    (tie.spec
-    (λ c κs. search needs)
-    (λ c κs. search needs)
-    (λ c κs. search needs)
-    (λ c κs. search needs)
-    (λ c κs. search needs)
-    (λ c κs. search needs)
-    (λ c κs. search needs)
-    returns)
+    tie.close (tie.spec (λ c κs. search needs) (λ c κs. search needs) (λ c κs. search needs) (λ c κs. search needs) (λ c κs. search needs)
+    (λ c κs. search needs) (λ c κs. search needs) returns)

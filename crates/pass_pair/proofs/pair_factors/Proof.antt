@@ -1,9 +1,5 @@
 -- `pass_pair::pair_factors` meets its contract: three differences of products.
-use mathlib.Core.Path.{_∙_}
-use borrow.Author.Needs.{needs}
-use mir.Syntax.{w64}
-use mir.Val.{SFits}
-use mir.Facts.{toZ-ofZ}
+use Rattle.vocabulary.specs.{_∙_, needs, w64, SFits, toZ-ofZ}
 use Rattle.pass_pair.specs.declared.Pair.{Pair}
 use Rattle.pass_pair.proofs.pair_factors.Statement.{statement}
 use Rattle.pass_pair.proofs.pair_factors.Tie as tie

@@ -1,9 +1,5 @@
 -- `pass_pair::products_difference` meets its contract: a product of two 64-bit numbers is at most 2^126 either way.
-use mathlib.Core.Path.{_≡_, ap, ap₂, _∙_}
-use borrow.Author.Needs.{needs}
-use lib.IntN.{_-ℤ_, _*ℤ_}
-use mir.Syntax.{w64}
-use mir.Facts.{toZ-ofZ}
+use Rattle.vocabulary.specs.{_≡_, ap, ap₂, _∙_, needs, _-ℤ_, _*ℤ_, w64, toZ-ofZ}
 use Rattle.whole.proofs.Magnitudes.{fits-magnitude}
 use Rattle.wide.specs.Wide.{valueOf, held}
 use Rattle.pass_pair.proofs.Exact.{products-stay}

@@ -1,29 +1,18 @@
 -- `pass_sheet::body_lines` meets its contract: the reader keeps its promise on the parts that are lent to it, and its values are worked
 -- from there.
-use mathlib.Core.Path.{_≡_, refl, sym, ap, _∙_, subst}
-use mathlib.Core.List.{List, [], _∷_, _++_}
-use Prim.Native.Nat.{ℕ, _≤_}
-use borrow.Author.Needs.{needs}
-use lib.IntN.{ℤ, pos}
-use lib.ListN.{length, take, drop, replicate}
-use denote.Ref.{now}
-use lib.Seq.{length-take-le, take-at}
+use Rattle.vocabulary.specs.{_≡_, refl, sym, ap, _∙_, subst, List, [], _∷_, _++_, ℕ, _≤_, needs, ℤ, pos, length, take, drop, replicate}
+use Rattle.vocabulary.specs.{now, length-take-le, take-at}
 use Rattle.whole.proofs.Lending.{still-few}
-use Rattle.figures.specs.declared.Figure.{Figure}
-use Rattle.figures.specs.Numerators.{mostAngles, mostFixed, mostSides}
-use Rattle.sheet_layout.specs.declared.Lengths.{Lengths}
-use Rattle.sheet_layout.specs.declared.Kind.{Kind}
-use Rattle.sheet_rules.specs.declared.Reading.{Reading}
-use Rattle.sheet_rules.specs.declared.Reading.the-variants.{Read}
-use Rattle.refusals.specs.Order.{judged}
+use Rattle.figures.specs.{declared.Figure.Figure, Numerators.mostAngles, Numerators.mostFixed, Numerators.mostSides}
+use Rattle.sheet_layout.specs.{declared.Lengths.Lengths, declared.Kind.Kind}
+use Rattle.sheet_rules.specs.{declared.Reading.Reading, declared.Reading.the-variants.Read, Sheet.valuesRead}
 use Rattle.sheet_rules.specs.Judging.{bodyRows, readingAfter, afterReading}
-use Rattle.sheet_reader.specs.Parts.{BodyPromise}
 use Rattle.sheet_rules.specs.Promises.{Slices, slices, slicesOf}
-use Rattle.sheet_rules.specs.Sheet.{valuesRead}
+use Rattle.refusals.specs.Order.{judged}
+use Rattle.sheet_reader.specs.Parts.{BodyPromise}
 use Rattle.text.specs.Holds.{Holds}
 use Rattle.pass_rules.specs.SecondPass.{sineEntries}
-use Rattle.pass_sheet.specs.Texts.{textOf}
-use Rattle.pass_sheet.specs.Worked.{WorkedSheet, workedKind, workedReading, workedRead}
+use Rattle.pass_sheet.specs.{Texts.textOf, Worked.WorkedSheet, Worked.workedKind, Worked.workedReading, Worked.workedRead}
 use Rattle.pass_sheet.proofs.SheetBounds.{angles-few, fixed-few, log-sines-few, log-sides-few}
 use Rattle.pass_sheet.proofs.body_lines.Statement.{statement}
 use Rattle.pass_sheet.proofs.body_lines.Tie as tie
@@ -43,24 +32,6 @@ module _ (c : tie.After-lengths-of) where
 
   few-log-sides : lengths .«log_sides» ≤ mostSides
   few-log-sides = rw (c .lengths-of .ensures) (log-sides-few (c .before .before .before .args .kind) (c .before .before .before .args .figure))
-
-slice-aggregate-read-body : tie.Need-slice-aggregate-read-body
-slice-aggregate-read-body c = sym (length-take-le _ _ (few-angles (c .before)))
-
-slice-aggregate-read-body-2 : tie.Need-slice-aggregate-read-body-2
-slice-aggregate-read-body-2 c = sym (length-take-le _ _ (few-angles (c .before .before)))
-
-slice-aggregate-read-body-3 : tie.Need-slice-aggregate-read-body-3
-slice-aggregate-read-body-3 c = sym (length-take-le _ _ (few-fixed (c .before .before .before)))
-
-slice-aggregate-read-body-4 : tie.Need-slice-aggregate-read-body-4
-slice-aggregate-read-body-4 c = sym (length-take-le _ _ (few-log-sines (c .before .before .before .before)))
-
-slice-aggregate-read-body-5 : tie.Need-slice-aggregate-read-body-5
-slice-aggregate-read-body-5 c = sym (length-take-le _ _ (few-log-sines (c .before .before .before .before .before)))
-
-slice-aggregate-read-body-6 : tie.Need-slice-aggregate-read-body-6
-slice-aggregate-read-body-6 c = sym (length-take-le _ _ (few-log-sides (c .before .before .before .before .before .before)))
 
 -- what the reader left in a part is what stands at the start of the whole
 at-start : {A : Type 0} (reading : Reading) (values : Kind → Figure → List A) (n : ℕ) (part old rest : List A)
@@ -193,22 +164,14 @@ returns c =
 
 pub body-lines-spec : {M : Type 1} → statement M
 body-lines-spec =
-    tie.close
-    (tie.spec
-    (λ c κs. search needs)
-    (λ c. few-angles c)
-    slice-aggregate-read-body
-    (λ c. few-angles (c .before))
-    slice-aggregate-read-body-2
-    (λ c. few-fixed (c .before .before))
-    slice-aggregate-read-body-3
-    (λ c. few-log-sines (c .before .before .before))
-    slice-aggregate-read-body-4
+    tie.close (tie.spec (λ c κs. search needs) (λ c. few-angles c) (λ c. sym (length-take-le _ _ (few-angles (c .before))))
+    (λ c. few-angles (c .before)) (λ c. sym (length-take-le _ _ (few-angles (c .before .before)))) (λ c. few-fixed (c .before .before))
+    (λ c. sym (length-take-le _ _ (few-fixed (c .before .before .before)))) (λ c. few-log-sines (c .before .before .before))
+    (λ c. sym (length-take-le _ _ (few-log-sines (c .before .before .before .before))))
     (λ c. few-log-sines (c .before .before .before .before))
-    slice-aggregate-read-body-5
+    (λ c. sym (length-take-le _ _ (few-log-sines (c .before .before .before .before .before))))
     (λ c. few-log-sides (c .before .before .before .before .before))
-    slice-aggregate-read-body-6
-    (λ c κs. search needs)
+    (λ c. sym (length-take-le _ _ (few-log-sides (c .before .before .before .before .before .before)))) (λ c κs. search needs)
     (λ c. angles-held (c .before .before .before .before .before .before .before))
     (λ c. sym (length-take-le _ _ (angles-held (c .before .before .before .before .before .before .before .before))))
     (λ c. rounds-held (c .before .before .before .before .before .before .before .before))
@@ -221,6 +184,4 @@ body-lines-spec =
     (λ c. sym (length-take-le _ _ (differences-held (c .before .before .before .before .before .before .before .before .before .before .before .before))))
     (λ c. log-sides-held (c .before .before .before .before .before .before .before .before .before .before .before .before))
     (λ c. sym (length-take-le _ _ (log-sides-held (c .before .before .before .before .before .before .before .before .before .before .before .before .before))))
-    (λ c κs. search needs)
-    (λ c. search needs)
-    returns)
+    (λ c κs. search needs) (λ c. search needs) returns)

@@ -1,18 +1,10 @@
 -- `pass_sheet::first_sheet` meets its contract: the lines of what the pass left, or its refusal.
-use mathlib.Core.Path.{_≡_, sym, _∙_, subst}
-use mathlib.Core.List.{List, [], _∷_, _++_}
-use Prim.Native.Nat.{ℕ}
-use borrow.Author.Needs.{needs}
-use denote.Ref.{now}
-use lib.IntN.{ℤ, pos}
-use lib.ListN.{length, take, drop, replicate}
+use Rattle.vocabulary.specs.{_≡_, sym, _∙_, subst, List, [], _∷_, _++_, ℕ, needs, now, ℤ, pos, length, take, drop, replicate}
 use Rattle.whole.specs.Sums.{vector, naturals}
 use Rattle.text.specs.Holds.{Holds}
 use Rattle.lines.specs.Lines.{firstText}
-use Rattle.pass_rules.specs.FirstPass.{firstResultLengths}
-use Rattle.pass_rules.specs.Promises.{FirstLent, firstLent, firstResultsLent}
-use Rattle.pass_steps.proofs.Again.{Again, again}
-use Rattle.pass_steps.proofs.Counted.{Counted, counted}
+use Rattle.pass_rules.specs.{FirstPass.firstResultLengths, Promises.FirstLent, Promises.firstLent, Promises.firstResultsLent}
+use Rattle.pass_steps.proofs.{Again.Again, Again.again, Counted.Counted, Counted.counted}
 use Rattle.whole.proofs.Lending.{lent-length}
 use Rattle.pass_sheet.proofs.Sheets.{first-refused, first-worked}
 use Rattle.pass_sheet.proofs.first_sheet.Statement.{statement}
@@ -120,25 +112,15 @@ returns-2 c =
 
 pub first-sheet-spec : {M : Type 1} → statement M
 first-sheet-spec =
-    tie.close
-    (tie.spec
-    (λ c κs. search needs)
-    (λ c. sizes c .few-conditions)
-    (λ c. sizes (c .before) .lent-conditions)
-    (λ c. sizes (c .before) .few-angles)
-    (λ c. sizes (c .before .before) .lent-angles)
-    (λ c. sizes (c .before .before) .few-angles)
-    (λ c. sizes (c .before .before .before) .lent-angles)
-    (λ c. sizes (c .before .before .before) .few-angles)
+    tie.close (tie.spec (λ c κs. search needs) (λ c. sizes c .few-conditions) (λ c. sizes (c .before) .lent-conditions)
+    (λ c. sizes (c .before) .few-angles) (λ c. sizes (c .before .before) .lent-angles) (λ c. sizes (c .before .before) .few-angles)
+    (λ c. sizes (c .before .before .before) .lent-angles) (λ c. sizes (c .before .before .before) .few-angles)
     (λ c. lent-length (n (c .before .before .before .before)) (replicate 24 0) (sizes (c .before .before .before .before) .few-angles))
     (λ c. sizes (c .before .before .before .before) .few-angles)
     (λ c. lent-length (n (c .before .before .before .before .before)) (replicate 24 0) (sizes (c .before .before .before .before .before) .few-angles))
     (λ c. sizes (c .before .before .before .before .before) .few-conditions)
-    (λ c. sizes (c .before .before .before .before .before .before) .lent-conditions)
-    (λ c κs. search needs)
-    (λ c. search needs)
-    (λ c κs. search needs)
-    (λ c. search needs)
+    (λ c. sizes (c .before .before .before .before .before .before) .lent-conditions) (λ c κs. search needs) (λ c. search needs)
+    (λ c κs. search needs) (λ c. search needs)
     (λ c. carried-again (c .before .before .before .before .before .before .before .before .before) .few)
     (λ c. carried-again (c .before .before .before .before .before .before .before .before .before .before) .size)
     (λ c. numerators-again (c .before .before .before .before .before .before .before .before .before .before) .few)
@@ -151,8 +133,4 @@ first-sheet-spec =
     (λ c. misclosures-again (c .before .before .before .before .before .before .before .before .before .before .before .before .before .before) .size)
     (λ c. rests-again (c .before .before .before .before .before .before .before .before .before .before .before .before .before .before) .few)
     (λ c. rests-again (c .before .before .before .before .before .before .before .before .before .before .before .before .before .before .before) .size)
-    (λ c κs. search needs)
-    (λ c. search needs)
-    returns
-    (λ c. search needs)
-    returns-2)
+    (λ c κs. search needs) (λ c. search needs) returns (λ c. search needs) returns-2)

@@ -1,19 +1,11 @@
 -- `pass_sheet::reading_lines` meets its contract: the pass of the kind that was read.
-use mathlib.Core.Path.{_≡_, sym, ap, ap₂, _∙_, subst}
-use Prim.Native.Nat.{ℕ}
-use mathlib.Core.List.{List}
-use borrow.Author.Needs.{needs}
-use denote.Ref.{now}
+use Rattle.vocabulary.specs.{_≡_, sym, ap, ap₂, _∙_, subst, ℕ, List, needs, now}
 use Rattle.text.specs.Holds.{Holds}
 use Rattle.figures.specs.declared.Figure.{Figure}
-use Rattle.sheet_layout.specs.declared.Kind.{Kind}
-use Rattle.sheet_layout.specs.declared.Pass.{Pass}
-use Rattle.sheet_layout.specs.Kinds.{passOf, defaultOf}
+use Rattle.sheet_layout.specs.{declared.Kind.Kind, declared.Pass.Pass, Kinds.passOf, Kinds.defaultOf}
 use Rattle.sheet_rules.specs.declared.Reading.{Reading}
-use Rattle.pass_rules.specs.Pass.{inForce}
-use Rattle.pass_rules.specs.SecondPass.{SineEntries, sineEntries}
-use Rattle.pass_sheet.specs.Texts.{textOf}
-use Rattle.pass_sheet.specs.Worked.{WorkedSheet, workedPass, workedKind, workedReading}
+use Rattle.pass_rules.specs.{Pass.inForce, SecondPass.SineEntries, SecondPass.sineEntries}
+use Rattle.pass_sheet.specs.{Texts.textOf, Worked.WorkedSheet, Worked.workedPass, Worked.workedKind, Worked.workedReading}
 use Rattle.pass_sheet.proofs.reading_lines.Statement.{statement}
 use Rattle.pass_sheet.proofs.reading_lines.Tie as tie
 
@@ -82,21 +74,6 @@ returns-3 c =
 
 pub reading-lines-spec : {M : Type 1} → statement M
 reading-lines-spec =
-    tie.close
-    (tie.spec
-    (λ c. search needs)
-    (λ c κs. search needs)
-    (λ c. search needs)
-    (λ c κs. search needs)
-    (λ c κs. search needs)
-    (λ c κs. search needs)
-    (λ c. search needs)
-    (λ c κs. search needs)
-    (λ c. search needs)
-    (λ c κs. search needs)
-    (λ c. search needs)
-    returns
-    (λ c. search needs)
-    returns-2
-    (λ c. search needs)
-    returns-3)
+    tie.close (tie.spec (λ c. search needs) (λ c κs. search needs) (λ c. search needs) (λ c κs. search needs) (λ c κs. search needs)
+    (λ c κs. search needs) (λ c. search needs) (λ c κs. search needs) (λ c. search needs) (λ c κs. search needs) (λ c. search needs) returns
+    (λ c. search needs) returns-2 (λ c. search needs) returns-3)

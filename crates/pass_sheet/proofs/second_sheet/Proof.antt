@@ -1,21 +1,11 @@
 -- `pass_sheet::second_sheet` meets its contract: the lines of what the pass left, or its refusal.
-use mathlib.Core.Bool.{Bool, true, false, cond}
-use mathlib.Core.Path.{_≡_, sym, ap, _∙_, subst}
-use mathlib.Core.List.{List, [], _∷_, _++_}
-use Prim.Native.Nat.{ℕ, _≤_, zero-le}
-use native.Mathlib.Omega.{arith}
-use borrow.Author.Needs.{needs}
-use denote.Ref.{now}
-use lib.IntN.{ℤ, pos}
-use mir.Syntax.{w64}
-use mir.ValLaws.{toZ-ofZ}
-use lib.ListN.{getD, take, drop, replicate}
+use Rattle.vocabulary.specs.{Bool, true, false, cond, _≡_, sym, ap, _∙_, subst, List, [], _∷_, _++_, ℕ, _≤_, zero-le, arith, needs, now, ℤ}
+use Rattle.vocabulary.specs.{pos, w64, toZ-ofZ-at, getD, take, drop, replicate}
 use Rattle.whole.specs.Sums.{vector, naturals}
 use Rattle.wide_words.specs.Words.{joined}
 use Rattle.text.specs.Holds.{Holds}
 use Rattle.lines.specs.Lines.{secondText, wideNumbers}
-use Rattle.figures.specs.declared.Figure.{Figure}
-use Rattle.figures.specs.Figure.{angleCount, hasSide}
+use Rattle.figures.specs.{declared.Figure.Figure, Figure.angleCount, Figure.hasSide}
 use Rattle.figures.proofs.Figures.{angle-bound, condition-bound}
 use Rattle.pass_rules.specs.SecondPass.{SineEntries, sineEntries, sideReducedCount, secondResultLengths}
 use Rattle.pass_rules.specs.Promises.{SecondLent, secondLent, secondResultsLent}
@@ -172,8 +162,8 @@ returns-2 c =
     let done = told .answer2 .given .0 in
     let facts = c .before .before .before .before .before .before .before .before .before .before .before .before .known-told2 .given in
     subst (λ (t : List ℕ). Holds (now (s .args .buffer)) t (printed .second-lines .last .0) (printed .second-lines .result))
-    (read p (done .0) (done .1 .0) (joined (pos (done .1 .1 .0)) (done .1 .1 .1 .0)) _ _ (toZ-ofZ w64 (done .0) (record { sfits = facts .0 .1 }))
-    (toZ-ofZ w64 (done .1 .0) (record { sfits = facts .1 .0 .1 }))
+    (read p (done .0) (done .1 .0) (joined (pos (done .1 .1 .0)) (done .1 .1 .1 .0)) _ _ (toZ-ofZ-at w64 (done .0) (record { sfits = facts .0 .1 }))
+    (toZ-ofZ-at w64 (done .1 .0) (record { sfits = facts .1 .0 .1 }))
     ∙ second-worked (s .args .figure) (s .args .tolerance) (now (s .args .angles)) (now (s .args .rounds)) (e p) (entry p)
     (secondLent (reduced p) (side-reduced p) (high p) (low p) (rounded p) (adjusted p) (carried p) (rests p)) (p .second-pass-of .result) (p .second-pass-of .ensures) (lengths p)
     (told .answer2 .given .1))
@@ -181,17 +171,9 @@ returns-2 c =
 
 pub second-sheet-spec : {M : Type 1} → statement M
 second-sheet-spec =
-    tie.close
-    (tie.spec
-    (λ c κs. search needs)
-    (λ c. search needs)
-    (λ c. search needs)
-    (λ c. search needs)
-    (λ c. few-angles c)
-    (λ c. lent-length (n (c .before)) (zeros 24) (few-angles (c .before)))
-    (λ c. few-side (c .before))
-    (λ c. lent-length (k (c .before .before)) (zeros 24) (few-side (c .before .before)))
-    (λ c. few-angles (c .before .before))
+    tie.close (tie.spec (λ c κs. search needs) (λ c. search needs) (λ c. search needs) (λ c. search needs) (λ c. few-angles c)
+    (λ c. lent-length (n (c .before)) (zeros 24) (few-angles (c .before))) (λ c. few-side (c .before))
+    (λ c. lent-length (k (c .before .before)) (zeros 24) (few-side (c .before .before))) (λ c. few-angles (c .before .before))
     (λ c. lent-length (n (c .before .before .before)) (zeros 24) (few-angles (c .before .before .before)))
     (λ c. few-angles (c .before .before .before))
     (λ c. lent-length (n (c .before .before .before .before)) naughts (few-angles (c .before .before .before .before)))
@@ -203,10 +185,7 @@ second-sheet-spec =
     (λ c. lent-length (n (c .before .before .before .before .before .before .before)) naughts (few-angles (c .before .before .before .before .before .before .before)))
     (λ c. few-conditions (c .before .before .before .before .before .before .before))
     (λ c. lent-length (m (c .before .before .before .before .before .before .before .before)) (zeros 9) (few-conditions (c .before .before .before .before .before .before .before .before)))
-    (λ c κs. search needs)
-    (λ c. search needs)
-    (λ c κs. search needs)
-    (λ c. search needs)
+    (λ c κs. search needs) (λ c. search needs) (λ c κs. search needs) (λ c. search needs)
     (λ c. carried-again (c .before .before .before .before .before .before .before .before .before .before .before .before) .few)
     (λ c. carried-again (c .before .before .before .before .before .before .before .before .before .before .before .before .before) .size)
     (λ c. reduced-again (c .before .before .before .before .before .before .before .before .before .before .before .before .before) .few)
@@ -223,8 +202,4 @@ second-sheet-spec =
     (λ c. adjusted-again (c .before .before .before .before .before .before .before .before .before .before .before .before .before .before .before .before .before .before .before) .size)
     (λ c. rests-again (c .before .before .before .before .before .before .before .before .before .before .before .before .before .before .before .before .before .before .before) .few)
     (λ c. rests-again (c .before .before .before .before .before .before .before .before .before .before .before .before .before .before .before .before .before .before .before .before) .size)
-    (λ c κs. search needs)
-    (λ c. search needs)
-    returns
-    (λ c. search needs)
-    returns-2)
+    (λ c κs. search needs) (λ c. search needs) returns (λ c. search needs) returns-2)

@@ -1,20 +1,11 @@
 -- `pass_sheet::worked_lines` meets its contract: the look, and then the reading, and then the pass.
-use mathlib.Core.Path.{_≡_, sym, _∙_, subst}
-use mathlib.Core.List.{List}
-use Prim.Native.Nat.{ℕ}
-use borrow.Author.Needs.{needs}
-use denote.Ref.{now}
+use Rattle.vocabulary.specs.{_≡_, sym, _∙_, subst, List, ℕ, needs, now}
 use Rattle.figures.specs.declared.Figure.{Figure}
-use Rattle.sheet_layout.specs.declared.Kind.{Kind}
+use Rattle.sheet_layout.specs.{declared.Kind.Kind, declared.head.Look.Look, declared.head.Look.the-variants.Head, Head.lookOf}
 use Rattle.text.specs.Holds.{Holds}
-use Rattle.sheet_layout.specs.declared.head.Look.{Look}
-use Rattle.sheet_layout.specs.declared.head.Look.the-variants.{Head}
-use Rattle.sheet_layout.specs.Head.{lookOf}
-use Rattle.sheet_rules.specs.declared.Reading.{Reading}
-use Rattle.sheet_rules.specs.Judging.{ownLengths}
+use Rattle.sheet_rules.specs.{declared.Reading.Reading, Judging.ownLengths}
 use Rattle.sheet_rules.proofs.Accepted.{head-found}
-use Rattle.pass_sheet.specs.Texts.{textOf, workedText}
-use Rattle.pass_sheet.specs.Worked.{workedRead, workedBody, workedLook, workedOf}
+use Rattle.pass_sheet.specs.{Texts.textOf, Texts.workedText, Worked.workedRead, Worked.workedBody, Worked.workedLook, Worked.workedOf}
 use Rattle.pass_sheet.proofs.worked_lines.Statement.{statement}
 use Rattle.pass_sheet.proofs.worked_lines.Tie as tie
 
@@ -48,14 +39,5 @@ returns-2 c =
 
 pub worked-lines-spec : {M : Type 1} → statement M
 worked-lines-spec =
-    tie.close
-    (tie.spec
-    (λ c κs. search needs)
-    (λ c. search needs)
-    (λ c κs. search needs)
-    (λ c. search needs)
-    (λ c κs. search needs)
-    (λ c. search needs)
-    returns
-    (λ c. search needs)
-    returns-2)
+    tie.close (tie.spec (λ c κs. search needs) (λ c. search needs) (λ c κs. search needs) (λ c. search needs) (λ c κs. search needs)
+    (λ c. search needs) returns (λ c. search needs) returns-2)

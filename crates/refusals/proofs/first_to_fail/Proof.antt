@@ -1,6 +1,5 @@
 -- `refusals::first_to_fail` meets its contract: the arm that is taken is the clause of `answerOf`, and the answer of one test is the test.
-use mathlib.Core.Path.{sym}
-use borrow.Author.Needs.{needs}
+use Rattle.vocabulary.specs.{sym, needs}
 use Rattle.refusals.specs.Order.{answerOf}
 use Rattle.refusals.proofs.Answers.{answer-of-one}
 use Rattle.refusals.proofs.first_to_fail.Statement.{statement}

@@ -1,15 +1,8 @@
 -- `sheet_layout::bit_count` meets its contract: what the arms compute is the width of the layout, for every figure, and a figure has few
 -- angles.
-use Prim.Native.Nat.{ℕ, _+_, _*_}
-use mathlib.Core.Path.{_≡_, sym, ap, ap₂, _∙_}
-use native.Mathlib.Omega.{arith}
-use borrow.Author.Needs.{needs}
-use Rattle.figures.specs.declared.Counts.{Counts}
-use Rattle.figures.specs.declared.Figure.{Figure}
-use Rattle.figures.specs.Figure.{countsOf}
-use Rattle.sheet_layout.specs.declared.Kind.{Kind}
-use Rattle.sheet_layout.specs.declared.Pass.{Pass}
-use Rattle.sheet_layout.specs.Kinds.{passOf, carriesRounds, ofPass}
+use Rattle.vocabulary.specs.{ℕ, _+_, _*_, _≡_, sym, ap, ap₂, _∙_, arith, needs}
+use Rattle.figures.specs.{declared.Counts.Counts, declared.Figure.Figure, Figure.countsOf}
+use Rattle.sheet_layout.specs.{declared.Kind.Kind, declared.Pass.Pass, Kinds.passOf, Kinds.carriesRounds, Kinds.ofPass}
 use Rattle.sheet_layout.specs.Layout.{roundsBits, bitCount}
 use Rattle.sheet_layout.proofs.Sizes.{few-angles, few-fixed, few-sides, few-rounds, bitsFor, pass-bits}
 use Rattle.sheet_layout.proofs.bit_count.Statement.{statement}
@@ -23,21 +16,12 @@ of-pass kind f told is step own e =
     ap₂ (λ (r : Counts) (s : ℕ). ofPass told (22 + 23 * (r .angles + r .fixed)) (18 + 27 * r .sides + 65 * r .angles) + s * r .angles) is step
     ∙ ap (λ (p : Pass). bitsFor p (carriesRounds kind) f) (sym e ∙ own) ∙ sym (pass-bits kind f)
 
-counts-of-requires : tie.Need-counts-of-requires
-counts-of-requires c κs = search needs
-
-rounds-step-requires : tie.Need-rounds-step-requires
-rounds-step-requires c κs = search needs
-
 mul-rounds : tie.Need-mul-rounds
 mul-rounds c =
     let step = c .before in
     let at = step .before in
     let a = at .before .args in
     omega (arith, few-rounds (a .kind) (a .figure) (at .counts-of .ensures) (step .rounds-step .ensures))
-
-pass-of-requires : tie.Need-pass-of-requires
-pass-of-requires c κs = search needs
 
 enum-told : tie.Need-enum-told
 enum-told c = search needs
@@ -63,9 +47,6 @@ add-result-3 c =
     let at = step .before in
     let a = at .before .args in
     omega (arith, few-angles (a .figure) (at .counts-of .ensures), few-fixed (a .figure) (at .counts-of .ensures), few-rounds (a .kind) (a .figure) (at .counts-of .ensures) (step .rounds-step .ensures))
-
-enum-told-2 : tie.Need-enum-told-2
-enum-told-2 c = search needs
 
 mul-result-2 : tie.Need-mul-result-2
 mul-result-2 c = let at = c .before .before .before .before .before .before in omega (arith, few-sides (at .before .args .figure) (at .counts-of .ensures))
@@ -106,22 +87,5 @@ returns-2 c =
 
 pub bit-count-spec : {M : Type 1} → statement M
 bit-count-spec =
-    tie.close
-    (tie.spec
-    counts-of-requires
-    rounds-step-requires
-    mul-rounds
-    pass-of-requires
-    enum-told
-    add-result
-    mul-result
-    add-result-2
-    add-result-3
-    enum-told-2
-    mul-result-2
-    add-result-4
-    mul-result-3
-    add-result-5
-    add-result-6
-    returns
-    returns-2)
+    tie.close (tie.spec (λ c κs. search needs) (λ c κs. search needs) mul-rounds (λ c κs. search needs) enum-told add-result mul-result
+    add-result-2 add-result-3 (λ c. search needs) mul-result-2 add-result-4 mul-result-3 add-result-5 add-result-6 returns returns-2)

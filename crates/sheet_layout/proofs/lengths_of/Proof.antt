@@ -1,13 +1,7 @@
 -- `sheet_layout::lengths_of` meets its contract: the arms are the counts for each pass, with the figure's own counts in them.
-use mathlib.Core.Path.{sym, ap, _∙_}
-use borrow.Author.Needs.{needs}
-use Rattle.figures.specs.declared.Counts.{Counts}
-use Rattle.figures.specs.declared.Figure.{Figure}
-use Rattle.figures.specs.Figure.{angleCount, fixedCount, sideCount}
-use Rattle.sheet_layout.specs.declared.Lengths.{Lengths}
-use Rattle.sheet_layout.specs.declared.Pass.{Pass}
-use Rattle.sheet_layout.specs.Kinds.{ofPass}
-use Rattle.sheet_layout.specs.Layout.{lengthsFrom}
+use Rattle.vocabulary.specs.{sym, ap, _∙_, needs}
+use Rattle.figures.specs.{declared.Counts.Counts, declared.Figure.Figure, Figure.angleCount, Figure.fixedCount, Figure.sideCount}
+use Rattle.sheet_layout.specs.{declared.Lengths.Lengths, declared.Pass.Pass, Kinds.ofPass, Layout.lengthsFrom}
 use Rattle.sheet_layout.proofs.lengths_of.Statement.{statement}
 use Rattle.sheet_layout.proofs.lengths_of.Tie as tie
 
@@ -30,5 +24,4 @@ returns-2 c =
 
 pub lengths-of-spec : {M : Type 1} → statement M
 lengths-of-spec =
-    tie.close
-    (tie.spec (λ c κs. search needs) (λ c κs. search needs) (λ c. search needs) (λ c. search needs) returns returns-2)
+    tie.close (tie.spec (λ c κs. search needs) (λ c κs. search needs) (λ c. search needs) (λ c. search needs) returns returns-2)

@@ -1,23 +1,16 @@
 -- `sheet_layout::sheet_size` meets its contract: it rounds the count of bits up to whole bytes, as `byteCount` does.
-use Prim.Native.Nat.{ℕ, _+_, _/_}
-use mathlib.Core.Path.{ap}
-use native.Mathlib.Omega.{arith}
-use borrow.Author.Needs.{needs}
+use Rattle.vocabulary.specs.{ℕ, _+_, _/_, ap, arith, needs}
 use Rattle.bits.specs.Bits.{byteCount}
 use Rattle.sheet_layout.specs.Layout.{sheetSize}
 use Rattle.sheet_layout.proofs.Sizes.{few-bits}
 use Rattle.sheet_layout.proofs.sheet_size.Statement.{statement}
 use Rattle.sheet_layout.proofs.sheet_size.Tie as tie
 
-bit-count-requires : tie.Need-bit-count-requires
-bit-count-requires c κs = search needs
-
-add-result : tie.Need-add-result
-add-result c = omega (arith, few-bits (c .before .args .kind) (c .before .args .figure), c .bit-count .ensures)
-
 returns : tie.Need-returns
 unfolding sheetSize byteCount
 returns c = ap (λ (n : ℕ). (n + 7) / 8) (c .bit-count .ensures)
 
 pub sheet-size-spec : {M : Type 1} → statement M
-sheet-size-spec = tie.close (tie.spec bit-count-requires add-result returns)
+sheet-size-spec =
+    tie.close (tie.spec (λ c κs. search needs)
+    (λ c. omega (arith, few-bits (c .before .args .kind) (c .before .args .figure), c .bit-count .ensures)) returns)

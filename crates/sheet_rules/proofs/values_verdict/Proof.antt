@@ -1,11 +1,6 @@
 -- `sheet_rules::values_verdict` meets its contract: the rows in turn, each by its own promise.
-use mathlib.Core.List.{List, [], _∷_, _++_}
-use mathlib.Core.Path.{_≡_, ap, _∙_}
-use borrow.Author.Needs.{needs}
-use Prim.Native.Nat.{ℕ}
-use denote.Ref.{now}
-use Rattle.refusals.specs.declared.Verdict.{Verdict}
-use Rattle.refusals.specs.Order.{Row, verdictOf}
+use Rattle.vocabulary.specs.{List, [], _∷_, _++_, _≡_, ap, _∙_, needs, ℕ, now}
+use Rattle.refusals.specs.{declared.Verdict.Verdict, Order.Row, Order.verdictOf}
 use Rattle.refusals.specs.Table.{limitOrToleranceRow, anglesRow, roundsRow, fixedRow, fixedSumRow, sineEntriesRow}
 use Rattle.refusals.proofs.InSteps.{Answered, last-row, row-fails, row-passes}
 use Rattle.sheet_rules.specs.Judging.{mostLimitOrTolerance, mostRoundsOf}
@@ -134,29 +129,7 @@ returns-6 c =
 
 pub values-verdict-spec : {M : Type 1} → statement M
 values-verdict-spec =
-    tie.close
-    (tie.spec
-    (λ c κs. search needs)
-    (λ c κs. search needs)
-    (λ c. search needs)
-    returns
-    (λ c. search needs)
-    (λ c κs. search needs)
-    (λ c. search needs)
-    returns-2
-    (λ c. search needs)
-    (λ c κs. search needs)
-    (λ c κs. search needs)
-    (λ c. search needs)
-    returns-3
-    (λ c. search needs)
-    (λ c κs. search needs)
-    (λ c. search needs)
-    returns-4
-    (λ c. search needs)
-    (λ c κs. search needs)
-    (λ c. search needs)
-    returns-5
-    (λ c. search needs)
-    (λ c κs. search needs)
-    returns-6)
+    tie.close (tie.spec (λ c κs. search needs) (λ c κs. search needs) (λ c. search needs) returns (λ c. search needs) (λ c κs. search needs)
+    (λ c. search needs) returns-2 (λ c. search needs) (λ c κs. search needs) (λ c κs. search needs) (λ c. search needs) returns-3
+    (λ c. search needs) (λ c κs. search needs) (λ c. search needs) returns-4 (λ c. search needs) (λ c κs. search needs) (λ c. search needs)
+    returns-5 (λ c. search needs) (λ c κs. search needs) returns-6)

@@ -1,12 +1,7 @@
 -- `text::put_word` meets its contract: the bytes before `done` are in place and every other byte of the buffer is as it was; a turn lays
 -- the next one (`paste-suc`), until the word or the room is at its end.
-use mathlib.Core.Path.{_≡_, sym, ap, _∙_}
-use Prim.Native.Nat.{ℕ, _+_, _-_, _≤_}
-use native.Mathlib.Numerals.{add-one}
-use native.Mathlib.Omega.{arith}
-use mathlib.Core.List.{List}
-use lib.ListN.{length, getD, set, length-set}
-use lib.Seq.{paste, paste-zero, paste-suc}
+use Rattle.vocabulary.specs.{_≡_, sym, ap, _∙_, ℕ, _+_, _-_, _≤_, add-one, arith, List, length, getD, set, length-set, paste, paste-zero}
+use Rattle.vocabulary.specs.{paste-suc}
 use Rattle.text.proofs.Laying.{laid-past, laid-whole, laid-cut, after-none, after-room}
 use Rattle.text.proofs.put_word.Statement.{statement}
 use Rattle.text.proofs.put_word.Tie as tie
@@ -18,21 +13,6 @@ Inv-loop buffer₀ at word size room done₀ buffer done =
 abbrev μ-loop : tie.MeasureT-loop
 μ-loop buffer₀ at word size room done₀ buffer done = length word - done
 
-add-result : tie.Need-add-result Inv-loop μ-loop
-add-result c = omega arith
-
-returns : tie.Need-returns Inv-loop μ-loop
-returns c = (sym (laid-past _ _ _ (omega arith)), sym (after-none _ _ _ (omega arith)))
-
-loop-holds : tie.Need-loop-holds Inv-loop μ-loop
-loop-holds c = let a = c .before .args in (omega arith, omega arith, omega arith, paste-zero (a .buffer .now) (a .at) (a .word .now))
-
-add-result-2 : tie.Need-add-result-2 Inv-loop μ-loop
-add-result-2 c = omega arith
-
-same-length : tie.Need-same-length Inv-loop μ-loop
-same-length c = omega arith
-
 returns-2 : tie.Need-returns-2 Inv-loop μ-loop
 returns-2 c =
     let a = c .before .before .before .before .args in
@@ -42,21 +22,6 @@ returns-2 c =
           ∙ sym (laid-cut (a .buffer .now) (a .at) (a .word .now) (omega arith) (omega arith)),
       sym (after-none _ _ _ (omega arith)),
     )
-
-shared-slice-read-buffer : tie.Need-shared-slice-read-buffer Inv-loop μ-loop
-shared-slice-read-buffer c = omega arith
-
-add-buffer : tie.Need-add-buffer Inv-loop μ-loop
-add-buffer c = omega arith
-
-slice-write-buffer : tie.Need-slice-write-buffer Inv-loop μ-loop
-slice-write-buffer c = omega arith
-
-add-done : tie.Need-add-done Inv-loop μ-loop
-add-done c = omega arith
-
-loop-less : tie.Need-loop-less Inv-loop μ-loop
-loop-less c = omega arith
 
 loop-again : tie.Need-loop-again Inv-loop μ-loop
 loop-again c =
@@ -70,12 +35,6 @@ loop-again c =
           ∙ ap (paste (a .buffer .now) (a .at) (a .word .now)) (sym (add-one (loop .done))),
     )
 
-add-result-3 : tie.Need-add-result-3 Inv-loop μ-loop
-add-result-3 c = omega arith
-
-same-length-2 : tie.Need-same-length-2 Inv-loop μ-loop
-same-length-2 c = omega arith
-
 returns-3 : tie.Need-returns-3 Inv-loop μ-loop
 returns-3 c =
     let a = c .before .before .before .args in
@@ -88,22 +47,8 @@ returns-3 c =
 
 pub put-word-spec : {M : Type 1} → statement M
 put-word-spec =
-    tie.close
-    (tie.spec
-    Inv-loop
-    μ-loop
-    add-result
-    returns
-    loop-holds
-    add-result-2
-    same-length
-    returns-2
-    shared-slice-read-buffer
-    add-buffer
-    slice-write-buffer
-    add-done
-    loop-less
-    loop-again
-    add-result-3
-    same-length-2
-    returns-3)
+    tie.close (tie.spec Inv-loop μ-loop (λ c. omega arith)
+    (λ c. (sym (laid-past _ _ _ (omega arith)), sym (after-none _ _ _ (omega arith))))
+    (λ c. let a = c .before .args in (omega arith, omega arith, omega arith, paste-zero (a .buffer .now) (a .at) (a .word .now)))
+    (λ c. omega arith) (λ c. omega arith) returns-2 (λ c. omega arith) (λ c. omega arith) (λ c. omega arith) (λ c. omega arith)
+    (λ c. omega arith) loop-again (λ c. omega arith) (λ c. omega arith) returns-3)

@@ -1,23 +1,10 @@
 -- `whole::rounded_quotient` meets its contract: its three steps are those of the definition, and the rounded magnitude never
 -- passes that of the numerator, so that it takes back the numerator's sign.
-use mathlib.Core.Path.{_∙_}
-use native.Mathlib.Omega.{arith}
-use borrow.Author.Needs.{needs}
-use mir.Facts.{toZ-ofZ}
+use Rattle.vocabulary.specs.{_∙_, arith, needs, toZ-ofZ}
 use Rattle.whole.specs.Quotient.{roundedQuotient}
 use Rattle.whole.proofs.Quotient.{nearest-within}
 use Rattle.whole.proofs.rounded_quotient.Statement.{statement}
 use Rattle.whole.proofs.rounded_quotient.Tie as tie
-
-magnitude-requires : tie.Need-magnitude-requires
-magnitude-requires c κs = search needs
-
-nearest-requires : tie.Need-nearest-requires
-nearest-requires c κs = search needs
-
-with-sign-requires : tie.Need-with-sign-requires
-with-sign-requires c κs =
-    omega (arith, nearest-within (c .before .magnitude .result) (c .before .before .args .denominator))
 
 returns : tie.Need-returns
 unfolding roundedQuotient
@@ -29,4 +16,5 @@ returns c =
 
 pub rounded-quotient-spec : {M : Type 1} → statement M
 rounded-quotient-spec =
-    tie.close (tie.spec magnitude-requires nearest-requires with-sign-requires returns)
+    tie.close (tie.spec (λ c κs. search needs) (λ c κs. search needs)
+    (λ c κs. omega (arith, nearest-within (c .before .magnitude .result) (c .before .before .args .denominator))) returns)

@@ -1,13 +1,6 @@
 -- `whole::with_sign` meets its contract: the size is no greater than the number's magnitude, so −1 − (size − 1) is in range.
-use mathlib.Core.Path.{_≡_, ap, _∙_}
-use Prim.Native.Nat.{ℕ, suc, _-_}
-use native.Mathlib.Omega.{arith}
-use borrow.Author.Needs.{needs}
-use lib.IntN.{ℤ, pos, negsuc, negℤ, natAbs, _-ℤ_}
-use lib.Signed.{mag}
-use mir.Syntax.{w64}
-use mir.Val.{SFits, toZ}
-use mir.Facts.{toZ-ofZ, toZ-pos}
+use Rattle.vocabulary.specs.{_≡_, ap, _∙_, ℕ, suc, _-_, arith, needs, ℤ, pos, negsuc, negℤ, natAbs, _-ℤ_, mag, w64, SFits, toZ, toZ-ofZ}
+use Rattle.vocabulary.specs.{toZ-pos}
 use Rattle.whole.specs.Quotient.{withSign}
 use Rattle.whole.proofs.Magnitudes.{below-zero, not-below-zero, minus-one-less}
 use Rattle.whole.proofs.with_sign.Statement.{statement}
@@ -18,9 +11,6 @@ not-negative c = not-below-zero w64 (c .before .args .number) (c .before .fits .
 
 negative : (c : tie.Then1) → c .before .args .number ≡ negsuc (mag (c .before .args .number))
 negative c = below-zero w64 (c .before .args .number) (c .before .fits .number) (c .if1 .taken)
-
-sub-result : tie.Need-sub-result
-sub-result c = search needs
 
 cast-result : tie.Need-cast-result
 cast-result c = record { sfits = omega (arith, ap natAbs (negative (c .before))) }
@@ -33,9 +23,6 @@ held c =
 in-range : (c : tie.Else2) → SFits w64 (negsuc (c .before .before .args .size - 1))
 in-range c = record { sfits = cast-result c .sfits }
 
-sub-result-2 : tie.Need-sub-result-2
-sub-result-2 c = rw (held c) (in-range c)
-
 cast-result-2 : tie.Need-cast-result-2
 cast-result-2 c = record { sfits = omega (arith, ap mag (not-negative c)) }
 
@@ -46,18 +33,12 @@ with-minus c = ap (λ (z : ℤ). withSign z (c .before .args .size)) (negative c
 with-plus : (c : tie.Else1) → withSign (c .before .args .number) (c .before .args .size) ≡ pos (c .before .args .size)
 with-plus c = ap (λ (z : ℤ). withSign z (c .before .args .size)) (not-negative c)
 
-returns : tie.Need-returns
-returns c = rw (with-minus (c .before), c .if2 .taken)
-
 returns-2 : tie.Need-returns-2
 returns-2 c =
     let one-back : suc (c .before .before .args .size - 1) ≡ c .before .before .args .size = omega arith in
     rw (held c, with-minus (c .before)) (toZ-ofZ (in-range c) ∙ ap (λ (k : ℕ). negℤ (pos k)) one-back)
 
-returns-3 : tie.Need-returns-3
-returns-3 c = rw (with-plus c) (toZ-pos w64 (cast-result-2 c .sfits))
-
 pub with-sign-spec : {M : Type 1} → statement M
 with-sign-spec =
-    tie.close
-    (tie.spec sub-result cast-result sub-result-2 cast-result-2 returns returns-2 returns-3)
+    tie.close (tie.spec (λ c. search needs) cast-result (λ c. rw (held c) (in-range c)) cast-result-2
+    (λ c. rw (with-minus (c .before), c .if2 .taken)) returns-2 (λ c. rw (with-plus c) (toZ-pos w64 (cast-result-2 c .sfits))))

@@ -1,7 +1,5 @@
 -- `wide::is_negative` meets its contract: marked so, and not 0.
-use mathlib.Core.Path.{ap, _∙_}
-use mathlib.Core.Bool.{not}
-use borrow.Author.Needs.{needs}
+use Rattle.vocabulary.specs.{ap, _∙_, not, needs}
 use Rattle.wide.specs.Wide.{sizeOf, valueOf}
 use Rattle.wide.proofs.Signs.{marked-negative, unmarked-negative}
 use Rattle.wide.proofs.is_negative.Statement.{statement}

@@ -1,8 +1,5 @@
 -- `wide::is_zero` meets its contract: the size is the magnitude.
-use mathlib.Core.Path.{sym, ap, _∙_}
-use Prim.Native.Nat.{ℕ}
-use borrow.Author.Needs.{needs}
-use lib.Dec.{eqb}
+use Rattle.vocabulary.specs.{sym, ap, _∙_, ℕ, needs, eqb}
 use Rattle.wide.specs.Wide.{sizeOf, valueOf}
 use Rattle.wide.proofs.Signs.{signed-size}
 use Rattle.wide.proofs.is_zero.Statement.{statement}

@@ -1,9 +1,6 @@
 -- `wide::less` meets its contract: by sizes where the signs are the same, the larger size the lesser below zero; else by the sign, unless
 -- both are 0.
-use mathlib.Core.Path.{sym, ap, _∙_}
-use mathlib.Core.Bool.{not}
-use borrow.Author.Needs.{needs}
-use borrow.Author.Tests.{eqb-true, eqb-false}
+use Rattle.vocabulary.specs.{sym, ap, _∙_, not, needs, eqb-true, eqb-false}
 use Rattle.wide.specs.Wide.{sizeOf, valueOf}
 use Rattle.wide.proofs.Signs.{less-plain, less-turned, less-none, less-across, less-never}
 use Rattle.wide.proofs.less.Statement.{statement}
@@ -46,5 +43,5 @@ returns-5 c =
 
 pub less-spec : {M : Type 1} → statement M
 less-spec =
-    tie.close
-    (tie.spec (λ c κs. search needs) (λ c κs. search needs) (λ c κs. search needs) (λ c κs. search needs) returns returns-2 returns-3 returns-4 returns-5)
+    tie.close (tie.spec (λ c κs. search needs) (λ c κs. search needs) (λ c κs. search needs) (λ c κs. search needs) returns returns-2
+    returns-3 returns-4 returns-5)

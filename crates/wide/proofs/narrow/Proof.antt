@@ -1,11 +1,7 @@
 -- `wide::narrow` meets its contract: a size with a high word passes one word, and any other is its low word.
-use mathlib.Core.Path.{sym, ap, _∙_}
-use borrow.Author.Needs.{needs}
-use mir.Facts.{toZ-ofZ}
+use Rattle.vocabulary.specs.{sym, ap, _∙_, needs, toZ-ofZ}
 use Rattle.wide.specs.Wide.{sizeOf, signed, valueOf, narrowed}
-use Rattle.wide.proofs.Narrowing.{narrowed-high}
-use Rattle.wide.proofs.Signs.{signed-size, signed-below, signed-above}
-use Rattle.wide.proofs.Sizes.{low-word}
+use Rattle.wide.proofs.{Narrowing.narrowed-high, Signs.signed-size, Signs.signed-below, Signs.signed-above, Sizes.low-word}
 use Rattle.wide.proofs.narrow.Statement.{statement}
 use Rattle.wide.proofs.narrow.Tie as tie
 

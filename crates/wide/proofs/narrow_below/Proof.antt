@@ -1,12 +1,5 @@
 -- `wide::narrow_below` meets its contract: one less than the size is in range, and −1 − that is the number.
-use mathlib.Core.Path.{_≡_, sym, ap, _∙_}
-use Prim.Native.Nat.{ℕ, _-_}
-use borrow.Author.Needs.{needs}
-use lib.Dec.{lit<}
-use lib.IntN.{ℤ, pos, negsuc, negℤ, _-ℤ_}
-use mir.Syntax.{w64}
-use mir.Val.{SFits, toZ}
-use mir.Facts.{toZ-ofZ, toZ-pos}
+use Rattle.vocabulary.specs.{_≡_, sym, ap, _∙_, ℕ, _-_, needs, lit<, ℤ, pos, negsuc, negℤ, _-ℤ_, w64, SFits, toZ, toZ-ofZ, toZ-pos}
 use Rattle.whole.proofs.Magnitudes.{minus-one-less}
 use Rattle.wide.specs.Wide.{narrowed}
 use Rattle.wide.proofs.Narrowing.{above-within, below-within, below-none}
@@ -19,18 +12,9 @@ turned c = ap (λ (z : ℤ). negsuc 0 -ℤ z) (toZ-pos w64 (c .if2 .taken)) ∙ 
 in-range : (c : tie.Then2) → SFits w64 (negsuc (c .before .before .args .size - 1))
 in-range c = record { sfits = c .if2 .taken }
 
-returns : tie.Need-returns
-returns c = sym (ap (λ (n : ℕ). narrowed (negℤ (pos n))) (c .if1 .taken) ∙ above-within 0 (lit< tt))
-
-sub-result : tie.Need-sub-result
-sub-result c = rw (turned c) (in-range c)
-
-returns-2 : tie.Need-returns-2
-returns-2 c = rw (turned c) (toZ-ofZ (in-range c) ∙ sym (below-within (c .before .before .args .size) (c .before .if1 .left) (c .if2 .taken)))
-
-returns-3 : tie.Need-returns-3
-returns-3 c = sym (below-none (c .before .before .args .size) (c .if2 .left))
-
 pub narrow-below-spec : {M : Type 1} → statement M
 narrow-below-spec =
-    tie.close (tie.spec returns (λ c. search needs) (λ c. search needs) sub-result returns-2 returns-3)
+    tie.close (tie.spec (λ c. sym (ap (λ (n : ℕ). narrowed (negℤ (pos n))) (c .if1 .taken) ∙ above-within 0 (lit< tt))) (λ c. search needs)
+    (λ c. search needs) (λ c. rw (turned c) (in-range c))
+    (λ c. rw (turned c) (toZ-ofZ (in-range c) ∙ sym (below-within (c .before .before .args .size) (c .before .if1 .left) (c .if2 .taken))))
+    (λ c. sym (below-none (c .before .before .args .size) (c .if2 .left))))

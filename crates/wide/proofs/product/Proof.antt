@@ -1,9 +1,5 @@
 -- `wide::product` meets its contract: the product of the magnitudes, below zero where one factor is.
-use mathlib.Core.Path.{ap₂, _∙_}
-use borrow.Author.Needs.{needs}
-use lib.IntN.{pos, natAbs, _*ℤ_}
-use lib.Signed.{ltZ}
-use mir.Facts.{toZ-ofZ}
+use Rattle.vocabulary.specs.{ap₂, _∙_, needs, pos, natAbs, _*ℤ_, ltZ, toZ-ofZ}
 use Rattle.wide.specs.Wide.{valueOf}
 use Rattle.wide.proofs.Signs.{signed-own, signed-product}
 use Rattle.wide.proofs.product.Statement.{statement}

@@ -1,6 +1,5 @@
 -- `wide::rounded_quotient` meets its contract: the size is rounded, and the sign stays.
-use mathlib.Core.Path.{ap, _∙_}
-use borrow.Author.Needs.{needs}
+use Rattle.vocabulary.specs.{ap, _∙_, needs}
 use Rattle.wide.specs.Wide.{sizeOf, signed, valueOf}
 use Rattle.wide.proofs.Signs.{signed-rounded}
 use Rattle.wide.proofs.rounded_quotient.Statement.{statement}

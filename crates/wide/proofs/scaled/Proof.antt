@@ -1,10 +1,5 @@
 -- `wide::scaled` meets its contract: the size times the factor's magnitude, below zero where one of the two is.
-use mathlib.Core.Path.{sym, ap, _∙_}
-use borrow.Author.Needs.{needs}
-use lib.IntN.{ℤ, pos, natAbs, _*ℤ_}
-use lib.Signed.{ltZ}
-use mir.Facts.{toZ-ofZ}
-use Prim.Native.Nat.{_*_}
+use Rattle.vocabulary.specs.{sym, ap, _∙_, needs, ℤ, pos, natAbs, _*ℤ_, ltZ, toZ-ofZ, _*_}
 use Rattle.wide.specs.Wide.{sizeOf, signed, valueOf, held}
 use Rattle.wide.proofs.Signs.{signed-own, signed-product, held-signed}
 use Rattle.wide.proofs.scaled.Statement.{statement}

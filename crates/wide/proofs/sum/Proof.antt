@@ -1,15 +1,8 @@
 -- `wide::sum` meets its contract: with one sign the sizes add up, and with two the larger size keeps its own and loses the other, which
 -- two words hold.
-use mathlib.Core.Path.{sym, ap, _∙_}
-use Prim.Native.Nat.{_≤_, _<_}
-use native.Mathlib.Nat.{le-of-lt}
-use native.Mathlib.Omega.{arith}
-use borrow.Author.Needs.{needs}
-use borrow.Author.Tests.{ltb-true, ltb-false}
-use lib.IntN.{+ℤ-comm}
+use Rattle.vocabulary.specs.{sym, ap, _∙_, _≤_, _<_, le-of-lt, arith, needs, ltb-true, ltb-false, +ℤ-comm}
 use Rattle.wide.specs.Wide.{limit, sizeOf, signed, valueOf, held}
-use Rattle.wide.proofs.Sizes.{in-words, size-within}
-use Rattle.wide.proofs.Signs.{sum-along, sum-across, turned}
+use Rattle.wide.proofs.{Sizes.in-words, Sizes.size-within, Signs.sum-along, Signs.sum-across, Signs.turned}
 use Rattle.wide.proofs.sum.Statement.{statement}
 use Rattle.wide.proofs.sum.Tie as tie
 
@@ -33,12 +26,6 @@ smaller c = le-of-lt (ltb-true _ _ (sym (c .before .sizes-less .ensures) ∙ c .
 larger : (c : tie.Else2) → sizeOf (c .before .before .before .before .before .args .b .size) ≤ sizeOf (c .before .before .before .before .before .args .a .size)
 larger c = ltb-false _ _ (sym (c .before .sizes-less .ensures) ∙ c .if2 .left)
 
-sizes-difference-requires : tie.Need-sizes-difference-requires
-sizes-difference-requires c κs = smaller c
-
-sizes-difference-requires-2 : tie.Need-sizes-difference-requires-2
-sizes-difference-requires-2 c κs = larger c
-
 returns-2 : tie.Need-returns-2
 unfolding valueOf
 returns-2 c =
@@ -61,5 +48,4 @@ returns-3 c =
 
 pub sum-spec : {M : Type 1} → statement M
 sum-spec =
-    tie.close
-    (tie.spec (λ c κs. search needs) returns (λ c κs. search needs) sizes-difference-requires sizes-difference-requires-2 returns-2 returns-3)
+    tie.close (tie.spec (λ c κs. search needs) returns (λ c κs. search needs) (λ c κs. smaller c) (λ c κs. larger c) returns-2 returns-3)

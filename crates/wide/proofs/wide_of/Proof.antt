@@ -1,9 +1,7 @@
 -- `wide::wide_of` meets its contract: the number's own sign and magnitude.
-use borrow.Author.Needs.{needs}
-use mir.Facts.{toZ-ofZ}
+use Rattle.vocabulary.specs.{needs, toZ-ofZ}
 use Rattle.wide.specs.Wide.{valueOf}
-use Rattle.wide.proofs.Sizes.{low-alone}
-use Rattle.wide.proofs.Signs.{signed-own}
+use Rattle.wide.proofs.{Sizes.low-alone, Signs.signed-own}
 use Rattle.wide.proofs.wide_of.Statement.{statement}
 use Rattle.wide.proofs.wide_of.Tie as tie
 

@@ -3,11 +3,7 @@ use Rattle.wide_text.proofs.Decades.{digit-low, digit-high}
 use Rattle.wide_text.proofs.is_digit.Statement.{statement}
 use Rattle.wide_text.proofs.is_digit.Tie as tie
 
-returns : tie.Need-returns
-returns c = digit-low (c .before .before .before .args .size) (c .before .if1 .taken)
-
-returns-2 : tie.Need-returns-2
-returns-2 c = digit-high (c .before .before .args .size) (c .if1 .left)
-
 pub is-digit-spec : {M : Type 1} → statement M
-is-digit-spec = tie.close (tie.spec returns returns-2)
+is-digit-spec =
+    tie.close (tie.spec (λ c. digit-low (c .before .before .before .args .size) (c .before .if1 .taken))
+    (λ c. digit-high (c .before .before .args .size) (c .if1 .left)))

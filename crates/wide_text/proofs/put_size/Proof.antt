@@ -1,10 +1,5 @@
 -- `wide_text::put_size` meets its contract: the part of the room from the first digit on is the number's text.
-use mathlib.Core.Path.{_≡_, ap, _∙_}
-use Prim.Native.Nat.{_-_}
-use native.Mathlib.Omega.{arith}
-use borrow.Author.Needs.{needs}
-use lib.ListN.{length, take, drop, length-drop}
-use lib.Seq.{take-all}
+use Rattle.vocabulary.specs.{_≡_, ap, _∙_, _-_, arith, needs, length, take, drop, length-drop, take-all}
 use Rattle.text.specs.Text.{natural, laid, after}
 use Rattle.wide.specs.Wide.{sizeOf}
 use Rattle.wide_text.proofs.put_size.Statement.{statement}
@@ -25,5 +20,5 @@ returns c =
 
 pub put-size-spec : {M : Type 1} → statement M
 put-size-spec =
-    tie.close
-    (tie.spec (λ c. search needs) (λ c κs. search needs) (λ c. search needs) (λ c. search needs) (λ c. search needs) (λ c κs. search needs) (λ c. search needs) returns)
+    tie.close (tie.spec (λ c. search needs) (λ c κs. search needs) (λ c. search needs) (λ c. search needs) (λ c. search needs)
+    (λ c κs. search needs) (λ c. search needs) returns)

@@ -1,7 +1,5 @@
 -- `wide_text::put_wide` meets its contract: the digits of the size, and below zero a minus sign before them.
-use mathlib.Core.Path.{sym, _∙_}
-use mathlib.Core.List.{[], _∷_}
-use borrow.Author.Needs.{needs}
+use Rattle.vocabulary.specs.{sym, _∙_, [], _∷_, needs}
 use Rattle.text.specs.Text.{minus}
 use Rattle.text.proofs.Laying.{laid-more}
 use Rattle.wide_text.proofs.Decimals.{decimal-below, decimal-other}
@@ -25,5 +23,5 @@ returns-2 c =
 
 pub put-wide-spec : {M : Type 1} → statement M
 put-wide-spec =
-    tie.close
-    (tie.spec (λ c κs. search needs) (λ c κs. search needs) (λ c κs. search needs) (λ c κs. search needs) (λ c. search needs) returns (λ c. search needs) returns-2)
+    tie.close (tie.spec (λ c κs. search needs) (λ c κs. search needs) (λ c κs. search needs) (λ c κs. search needs) (λ c. search needs)
+    returns (λ c. search needs) returns-2)

@@ -1,10 +1,5 @@
 -- `wide_text::spell` meets its contract: each turn stores the last digit that is left to spell (`spelling-more`).
-use mathlib.Core.Path.{sym, ap, _∙_}
-use Prim.Native.Nat.{_≤_, _<_, _^_}
-use native.Mathlib.Omega.{arith}
-use borrow.Author.Needs.{needs}
-use borrow.Author.Tests.{ltb-true, ltb-false, not-true, not-false}
-use lib.ListN.{length-set}
+use Rattle.vocabulary.specs.{sym, ap, _∙_, _≤_, _<_, _^_, arith, needs, ltb-true, ltb-false, not-true, not-false, length-set}
 use Rattle.text.specs.Text.{digit}
 use Rattle.wide.specs.Wide.{sizeOf}
 use Rattle.wide_text.proofs.Decades.{size-digits, digit-is-low}
@@ -18,22 +13,8 @@ Inv-loop room₀ rest₀ first₀ room rest first = Spelling (sizeOf rest₀) ro
 abbrev μ-loop : tie.MeasureT-loop
 μ-loop room₀ rest₀ first₀ room rest first = first
 
-sub-first : tie.Need-sub-first Inv-loop μ-loop
-sub-first c = omega arith
-
 whole : (c : tie.Start Inv-loop μ-loop) → sizeOf (c .args .size) < 10 ^ 39
 whole c = size-digits (c .args .size) (omega arith) (omega arith)
-
-loop-holds : tie.Need-loop-holds Inv-loop μ-loop
-loop-holds c =
-    let start = c .before in
-    spelling-starts (sizeOf (start .args .size)) (start .args .room .now) (start .pre) (whole start)
-
-is-digit-requires : tie.Need-is-digit-requires Inv-loop μ-loop
-is-digit-requires c κs = search needs
-
-tens-of-requires : tie.Need-tens-of-requires Inv-loop μ-loop
-tens-of-requires c κs = search needs
 
 -- what the loop's test says
 more : (c : tie.Then1 Inv-loop μ-loop) → 10 ≤ sizeOf (c .before .before .loop .rest)
@@ -46,29 +27,14 @@ one c =
     let test = c .before .is-digit in
     ltb-true _ 10 (sym (test .ensures) ∙ not-false (test .result) (c .if1 .left))
 
-digit-requires : tie.Need-digit-requires Inv-loop μ-loop
-digit-requires c κs = omega (arith, c .before .tens-of .ensures .1)
-
-slice-write-room : tie.Need-slice-write-room Inv-loop μ-loop
-slice-write-room c = let kept = c .before .before .before .before .before .loop .inv in omega (arith, kept .size, kept .inside)
-
 sub-first-2 : tie.Need-sub-first-2 Inv-loop μ-loop
 sub-first-2 c = place-before (c .before .before .before .before .before .loop .inv) (more (c .before .before .before))
-
-loop-less : tie.Need-loop-less Inv-loop μ-loop
-loop-less c = omega (arith, sub-first-2 c)
 
 loop-again : tie.Need-loop-again Inv-loop μ-loop
 loop-again c =
     let tens = c .before .before in
     rw (tens .tens-of .ensures .0)
     (spelling-more (tens .before .before .before .loop .inv) (c .digit .result) (c .digit .ensures ∙ ap digit (tens .tens-of .ensures .1)) (more (tens .before)))
-
-digit-requires-2 : tie.Need-digit-requires-2 Inv-loop μ-loop
-digit-requires-2 c κs = rw (← digit-is-low (c .before .before .loop .rest) (one c)) (one c)
-
-slice-write-room-2 : tie.Need-slice-write-room-2 Inv-loop μ-loop
-slice-write-room-2 c = let kept = c .before .before .before .loop .inv in omega (arith, kept .size, kept .inside)
 
 same-length : tie.Need-same-length Inv-loop μ-loop
 same-length c =
@@ -83,20 +49,9 @@ returns c =
 
 pub spell-spec : {M : Type 1} → statement M
 spell-spec =
-    tie.close
-    (tie.spec
-    Inv-loop
-    μ-loop
-    sub-first
-    loop-holds
-    is-digit-requires
-    tens-of-requires
-    digit-requires
-    slice-write-room
-    sub-first-2
-    loop-less
-    loop-again
-    digit-requires-2
-    slice-write-room-2
-    same-length
-    returns)
+    tie.close (tie.spec Inv-loop μ-loop (λ c. omega arith)
+    (λ c. let start = c .before in spelling-starts (sizeOf (start .args .size)) (start .args .room .now) (start .pre) (whole start))
+    (λ c κs. search needs) (λ c κs. search needs) (λ c κs. omega (arith, c .before .tens-of .ensures .1))
+    (λ c. let kept = c .before .before .before .before .before .loop .inv in omega (arith, kept .size, kept .inside)) sub-first-2
+    (λ c. omega (arith, sub-first-2 c)) loop-again (λ c κs. rw (← digit-is-low (c .before .before .loop .rest) (one c)) (one c))
+    (λ c. let kept = c .before .before .before .loop .inv in omega (arith, kept .size, kept .inside)) same-length returns)

@@ -1,9 +1,5 @@
 -- `wide_text::tens_of` meets its contract: the tens and units of the radix, as often as the high word leaves it, and those of the low word.
-use Prim.Native.Nat.{_%_}
-use native.Mathlib.Nat.{mod-lt}
-use native.Mathlib.Omega.{arith}
-use borrow.Author.Needs.{needs}
-use lib.Dec.{lit<}
+use Rattle.vocabulary.specs.{_%_, mod-lt, arith, needs, lit<}
 use Rattle.wide_text.proofs.Decades.{low-fits, tens-are, units-are}
 use Rattle.wide_text.proofs.tens_of.Statement.{statement}
 use Rattle.wide_text.proofs.tens_of.Tie as tie
@@ -13,9 +9,7 @@ add-t8 c =
     let size = c .before .before .before .before .args .size in
     record { fits = low-fits (size .high % 10) (size .low) (mod-lt (size .high) (lit< tt)) (omega arith) }
 
-returns : tie.Need-returns
-returns c = let size = c .before .before .before .before .args .size in (tens-are size, units-are size)
-
 pub tens-of-spec : {M : Type 1} → statement M
 tens-of-spec =
-    tie.close (tie.spec (λ c. search needs) (λ c. search needs) (λ c. search needs) add-t8 (λ c. search needs) returns)
+    tie.close (tie.spec (λ c. search needs) (λ c. search needs) (λ c. search needs) add-t8 (λ c. search needs)
+    (λ c. let size = c .before .before .before .before .args .size in (tens-are size, units-are size)))

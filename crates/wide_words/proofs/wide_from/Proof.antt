@@ -1,12 +1,5 @@
 -- `wide_words::wide_from` meets its contract: below zero the low word is taken from the high word's size, moved up by a word.
-use mathlib.Core.Path.{_≡_, sym, ap, _∙_}
-use Prim.Native.Nat.{ℕ, suc, _*_}
-use native.Mathlib.Omega.{arith}
-use borrow.Author.Needs.{needs}
-use lib.IntN.{ℤ, pos, negsuc, natAbs}
-use lib.Signed.{mag}
-use mir.Syntax.{w64}
-use mir.Facts.{toZ-ofZ}
+use Rattle.vocabulary.specs.{_≡_, sym, ap, _∙_, ℕ, suc, _*_, arith, needs, ℤ, pos, negsuc, natAbs, mag, w64, toZ-ofZ}
 use Rattle.whole.proofs.Magnitudes.{below-zero, not-below-zero}
 use Rattle.wide.specs.Wide.{radix, sizeOf, valueOf}
 use Rattle.wide.proofs.Signs.{signed-above, signed-below}
@@ -23,9 +16,6 @@ negative c = below-zero w64 (c .before .before .args .high) (c .before .before .
 
 raised : (c : tie.Then1) → c .before .magnitude .result ≡ suc (mag (c .before .before .args .high))
 raised c = magnitude (c .before) ∙ ap natAbs (negative c)
-
-raised-less-requires : tie.Need-raised-less-requires
-raised-less-requires c κs = omega (arith, raised c)
 
 returns : tie.Need-returns
 unfolding valueOf
@@ -48,4 +38,4 @@ returns-2 c =
     ∙ sym (ap (λ (z : ℤ). joined z (args .low)) plain)
 
 pub wide-from-spec : {M : Type 1} → statement M
-wide-from-spec = tie.close (tie.spec (λ c κs. search needs) raised-less-requires returns returns-2)
+wide-from-spec = tie.close (tie.spec (λ c κs. search needs) (λ c κs. omega (arith, raised c)) returns returns-2)

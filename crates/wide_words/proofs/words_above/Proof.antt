@@ -1,8 +1,5 @@
 -- `wide_words::words_above` meets its contract: the size's own words, where the high one has room for a sign.
-use native.Mathlib.Omega.{arith}
-use borrow.Author.Needs.{needs}
-use mir.Syntax.{w64}
-use mir.Facts.{toZ-pos}
+use Rattle.vocabulary.specs.{arith, needs, w64, toZ-pos}
 use Rattle.wide_words.proofs.Reaching.{words-above, words-past-above}
 use Rattle.wide_words.proofs.words_above.Statement.{statement}
 use Rattle.wide_words.proofs.words_above.Tie as tie
@@ -12,8 +9,5 @@ returns c =
     let room = c .before .if1 .taken in
     rw (toZ-pos w64 room) (words-above (c .before .before .before .args .size) (omega arith) room)
 
-returns-2 : tie.Need-returns-2
-returns-2 c = words-past-above (c .before .before .args .size) (c .if1 .left)
-
 pub words-above-spec : {M : Type 1} → statement M
-words-above-spec = tie.close (tie.spec (λ c. search needs) returns returns-2)
+words-above-spec = tie.close (tie.spec (λ c. search needs) returns (λ c. words-past-above (c .before .before .args .size) (c .if1 .left)))

@@ -1,11 +1,5 @@
 -- `wide_words::words_below` meets its contract: −1 less a word is its complement, in range where the high word has room for a sign.
-use mathlib.Core.Path.{_≡_, ap, _∙_}
-use native.Mathlib.Omega.{arith}
-use borrow.Author.Needs.{needs}
-use lib.IntN.{ℤ, negsuc, _-ℤ_}
-use mir.Syntax.{w64}
-use mir.Val.{SFits, toZ}
-use mir.Facts.{toZ-ofZ, toZ-pos}
+use Rattle.vocabulary.specs.{_≡_, ap, _∙_, arith, needs, ℤ, negsuc, _-ℤ_, w64, SFits, toZ, toZ-ofZ, toZ-pos}
 use Rattle.whole.proofs.Magnitudes.{minus-one-less}
 use Rattle.wide_words.proofs.Reaching.{words-below, words-past-below}
 use Rattle.wide_words.proofs.words_below.Statement.{statement}
@@ -20,16 +14,12 @@ module _ (c : tie.After-struct-known2) where
   in-range : SFits w64 (negsuc (c .before .before .before .args .size .high))
   in-range = record { sfits = c .before .if1 .taken }
 
-sub-t5 : tie.Need-sub-t5
-sub-t5 c = rw (turned c) (in-range c)
-
 returns : tie.Need-returns
 returns c =
     rw (turned (c .before), toZ-ofZ (in-range (c .before)))
     (words-below (c .before .before .before .before .args .size) (omega arith) (c .before .before .if1 .taken))
 
-returns-2 : tie.Need-returns-2
-returns-2 c = words-past-below (c .before .before .args .size) (c .if1 .left)
-
 pub words-below-spec : {M : Type 1} → statement M
-words-below-spec = tie.close (tie.spec (λ c. search needs) sub-t5 (λ c. search needs) returns returns-2)
+words-below-spec =
+    tie.close (tie.spec (λ c. search needs) (λ c. rw (turned c) (in-range c)) (λ c. search needs) returns
+    (λ c. words-past-below (c .before .before .args .size) (c .if1 .left)))

@@ -1,10 +1,6 @@
 -- `wide_words::words_of` meets its contract: a number below zero is −1 less one less than its size.
-use mathlib.Core.Path.{_≡_, sym, ap, _∙_}
-use Prim.Native.Nat.{ℕ}
-use borrow.Author.Needs.{needs}
-use lib.IntN.{ℤ, negsuc}
-use Rattle.wide.specs.Wide.{valueOf}
-use Rattle.wide.specs.declared.Wide.{Wide}
+use Rattle.vocabulary.specs.{_≡_, sym, ap, _∙_, ℕ, needs, ℤ, negsuc}
+use Rattle.wide.specs.{Wide.valueOf, declared.Wide.Wide}
 use Rattle.wide_words.specs.Words.{wordsFrom, reached}
 use Rattle.wide_words.proofs.Reaching.{value-some, value-below, value-above}
 use Rattle.wide_words.proofs.words_of.Statement.{statement}
@@ -17,9 +13,6 @@ module _ (c : tie.After-is-negative) where
   -- the words of the number, once its value is known
   words-at : (z : ℤ) → valueOf a ≡ z → wordsFrom (reached z) ≡ wordsFrom (reached (valueOf a))
   words-at z e = sym (ap (λ (z : ℤ). wordsFrom (reached z)) e)
-
-one-less-requires : tie.Need-one-less-requires
-one-less-requires c κs = value-some (a (c .before)) (sym (c .before .is-negative .ensures) ∙ c .if1 .taken)
 
 returns : tie.Need-returns
 returns c =
@@ -36,5 +29,5 @@ returns-2 c =
 
 pub words-of-spec : {M : Type 1} → statement M
 words-of-spec =
-    tie.close
-    (tie.spec (λ c κs. search needs) one-less-requires (λ c κs. search needs) (λ c κs. search needs) returns returns-2)
+    tie.close (tie.spec (λ c κs. search needs) (λ c κs. value-some (a (c .before)) (sym (c .before .is-negative .ensures) ∙ c .if1 .taken))
+    (λ c κs. search needs) (λ c κs. search needs) returns returns-2)

@@ -1,11 +1,6 @@
 -- `wide_words::words_of_signed` meets its contract: below zero the low word is what −1 − a lacks of 2^64 − 1.
-use mathlib.Core.Path.{_≡_, sym, ap, subst⁻¹, _∙_}
-use native.Mathlib.Omega.{arith}
-use lib.IntN.{ℤ, pos, negsuc, natAbs, _-ℤ_}
-use lib.Signed.{mag}
-use mir.Syntax.{w64}
-use mir.Val.{SFits, toZ, ofZ}
-use mir.Facts.{toZ-ofZ, fits-natAbs}
+use Rattle.vocabulary.specs.{_≡_, sym, ap, subst⁻¹, _∙_, arith, ℤ, pos, negsuc, natAbs, _-ℤ_, mag, w64, SFits, toZ, ofZ, toZ-ofZ}
+use Rattle.vocabulary.specs.{fits-natAbs}
 use Rattle.whole.proofs.Magnitudes.{below-zero, not-below-zero, minus-one-more}
 use Rattle.wide_words.specs.Words.{wordsFrom}
 use Rattle.wide_words.proofs.Reaching.{signed-above, signed-below}
@@ -25,24 +20,9 @@ in-range c = record { sfits = c .before .fits .a .sfits }
 read : (c : tie.Then1) → toZ w64 (ofZ w64 (negsuc 0 -ℤ toZ w64 (ofZ w64 (c .before .args .a)))) ≡ pos (mag (c .before .args .a))
 read c = ap (λ (x : ℤ). toZ w64 (ofZ w64 x)) (held c) ∙ toZ-ofZ (in-range c)
 
-sub-t4 : tie.Need-sub-t4
-sub-t4 c = subst⁻¹ (SFits w64) (held c) (in-range c)
-
-cast-t5 : tie.Need-cast-t5
-cast-t5 c = rw (read c) (tt, omega arith)
-
-sub-t6 : tie.Need-sub-t6
-sub-t6 c = rw (read c) (omega arith)
-
 -- the number itself, where it is not below zero
 plain : (c : tie.Else1) → toZ w64 (ofZ w64 (c .before .args .a)) ≡ pos (natAbs (c .before .args .a))
 plain c = toZ-ofZ (c .before .fits .a) ∙ not-below-zero w64 (c .before .args .a) (c .before .fits .a) (c .if1 .left)
-
-cast-t7 : tie.Need-cast-t7
-cast-t7 c = rw (plain c) (tt, fits-natAbs tt (c .before .fits .a))
-
-returns : tie.Need-returns
-returns c = rw (read c) (signed-below (mag (c .before .args .a)) _ (omega arith) ∙ sym (ap wordsFrom (negative c)))
 
 returns-2 : tie.Need-returns-2
 returns-2 c =
@@ -51,4 +31,7 @@ returns-2 c =
     ∙ sym (ap wordsFrom (not-below-zero w64 (c .before .args .a) (c .before .fits .a) (c .if1 .left))))
 
 pub words-of-signed-spec : {M : Type 1} → statement M
-words-of-signed-spec = tie.close (tie.spec sub-t4 cast-t5 sub-t6 cast-t7 returns returns-2)
+words-of-signed-spec =
+    tie.close (tie.spec (λ c. subst⁻¹ (SFits w64) (held c) (in-range c)) (λ c. rw (read c) (tt, omega arith))
+    (λ c. rw (read c) (omega arith)) (λ c. rw (plain c) (tt, fits-natAbs tt (c .before .fits .a)))
+    (λ c. rw (read c) (signed-below (mag (c .before .args .a)) _ (omega arith) ∙ sym (ap wordsFrom (negative c)))) returns-2)

@@ -1,13 +1,5 @@
 -- `adjust::console::print_report` meets its contract: every text has room in 2048 bytes, and what is written out is what the report wrote.
-use mathlib.Core.Path.{_≡_, sym, _∙_}
-use mathlib.Core.List.{List}
-use Prim.Native.Nat.{ℕ, _≤_}
-use native.Mathlib.Nat.{le-of-eq}
-use native.Mathlib.Omega.{arith}
-use borrow.Author.Needs.{needs}
-use denote.Ref.{now}
-use lib.ListN.{length, replicate, length-replicate}
-use lib.Seq.{length-take-le}
+use Rattle.vocabulary.specs.{_≡_, sym, _∙_, List, ℕ, _≤_, le-of-eq, arith, needs, now, length, replicate, length-replicate, length-take-le}
 use Rattle.lines.specs.Lines.{longestText}
 use Rattle.report.specs.declared.reporting.Reported.the-variants.{Written, NoRoom}
 use Rattle.report.specs.Report.{reportText, hasRoom, reportedOf}
@@ -32,9 +24,6 @@ within c =
     let called = c .before .before .before .before in
     rw (called .report .kept .1 .0) (written-within (reportText (now (called .before .before .before .args .sheet))) (replicate longestText 0) (c .before .end .given .0 .0) (sym (called .report .ensures .answered) ∙ c .before .end .given .1))
 
-slice-aggregate-write-all : tie.Need-slice-aggregate-write-all
-slice-aggregate-write-all c = sym (length-take-le _ _ (within (c .before)))
-
 returns : tie.Need-returns
 returns c =
     let told = c .before .before .before .before in
@@ -48,15 +37,5 @@ returns-2 c =
 
 pub print-report-spec : {M : Type 1} → statement M
 print-report-spec =
-    tie.close
-    (tie.spec
-    (λ c. search needs)
-    (λ c κs. search needs)
-    (λ c. search needs)
-    within
-    slice-aggregate-write-all
-    (λ c κs. search needs)
-    (λ c κs. search needs)
-    (λ c. search needs)
-    returns
-    returns-2)
+    tie.close (tie.spec (λ c. search needs) (λ c κs. search needs) (λ c. search needs) within
+    (λ c. sym (length-take-le _ _ (within (c .before)))) (λ c κs. search needs) (λ c κs. search needs) (λ c. search needs) returns returns-2)

@@ -1,13 +1,6 @@
 -- `adjust::console::work_input` is safe and ends: every turn of its loop but the last reads at least one byte of the room that is left.
-use mathlib.Core.Path.{_≡_, sym, _∙_}
-use mathlib.Core.List.{List}
-use Prim.Native.Nat.{ℕ, _≤_, _-_, _*_, _+_}
-use native.Mathlib.Nat.{le-of-eq}
-use native.Mathlib.Omega.{arith}
-use borrow.Author.Needs.{needs}
-use borrow.Rule.Slice.PartMut.{midOf, putMid, same-len-mid}
-use lib.ListN.{length}
-use lib.Seq.{length-take-le}
+use Rattle.vocabulary.specs.{_≡_, sym, _∙_, List, ℕ, _≤_, _-_, _*_, _+_, le-of-eq, arith, needs, midOf, putMid, same-len-mid, length}
+use Rattle.vocabulary.specs.{length-take-le}
 use Rattle.adjust.proofs.console.work_input.Statement.{statement}
 use Rattle.adjust.proofs.console.work_input.Tie as tie
 
@@ -26,9 +19,6 @@ part-count-end c =
     let read = c .before .before .read in
     le-of-eq (sym (still-whole (turn .size) (turn .sheet) (read .last .1 .0) (turn .inv .1) (read .kept .1 .0)))
 
-loop-less : tie.Need-loop-less Inv-loop μ-loop
-loop-less c = omega (arith, c .count .ensures)
-
 loop-again : tie.Need-loop-again Inv-loop μ-loop
 loop-again c =
     let turn = c .before .before .before .before .before .before .before .loop in
@@ -38,31 +28,10 @@ loop-again c =
 array-share-prefix-sheet : tie.Need-array-share-prefix-sheet Inv-loop μ-loop
 array-share-prefix-sheet c = omega arith
 
-slice-aggregate-print-report : tie.Need-slice-aggregate-print-report Inv-loop μ-loop
-slice-aggregate-print-report c = sym (length-take-le _ _ (array-share-prefix-sheet (c .before)))
-
 pub work-input-spec : {M : Type 1} → statement M
 work-input-spec =
-    tie.close
-    (tie.spec
-    Inv-loop
-    μ-loop
-    (λ c. search needs)
-    (λ c. search needs)
-    (λ c. search needs)
-    (λ c. search needs)
-    (λ c κs. search needs)
-    (λ c. search needs)
-    (λ c. search needs)
-    part-count-end
-    (λ c κs. search needs)
-    (λ c. search needs)
-    loop-less
-    loop-again
-    (λ c. search needs)
-    (λ c κs. search needs)
-    (λ c. search needs)
-    array-share-prefix-sheet
-    slice-aggregate-print-report
-    (λ c κs. search needs)
+    tie.close (tie.spec Inv-loop μ-loop (λ c. search needs) (λ c. search needs) (λ c. search needs) (λ c. search needs)
+    (λ c κs. search needs) (λ c. search needs) (λ c. search needs) part-count-end (λ c κs. search needs) (λ c. search needs)
+    (λ c. omega (arith, c .count .ensures)) loop-again (λ c. search needs) (λ c κs. search needs) (λ c. search needs)
+    array-share-prefix-sheet (λ c. sym (length-take-le _ _ (array-share-prefix-sheet (c .before)))) (λ c κs. search needs)
     (λ c. search needs))

@@ -1,21 +1,10 @@
 -- `bits::signed_fields::half_range` meets its contract: 2 to one less than the width, at a width from 1 to 32, where a shift of 1 loses
 -- no bit.
-use mathlib.Core.Path.{_∙_, sym, ap}
-use Prim.Native.Nat.{_-_, _^_}
-use native.Mathlib.Nat.{one-mul}
-use native.Mathlib.Omega.{arith}
-use borrow.Author.Needs.{needs}
-use lib.Pow.{shl-exact}
+use Rattle.vocabulary.specs.{_∙_, sym, ap, _-_, _^_, one-mul, arith, needs, shl-exact}
 use Rattle.bits.specs.Complement.{halfRange}
 use Rattle.bits.proofs.Complement.{half-none, half-wide, half-is}
 use Rattle.bits.proofs.signed_fields.half_range.Statement.{statement}
 use Rattle.bits.proofs.signed_fields.half_range.Tie as tie
-
-returns : tie.Need-returns
-returns c = sym (ap halfRange (c .if1 .taken) ∙ half-none)
-
-returns-2 : tie.Need-returns-2
-returns-2 c = sym (half-wide (c .before .before .args .width) (c .if2 .taken))
 
 returns-3 : tie.Need-returns-3
 returns-3 c =
@@ -24,4 +13,5 @@ returns-3 c =
 
 pub half-range-spec : {M : Type 1} → statement M
 half-range-spec =
-    tie.close (tie.spec returns returns-2 (λ c. search needs) (λ c. search needs) returns-3)
+    tie.close (tie.spec (λ c. sym (ap halfRange (c .if1 .taken) ∙ half-none))
+    (λ c. sym (half-wide (c .before .before .args .width) (c .if2 .taken))) (λ c. search needs) (λ c. search needs) returns-3)

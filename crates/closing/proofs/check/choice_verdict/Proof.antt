@@ -1,19 +1,11 @@
 -- `closing::check::choice_verdict` meets its contract: the row asks both rules, the first before the second.
-use Prim.Native.Nat.{ℕ}
-use mathlib.Core.Bool.{true, false}
-use mathlib.Core.Path.{_≡_, sym, ap, _∙_}
-use native.Mathlib.Omega.{arith}
-use denote.Ref.{now}
+use Rattle.vocabulary.specs.{ℕ, true, false, _≡_, sym, ap, _∙_, arith, now}
 use Rattle.figures.specs.Figure.{denominator}
 use Rattle.figures.proofs.Figures.{denominator-positive}
 use Rattle.closing.specs.Steps.{someStrays}
 use Rattle.closing.proofs.Promised.{strays-refused, then-rests, offered-small}
 use Rattle.closing.proofs.check.choice_verdict.Statement.{statement}
 use Rattle.closing.proofs.check.choice_verdict.Tie as tie
-
-some-strays-requires : tie.Need-some-strays-requires
-some-strays-requires c κs =
-    (omega (arith, c .pre .0, denominator-positive (c .args .figure)), c .pre .1 .1 .1 .0 ∙ sym (c .pre .1 .1 .0))
 
 found : (k : tie.After-some-strays)
     → (let s = k .before in someStrays (denominator (s .args .figure)) (now (s .args .numerators)) (now (s .args .offered)) ≡ k .some-strays .result)
@@ -57,4 +49,6 @@ returns-3 c =
 
 pub choice-verdict-spec : {M : Type 1} → statement M
 choice-verdict-spec =
-    tie.close (tie.spec some-strays-requires returns some-open-requires returns-2 returns-3)
+    tie.close (tie.spec
+    (λ c κs. (omega (arith, c .pre .0, denominator-positive (c .args .figure)), c .pre .1 .1 .1 .0 ∙ sym (c .pre .1 .1 .0))) returns
+    some-open-requires returns-2 returns-3)

@@ -1,10 +1,6 @@
 -- `closing::check::is_open` meets its contract: where the first comparison holds both sides are true, and where it fails both are the
 -- second.
-use mathlib.Core.Bool.{Bool, _||_}
-use mathlib.Core.Path.{sym, ap, _∙_}
-use lib.IntN.{ℤ, pos}
-use lib.Signed.{ltZ}
-use mir.Facts.{toZ-ofZ}
+use Rattle.vocabulary.specs.{Bool, _||_, sym, ap, _∙_, ℤ, pos, ltZ, toZ-ofZ}
 use Rattle.closing.proofs.check.is_open.Statement.{statement}
 use Rattle.closing.proofs.check.is_open.Tie as tie
 

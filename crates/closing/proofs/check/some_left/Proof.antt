@@ -1,20 +1,9 @@
 -- `closing::check::some_left` meets its contract. The invariant: every rest passed so far is 0.
-use Prim.Native.Nat.{ℕ, suc, _-_, _≤_}
-use mathlib.Core.Bool.{Bool, false}
-use mathlib.Core.List.{List}
-use mathlib.Core.Path.{_≡_, sym, ap, ap₂, _∙_}
-use native.Mathlib.Omega.{arith}
-use denote.Ref.{now}
-use lib.IntN.{ℤ, pos, _+ℤ_}
-use lib.ListN.{length}
-use mir.Syntax.{w32}
-use mir.Val.{SFits, toZ, ofZ}
-use mir.Facts.{toZ-ofZ}
+use Rattle.vocabulary.specs.{ℕ, suc, _-_, _≤_, Bool, false, List, _≡_, sym, ap, ap₂, _∙_, arith, now, ℤ, pos, _+ℤ_, length, w32, SFits}
+use Rattle.vocabulary.specs.{toZ, ofZ, toZ-ofZ}
 use Rattle.whole.specs.Sums.{vector}
-use Rattle.whole.proofs.Lists.{length-listed}
-use Rattle.whole.proofs.Magnitudes.{natAbs-add, magnitude-fits}
-use Rattle.refusals.specs.Numbers.{numbered}
-use Rattle.refusals.specs.Questions.{asked, outsideSigned, anyPlace}
+use Rattle.whole.proofs.{Lists.length-listed, Magnitudes.natAbs-add, Magnitudes.magnitude-fits}
+use Rattle.refusals.specs.{Numbers.numbered, Questions.asked, Questions.outsideSigned, Questions.anyPlace}
 use Rattle.pass_steps.proofs.StepLaws.{listed-at}
 use Rattle.closing.specs.Steps.{eachWith}
 use Rattle.closing.proofs.Anywhere.{none-found, one-more, found, nowhere}
@@ -80,11 +69,6 @@ returns c =
     sym (sym (over-all (now (s .args .misclosures)) (now (s .args .sums)))
     ∙ found (own k) (length (now (s .args .misclosures))) (j (k .before)) (omega arith) (tested k ∙ c .if1 .taken))
 
-loop-again : tie.Need-loop-again Inv-loop μ-loop
-loop-again c =
-    let k = c .before in
-    (omega arith, one-more (own k) (j (k .before)) (at (k .before) .loop .inv .1) (tested k ∙ c .if1 .left))
-
 returns-2 : tie.Need-returns-2 Inv-loop μ-loop
 returns-2 c =
     let a = c .before in
@@ -95,19 +79,8 @@ returns-2 c =
 
 pub some-left-spec : {M : Type 1} → statement M
 some-left-spec =
-    tie.close
-    (tie.spec
-    Inv-loop
-    μ-loop
-    (λ c. (omega arith, none-found (test (now (c .args .misclosures)) (now (c .args .sums)))))
-    (λ c. omega arith)
-    (λ c. omega arith)
-    (λ c. omega arith)
-    (λ c. omega (arith, c .before .before .before .pre .0))
-    (λ c. rw (both c) (in-range c))
-    (λ c κs. tt)
-    returns
-    (λ c. omega arith)
-    (λ c. omega arith)
-    loop-again
+    tie.close (tie.spec Inv-loop μ-loop (λ c. (omega arith, none-found (test (now (c .args .misclosures)) (now (c .args .sums)))))
+    (λ c. omega arith) (λ c. omega arith) (λ c. omega arith) (λ c. omega (arith, c .before .before .before .pre .0))
+    (λ c. rw (both c) (in-range c)) (λ c κs. tt) returns (λ c. omega arith) (λ c. omega arith)
+    (λ c. let k = c .before in (omega arith, one-more (own k) (j (k .before)) (at (k .before) .loop .inv .1) (tested k ∙ c .if1 .left)))
     returns-2)

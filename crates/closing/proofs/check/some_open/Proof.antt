@@ -1,21 +1,10 @@
 -- `closing::check::some_open` meets its contract: small corrections have sums that are held, and each with its misclosure is the rest.
-use Prim.Native.Nat.{ℕ, _≤_}
-use mathlib.Core.List.{List, _++_}
-use mathlib.Core.Path.{_≡_, refl, sym, ap, _∙_}
-use native.Mathlib.Omega.{arith}
-use borrow.Author.Needs.{needs}
-use denote.Ref.{now}
-use lib.IntN.{ℤ, pos, _+ℤ_}
-use lib.ListN.{length, take, drop, replicate}
-use Rattle.whole.specs.Lists.{listed}
-use Rattle.whole.specs.Sums.{vector}
-use Rattle.figures.specs.Figure.{conditionCount}
-use Rattle.figures.specs.Numerators.{conditionSum}
+use Rattle.vocabulary.specs.{ℕ, _≤_, List, _++_, _≡_, refl, sym, ap, _∙_, arith, needs, now, ℤ, pos, _+ℤ_, length, take, drop, replicate}
+use Rattle.whole.specs.{Lists.listed, Sums.vector}
+use Rattle.figures.specs.{Figure.conditionCount, Numerators.conditionSum}
 use Rattle.figures.proofs.Figures.{condition-bound}
-use Rattle.pass_steps.proofs.Again.{Again, again}
-use Rattle.pass_steps.proofs.Held.{totals-within, sums-are}
+use Rattle.pass_steps.proofs.{Again.Again, Again.again, Held.totals-within, Held.sums-are, StepLaws.listed-after, StepLaws.length-of}
 use Rattle.whole.proofs.Lending.{lent-length}
-use Rattle.pass_steps.proofs.StepLaws.{listed-after, length-of}
 use Rattle.closing.specs.Steps.{someOpen}
 use Rattle.closing.proofs.check.some_open.Statement.{statement}
 use Rattle.closing.proofs.check.some_open.Tie as tie
@@ -69,12 +58,5 @@ returns c =
 
 pub some-open-spec : {M : Type 1} → statement M
 some-open-spec =
-    tie.close
-    (tie.spec
-    (λ c. few c)
-    (λ c. lent (c .before))
-    (λ c κs. search needs)
-    (λ c. part-again (c .before) .few)
-    (λ c. part-again (c .before .before) .size)
-    some-left-requires
-    returns)
+    tie.close (tie.spec (λ c. few c) (λ c. lent (c .before)) (λ c κs. search needs) (λ c. part-again (c .before) .few)
+    (λ c. part-again (c .before .before) .size) some-left-requires returns)

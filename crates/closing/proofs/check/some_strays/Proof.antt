@@ -1,16 +1,7 @@
 -- `closing::check::some_strays` meets its contract. The invariant: no correction passed so far strays.
-use Prim.Native.Nat.{ℕ, suc, _-_, _≤_}
-use mathlib.Core.Bool.{Bool, false}
-use mathlib.Core.List.{List}
-use mathlib.Core.Path.{_≡_, sym, ap₂, _∙_}
-use native.Mathlib.Omega.{arith}
-use denote.Ref.{now}
-use lib.IntN.{ℤ, pos}
-use lib.ListN.{length}
-use mir.Facts.{toZ-ofZ}
+use Rattle.vocabulary.specs.{ℕ, suc, _-_, _≤_, Bool, false, List, _≡_, sym, ap₂, _∙_, arith, now, ℤ, pos, length, toZ-ofZ}
 use Rattle.whole.specs.Sums.{vector}
-use Rattle.refusals.specs.Numbers.{numbered}
-use Rattle.refusals.specs.Questions.{asked, outsideSigned, anyPlace}
+use Rattle.refusals.specs.{Numbers.numbered, Questions.asked, Questions.outsideSigned, Questions.anyPlace}
 use Rattle.closing.specs.Floor.{floorQuotient, ceilingQuotient}
 use Rattle.closing.proofs.Anywhere.{none-found, one-more, found, nowhere}
 use Rattle.closing.proofs.check.some_strays.Statement.{statement}
@@ -50,11 +41,6 @@ returns c =
     let k = c .before in
     sym (found (own k) (length (now (start k .args .offered))) (at k .loop .i) (omega arith) (tested k ∙ c .if1 .taken))
 
-loop-again : tie.Need-loop-again Inv-loop μ-loop
-loop-again c =
-    let k = c .before in
-    (omega arith, one-more (own k) (at k .loop .i) (at k .loop .inv .1) (tested k ∙ c .if1 .left))
-
 returns-2 : tie.Need-returns-2 Inv-loop μ-loop
 returns-2 c =
     let a = c .before in
@@ -64,18 +50,8 @@ returns-2 c =
 
 pub some-strays-spec : {M : Type 1} → statement M
 some-strays-spec =
-    tie.close
-    (tie.spec
-    Inv-loop
-    μ-loop
-    (λ c. (omega arith, none-found (test (c .args .divisor) (now (c .args .numerators)) (now (c .args .offered)))))
-    (λ c. omega arith)
-    (λ c. omega (arith, c .before .before .pre .1))
-    (λ c. omega arith)
-    (λ c. omega arith)
-    (λ c κs. c .before .before .before .before .pre .0)
-    returns
-    (λ c. omega arith)
-    (λ c. omega arith)
-    loop-again
-    returns-2)
+    tie.close (tie.spec Inv-loop μ-loop
+    (λ c. (omega arith, none-found (test (c .args .divisor) (now (c .args .numerators)) (now (c .args .offered))))) (λ c. omega arith)
+    (λ c. omega (arith, c .before .before .pre .1)) (λ c. omega arith) (λ c. omega arith)
+    (λ c κs. c .before .before .before .before .pre .0) returns (λ c. omega arith) (λ c. omega arith)
+    (λ c. let k = c .before in (omega arith, one-more (own k) (at k .loop .i) (at k .loop .inv .1) (tested k ∙ c .if1 .left))) returns-2)

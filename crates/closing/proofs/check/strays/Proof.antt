@@ -1,14 +1,6 @@
 -- `closing::check::strays` meets its contract: where the first comparison holds both sides are true, and where it fails both are the
 -- second.
-use Prim.Native.Nat.{ℕ}
-use mathlib.Core.Bool.{Bool, _||_}
-use mathlib.Core.Path.{_≡_, sym, ap, ap₂, _∙_}
-use borrow.Author.Needs.{needs}
-use lib.IntN.{ℤ}
-use lib.Signed.{ltZ}
-use mir.Syntax.{w32, w64}
-use mir.Val.{toZ, ofZ}
-use mir.Facts.{toZ-ofZ}
+use Rattle.vocabulary.specs.{ℕ, Bool, _||_, _≡_, sym, ap, ap₂, _∙_, needs, ℤ, ltZ, w32, w64, toZ, ofZ, toZ-ofZ}
 use Rattle.whole.proofs.Magnitudes.{widened, widens}
 use Rattle.closing.specs.Floor.{floorQuotient, ceilingQuotient}
 use Rattle.closing.proofs.check.strays.Statement.{statement}
@@ -59,11 +51,5 @@ returns-2 c =
 
 pub strays-spec : {M : Type 1} → statement M
 strays-spec =
-    tie.close
-    (tie.spec
-    (λ c. widens w32 w64 (c .args .numerator) tt (c .fits .numerator))
-    (λ c κs. search needs)
-    (λ c κs. search needs)
-    (λ c. widens w32 w64 (c .before .before .args .offered) tt (c .before .before .fits .offered))
-    returns
-    returns-2)
+    tie.close (tie.spec (λ c. widens w32 w64 (c .args .numerator) tt (c .fits .numerator)) (λ c κs. search needs) (λ c κs. search needs)
+    (λ c. widens w32 w64 (c .before .before .args .offered) tt (c .before .before .fits .offered)) returns returns-2)

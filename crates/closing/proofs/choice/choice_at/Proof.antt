@@ -1,23 +1,12 @@
 -- `closing::choice::choice_at` meets its contract: where the angle ends and where it starts are small, so that each step keeps its width.
-use Prim.Native.Nat.{ℕ, _*_, _^_, _≤_, _<_}
-use mathlib.Core.Path.{_≡_, sym, ap, ap₂, _∙_}
-use native.Mathlib.Omega.{arith}
-use borrow.Author.Needs.{needs}
-use denote.Ref.{now}
-use lib.IntN.{ℤ, natAbs, _+ℤ_, _-ℤ_}
-use mir.Syntax.{w32, w64}
-use mir.Val.{SFits, toZ, ofZ}
-use mir.Facts.{toZ-ofZ}
+use Rattle.vocabulary.specs.{ℕ, _*_, _^_, _≤_, _<_, _≡_, sym, ap, ap₂, _∙_, arith, needs, now, ℤ, natAbs, _+ℤ_, _-ℤ_, w32, w64, SFits, toZ}
+use Rattle.vocabulary.specs.{ofZ, toZ-ofZ}
 use Rattle.whole.specs.Sums.{vector}
 use Rattle.whole.proofs.Magnitudes.{natAbs-add, natAbs-sub, magnitude-fits, widened, widens}
-use Rattle.figures.specs.declared.Figure.{Figure}
-use Rattle.figures.specs.Figure.{denominator}
+use Rattle.figures.specs.{declared.Figure.Figure, Figure.denominator}
 use Rattle.figures.proofs.Figures.{angle-bound, denominator-positive}
-use Rattle.closing.specs.Choice.{startOf, endOf, chosen}
-use Rattle.closing.specs.Floor.{floorQuotient}
-use Rattle.closing.specs.Premises.{mostNumerator}
-use Rattle.closing.proofs.FloorLaws.{floor-small}
-use Rattle.closing.proofs.Starts.{end-is, start-small}
+use Rattle.closing.specs.{Choice.startOf, Choice.endOf, Choice.chosen, Floor.floorQuotient, Premises.mostNumerator}
+use Rattle.closing.proofs.{FloorLaws.floor-small, Starts.end-is, Starts.start-small}
 use Rattle.closing.proofs.choice.choice_at.Statement.{statement}
 use Rattle.closing.proofs.choice.choice_at.Tie as tie
 
@@ -99,15 +88,7 @@ module _ (c : tie.After-floor-quotient2) where
 
 pub choice-at-spec : {M : Type 1} → statement M
 choice-at-spec =
-    tie.close
-    (tie.spec
-    (λ c κs. search needs)
-    (λ c. search needs)
-    (λ c. search needs)
-    (λ c. widens w32 w64 (x (own c) (i (own c))) tt (record { sfits = c .end .given }))
-    (λ c. rw (to-is c) (to-fits c))
-    (λ c κs. positive (own c))
-    (λ c κs. positive (own (c .before)))
-    (λ c. rw (apart c) (wide c))
-    (λ c. rw (apart c, toZ-ofZ (wide c)) (narrow c))
-    (λ c. rw (apart c, toZ-ofZ (wide c)) (toZ-ofZ (narrow c))))
+    tie.close (tie.spec (λ c κs. search needs) (λ c. search needs) (λ c. search needs)
+    (λ c. widens w32 w64 (x (own c) (i (own c))) tt (record { sfits = c .end .given })) (λ c. rw (to-is c) (to-fits c))
+    (λ c κs. positive (own c)) (λ c κs. positive (own (c .before))) (λ c. rw (apart c) (wide c))
+    (λ c. rw (apart c, toZ-ofZ (wide c)) (narrow c)) (λ c. rw (apart c, toZ-ofZ (wide c)) (toZ-ofZ (narrow c))))

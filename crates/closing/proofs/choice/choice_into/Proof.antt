@@ -1,8 +1,5 @@
 -- `closing::choice::choice_into` meets its contract. The invariant: the corrections passed are filled in.
-use Prim.Native.Nat.{_-_}
-use mathlib.Core.Path.{_∙_}
-use native.Mathlib.Omega.{arith}
-use mir.Facts.{toZ-ofZ}
+use Rattle.vocabulary.specs.{_-_, _∙_, arith, toZ-ofZ}
 use Rattle.whole.specs.Sums.{vector}
 use Rattle.whole.proofs.Lists.{Filled, filled-none, filled-more, filled-all}
 use Rattle.figures.specs.Figure.{angleCount}
@@ -16,35 +13,14 @@ Inv-loop figure divisor numerators corrections₀ i₀ corrections i = Filled (a
 abbrev μ-loop : tie.MeasureT-loop
 μ-loop figure divisor numerators corrections₀ i₀ corrections i = angleCount figure - i
 
-loop-holds : tie.Need-loop-holds Inv-loop μ-loop
-loop-holds c = filled-none _ _ _ (c .pre .1 .1 .0)
-
-choice-at-requires : tie.Need-choice-at-requires Inv-loop μ-loop
-choice-at-requires c κs =
-    let at = c .before in
-    let s = at .before in
-    (s .pre .0, (s .pre .1 .0, (omega (arith, at .loop .inv .size), s .pre .1 .1 .1)))
-
 loop-again : tie.Need-loop-again Inv-loop μ-loop
 loop-again c =
     let at = c .before .before in
     filled-more (at .loop .inv) (omega (arith, at .loop .inv .size)) (toZ-ofZ (record { sfits = c .choice-at .ok }) ∙ c .choice-at .ensures)
 
-returns : tie.Need-returns Inv-loop μ-loop
-returns c = filled-all (c .before .loop .inv) (omega (arith, c .before .loop .inv .size))
-
 pub choice-into-spec : {M : Type 1} → statement M
 choice-into-spec =
-    tie.close
-    (tie.spec
-    Inv-loop
-    μ-loop
-    loop-holds
-    choice-at-requires
-    (λ c. omega arith)
-    (λ c. omega arith)
-    (λ c. omega arith)
-    (λ c. omega arith)
-    loop-again
-    (λ c. omega arith)
-    returns)
+    tie.close (tie.spec Inv-loop μ-loop (λ c. filled-none _ _ _ (c .pre .1 .1 .0))
+    (λ c κs. let at = c .before in let s = at .before in (s .pre .0, (s .pre .1 .0, (omega (arith, at .loop .inv .size), s .pre .1 .1 .1))))
+    (λ c. omega arith) (λ c. omega arith) (λ c. omega arith) (λ c. omega arith) loop-again (λ c. omega arith)
+    (λ c. filled-all (c .before .loop .inv) (omega (arith, c .before .loop .inv .size))))

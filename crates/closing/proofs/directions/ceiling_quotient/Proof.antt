@@ -1,21 +1,11 @@
 -- `closing::directions::ceiling_quotient` meets its contract: the negation of a number of 32 bits is in range, and so is that of its
 -- quotient.
-use Prim.Native.Nat.{ℕ}
-use mathlib.Core.Path.{_≡_, ap, _∙_}
-use native.Mathlib.Omega.{arith}
-use borrow.Author.Needs.{needs}
-use lib.IntN.{ℤ, pos, negℤ, _-ℤ_, +ℤ-idl}
-use mir.Syntax.{w32, w64}
-use mir.Val.{SFits, toZ, ofZ}
-use mir.Facts.{toZ-ofZ}
+use Rattle.vocabulary.specs.{ℕ, _≡_, ap, _∙_, arith, needs, ℤ, pos, negℤ, _-ℤ_, +ℤ-idl, w32, w64, SFits, toZ, ofZ, toZ-ofZ}
 use Rattle.whole.proofs.Magnitudes.{natAbs-neg, fits-magnitude, magnitude-fits, widened, widens}
 use Rattle.closing.specs.Floor.{floorQuotient, ceilingQuotient}
 use Rattle.closing.proofs.FloorLaws.{ceiling-small}
 use Rattle.closing.proofs.directions.ceiling_quotient.Statement.{statement}
 use Rattle.closing.proofs.directions.ceiling_quotient.Tie as tie
-
-cast-floor-quotient : tie.Need-cast-floor-quotient
-cast-floor-quotient c = widens w32 w64 (c .args .z) tt (c .fits .z)
 
 module _ (c : tie.Start) where
   abbrev z : ℤ
@@ -26,9 +16,6 @@ module _ (c : tie.Start) where
 
   turned-range : SFits w64 (negℤ z)
   turned-range = magnitude-fits w64 (negℤ z) (omega (arith, natAbs-neg z, fits-magnitude w32 z (c .fits .z)))
-
-sub-floor-quotient : tie.Need-sub-floor-quotient
-sub-floor-quotient c = rw (turned c) (turned-range c)
 
 module _ (c : tie.After-floor-quotient) where
   abbrev d : ℕ
@@ -46,13 +33,7 @@ module _ (c : tie.After-floor-quotient) where
       magnitude-fits w64 (ceilingQuotient (z (c .before)) d)
       (omega (arith, ceiling-small d (c .before .pre) (z (c .before)), fits-magnitude w32 (z (c .before)) (c .before .fits .z)))
 
-sub-result : tie.Need-sub-result
-sub-result c = rw (above c) (above-range c)
-
-returns : tie.Need-returns
-returns c = rw (above c) (toZ-ofZ (above-range c))
-
 pub ceiling-quotient-spec : {M : Type 1} → statement M
 ceiling-quotient-spec =
-    tie.close
-    (tie.spec cast-floor-quotient sub-floor-quotient (λ c κs. search needs) sub-result returns)
+    tie.close (tie.spec (λ c. widens w32 w64 (c .args .z) tt (c .fits .z)) (λ c. rw (turned c) (turned-range c)) (λ c κs. search needs)
+    (λ c. rw (above c) (above-range c)) (λ c. rw (above c) (toZ-ofZ (above-range c))))

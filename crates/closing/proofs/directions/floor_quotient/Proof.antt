@@ -1,15 +1,7 @@
 -- `closing::directions::floor_quotient` meets its contract: below zero −1 − z is in range and not below zero, and so is −1 less its
 -- quotient.
-use Prim.Native.Nat.{ℕ, _/_, _^_, _<_}
-use mathlib.Core.Path.{_≡_, sym, ap, subst, subst⁻¹, _∙_}
-use native.Mathlib.Nat.{lt-of-le-of-lt}
-use native.Mathlib.Omega.{arith}
-use borrow.Author.Needs.{needs}
-use lib.IntN.{ℤ, pos, negsuc, natAbs, _-ℤ_}
-use lib.Signed.{mag}
-use mir.Syntax.{w64}
-use mir.Val.{SFits, toZ, ofZ}
-use mir.Facts.{toZ-ofZ, toZ-pos, fits-natAbs}
+use Rattle.vocabulary.specs.{ℕ, _/_, _^_, _<_, _≡_, sym, ap, subst, subst⁻¹, _∙_, lt-of-le-of-lt, arith, needs, ℤ, pos, negsuc, natAbs}
+use Rattle.vocabulary.specs.{_-ℤ_, mag, w64, SFits, toZ, ofZ, toZ-ofZ, toZ-pos, fits-natAbs}
 use Rattle.whole.proofs.Magnitudes.{below-zero, not-below-zero, minus-one-less, minus-one-more}
 use Rattle.closing.specs.Floor.{floorQuotient}
 use Rattle.closing.proofs.FloorLaws.{quotient-small}
@@ -54,29 +46,6 @@ module _ (c : tie.Else1) where
       lt-of-le-of-lt (quotient-small (c .before .args .d) (c .before .pre) (natAbs (c .before .args .z)))
       (subst (SFits w64) not-negative (c .before .fits .z) .sfits)
 
-sub-result : tie.Need-sub-result
-sub-result c = subst⁻¹ (SFits w64) (held c) (in-range c)
-
-cast-result : tie.Need-cast-result
-cast-result c = rw (read c) (tt, omega arith)
-
-cast-result-2 : tie.Need-cast-result-2
-cast-result-2 c = rw (read c) (record { sfits = small c })
-
-sub-result-2 : tie.Need-sub-result-2
-sub-result-2 c = rw (read c, turned c) (turned-range c)
-
-cast-result-3 : tie.Need-cast-result-3
-cast-result-3 c =
-    let start = c .before in
-    rw (toZ-ofZ (start .fits .z) ∙ not-negative c) (tt, fits-natAbs tt (start .fits .z))
-
-cast-result-4 : tie.Need-cast-result-4
-cast-result-4 c = rw (toZ-ofZ (c .before .fits .z)) (record { sfits = small-above c })
-
-returns : tie.Need-returns
-returns c = rw (read c, turned c) (toZ-ofZ (turned-range c) ∙ sym (ap (λ (x : ℤ). floorQuotient x (d c)) (negative c)))
-
 returns-2 : tie.Need-returns-2
 returns-2 c =
     rw (toZ-ofZ (c .before .fits .z))
@@ -84,15 +53,8 @@ returns-2 c =
 
 pub floor-quotient-spec : {M : Type 1} → statement M
 floor-quotient-spec =
-    tie.close
-    (tie.spec
-    sub-result
-    cast-result
-    (λ c. search needs)
-    cast-result-2
-    sub-result-2
-    cast-result-3
-    (λ c. search needs)
-    cast-result-4
-    returns
-    returns-2)
+    tie.close (tie.spec (λ c. subst⁻¹ (SFits w64) (held c) (in-range c)) (λ c. rw (read c) (tt, omega arith)) (λ c. search needs)
+    (λ c. rw (read c) (record { sfits = small c })) (λ c. rw (read c, turned c) (turned-range c))
+    (λ c. let start = c .before in rw (toZ-ofZ (start .fits .z) ∙ not-negative c) (tt, fits-natAbs tt (start .fits .z))) (λ c. search needs)
+    (λ c. rw (toZ-ofZ (c .before .fits .z)) (record { sfits = small-above c }))
+    (λ c. rw (read c, turned c) (toZ-ofZ (turned-range c) ∙ sym (ap (λ (x : ℤ). floorQuotient x (d c)) (negative c)))) returns-2)

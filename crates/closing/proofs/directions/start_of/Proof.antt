@@ -1,21 +1,12 @@
 -- `closing::directions::start_of` meets its contract. The invariant: the total and what is left of the way sum to the start.
-use Prim.Native.Nat.{ℕ, _+_, _-_, _*_, _≤_, _<_}
-use mathlib.Core.Path.{_≡_, sym, ap, ap₂, _∙_}
-use native.Mathlib.Omega.{arith}
-use denote.Ref.{now}
-use lib.IntN.{ℤ, natAbs, _+ℤ_, +ℤ-idl, +ℤ-idr}
-use lib.ListN.{length, getD}
-use mir.Syntax.{w32, w64}
-use mir.Val.{SFits, toZ, ofZ}
-use mir.Facts.{toZ-ofZ}
+use Rattle.vocabulary.specs.{ℕ, _+_, _-_, _*_, _≤_, _<_, _≡_, sym, ap, ap₂, _∙_, arith, now, ℤ, natAbs, _+ℤ_, +ℤ-idl, +ℤ-idr, length, getD}
+use Rattle.vocabulary.specs.{w32, w64, SFits, toZ, ofZ, toZ-ofZ}
 use Rattle.whole.specs.Sums.{vector}
 use Rattle.whole.proofs.Magnitudes.{natAbs-add, magnitude-fits, widened, widens}
 use Rattle.whole.proofs.Ring.{_⊕_, _≐_, ring}
-use Rattle.figures.specs.Figure.{angleCount}
-use Rattle.figures.specs.Numerators.{sumOver}
+use Rattle.figures.specs.{Figure.angleCount, Numerators.sumOver}
 use Rattle.figures.proofs.Figures.{angle-bound}
-use Rattle.closing.specs.Choice.{startsAt, chain, startOf}
-use Rattle.closing.specs.Premises.{mostNumerator}
+use Rattle.closing.specs.{Choice.startsAt, Choice.chain, Choice.startOf, Premises.mostNumerator}
 use Rattle.closing.proofs.Starts.{start-within, one-step, no-steps, no-angle}
 use Rattle.closing.proofs.directions.start_of.Statement.{statement}
 use Rattle.closing.proofs.directions.start_of.Tie as tie
@@ -28,9 +19,6 @@ Inv-loop figure x i total₀ angle₀ left₀ total angle left =
 
 abbrev μ-loop : tie.MeasureT-loop
 μ-loop figure x i total₀ angle₀ left₀ total angle left = left
-
-starts-at-requires : tie.Need-starts-at-requires Inv-loop μ-loop
-starts-at-requires c κs = c .pre .1 .0
 
 loop-holds : tie.Need-loop-holds Inv-loop μ-loop
 loop-holds c =
@@ -118,21 +106,8 @@ returns-2 c =
 
 pub start-of-spec : {M : Type 1} → statement M
 start-of-spec =
-    tie.close
-    (tie.spec
-    Inv-loop
-    μ-loop
-    starts-at-requires
-    loop-holds
-    returns
-    (λ c. omega (arith, c .if1 .left))
+    tie.close (tie.spec Inv-loop μ-loop (λ c κs. c .pre .1 .0) loop-holds returns (λ c. omega (arith, c .if1 .left))
     (λ c. omega (arith, inside c, angle-bound (c .before .before .before .before .args .figure)))
-    (λ c. omega (arith, inside c, c .before .before .before .before .pre .0))
-    (λ c. widens w32 w64 (value c) tt (fits c))
-    (λ c. rw (both c) (in-range c))
-    (λ c. omega (arith, c .before .if1 .left))
-    (λ c κs. inside (c .before))
-    (λ c. omega arith)
-    (λ c. omega arith)
-    loop-again
-    returns-2)
+    (λ c. omega (arith, inside c, c .before .before .before .before .pre .0)) (λ c. widens w32 w64 (value c) tt (fits c))
+    (λ c. rw (both c) (in-range c)) (λ c. omega (arith, c .before .if1 .left)) (λ c κs. inside (c .before)) (λ c. omega arith)
+    (λ c. omega arith) loop-again returns-2)

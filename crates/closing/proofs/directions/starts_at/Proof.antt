@@ -1,26 +1,11 @@
 -- `closing::directions::starts_at` meets its contract: the data of each family, by the index.
-use mathlib.Core.Bool.{Bool, cond}
-use mathlib.Core.Path.{_≡_, sym, ap, _∙_}
-use Prim.Native.Nat.{ℕ, _+_, _-_, _%_}
-use native.Mathlib.Omega.{arith}
-use borrow.Author.Needs.{needs}
-use borrow.Author.Tests.{eq-eqb, ne-eqb}
-use lib.Dec.{eqb}
-use lib.ListN.{getD}
+use Rattle.vocabulary.specs.{Bool, cond, _≡_, sym, ap, _∙_, ℕ, _+_, _-_, _%_, arith, needs, eq-eqb, ne-eqb, eqb, getD}
 use Rattle.figures.proofs.Figures.{angle-bound}
 use Rattle.pass_steps.proofs.Polygons.{is-point-inside, is-polygon}
 use Rattle.closing.specs.Choice.{startsAt}
 use Rattle.closing.proofs.Starts.{atCorners, roundPoint, after-another, from-corners, round-point}
 use Rattle.closing.proofs.directions.starts_at.Statement.{statement}
 use Rattle.closing.proofs.directions.starts_at.Tie as tie
-
-add-result : tie.Need-add-result
-add-result c = omega (arith, c .before .before .pre, angle-bound (c .before .before .args .figure))
-
-returns : tie.Need-returns
-returns c =
-    let s = c .before .before in
-    sym (after-another (s .args .figure) (c .enum-told .given .1) (s .args .i) (s .pre))
 
 -- of code 2
 module _ (c : tie.At-match-keys2) where
@@ -40,16 +25,6 @@ second : (c : tie.Else1) → getD (startsAt (c .before .before .args .figure)) (
 second c =
     let k = c .before in
     at-corners k ∙ ap (λ (b : Bool). cond b (i k + 3) (cond (eqb (i k % 3) 1) (i k) 0)) (ne-eqb (i k % 3) 0 (c .if1 .left))
-
-returns-3 : tie.Need-returns-3
-returns-3 c =
-    let k = c .before .before in
-    sym (second (c .before) ∙ ap (λ (b : Bool). cond b (i k) 0) (eq-eqb (i k % 3) 1 (c .if2 .taken)))
-
-returns-4 : tie.Need-returns-4
-returns-4 c =
-    let k = c .before .before in
-    sym (second (c .before) ∙ ap (λ (b : Bool). cond b (i k) 0) (ne-eqb (i k % 3) 1 (c .if2 .left)))
 
 -- of code 3
 module _ (c : tie.At-match-keys3) where
@@ -81,15 +56,9 @@ returns-7 c =
 
 pub starts-at-spec : {M : Type 1} → statement M
 starts-at-spec =
-    tie.close
-    (tie.spec
+    tie.close (tie.spec (λ c. search needs) (λ c. omega (arith, c .before .before .pre, angle-bound (c .before .before .args .figure)))
     (λ c. search needs)
-    add-result
-    (λ c. search needs)
-    returns
-    returns-2
-    returns-3
-    returns-4
-    returns-5
-    returns-6
-    returns-7)
+    (λ c. let s = c .before .before in sym (after-another (s .args .figure) (c .enum-told .given .1) (s .args .i) (s .pre))) returns-2
+    (λ c. let k = c .before .before in sym (second (c .before) ∙ ap (λ (b : Bool). cond b (i k) 0) (eq-eqb (i k % 3) 1 (c .if2 .taken))))
+    (λ c. let k = c .before .before in sym (second (c .before) ∙ ap (λ (b : Bool). cond b (i k) 0) (ne-eqb (i k % 3) 1 (c .if2 .left))))
+    returns-5 returns-6 returns-7)

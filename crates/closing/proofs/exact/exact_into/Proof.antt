@@ -1,15 +1,7 @@
 -- `closing::exact::exact_into` meets its contract: the first pass, with arrays of its own for the other results.
-use Prim.Native.Nat.{ℕ, _≤_}
-use mathlib.Core.List.{[], _∷_}
-use mathlib.Core.Path.{_≡_, sym, _∙_}
-use native.Mathlib.Omega.{arith}
-use borrow.Author.Needs.{needs}
-use denote.Ref.{now}
-use lib.IntN.{pos}
-use lib.ListN.{length, take, replicate}
+use Rattle.vocabulary.specs.{ℕ, _≤_, [], _∷_, _≡_, sym, _∙_, arith, needs, now, pos, length, take, replicate}
 use Rattle.figures.proofs.Figures.{angle-bound, condition-bound}
-use Rattle.pass_rules.specs.FirstPass.{firstResultLengths}
-use Rattle.pass_rules.specs.Promises.{FirstLent, firstLent, firstResultsLent}
+use Rattle.pass_rules.specs.{FirstPass.firstResultLengths, Promises.FirstLent, Promises.firstLent, Promises.firstResultsLent}
 use Rattle.whole.proofs.Lending.{lent-length}
 use Rattle.closing.proofs.Promised.{pass-answered, pass-leaves}
 use Rattle.closing.proofs.exact.exact_into.Statement.{statement}
@@ -66,17 +58,12 @@ returns c =
 
 pub exact-into-spec : {M : Type 1} → statement M
 exact-into-spec =
-    tie.close
-    (tie.spec
-    (λ c. few-angles (c .before .before .before .before .before))
+    tie.close (tie.spec (λ c. few-angles (c .before .before .before .before .before))
     (λ c. lent-angles (c .before .before .before .before .before .before))
     (λ c. few-angles (c .before .before .before .before .before .before))
     (λ c. lent-naturals (c .before .before .before .before .before .before .before))
     (λ c. few-angles (c .before .before .before .before .before .before .before))
     (λ c. lent-naturals (c .before .before .before .before .before .before .before .before))
     (λ c. few-conditions (c .before .before .before .before .before .before .before .before))
-    (λ c. lent-conditions (c .before .before .before .before .before .before .before .before .before))
-    (λ c κs. search needs)
-    (λ c. search needs)
-    (λ c. search needs)
-    returns)
+    (λ c. lent-conditions (c .before .before .before .before .before .before .before .before .before)) (λ c κs. search needs)
+    (λ c. search needs) (λ c. search needs) returns)

@@ -1,7 +1,5 @@
 -- `closing::operations::check_closing` meets its contract: the check of the figure that is named.
-use mathlib.Core.Path.{sym, _∙_}
-use borrow.Author.Needs.{needs}
-use denote.Ref.{now}
+use Rattle.vocabulary.specs.{sym, _∙_, needs, now}
 use Rattle.pass_rules.specs.Promises.{FirstGiven, firstGiven}
 use Rattle.closing.proofs.Promised.{check-none-named, check-of-figure}
 use Rattle.closing.proofs.operations.check_closing.Statement.{statement}
@@ -24,11 +22,4 @@ returns-2 c =
 
 pub check-closing-spec : {M : Type 1} → statement M
 check-closing-spec =
-    tie.close
-    (tie.spec
-    (λ c κs. search needs)
-    (λ c. search needs)
-    (λ c. search needs)
-    returns
-    (λ c κs. search needs)
-    returns-2)
+    tie.close (tie.spec (λ c κs. search needs) (λ c. search needs) (λ c. search needs) returns (λ c κs. search needs) returns-2)

@@ -1,19 +1,9 @@
 -- `closing::operations::check_of` meets its contract: the rows in their order, the first pass's before number 15.
-use Prim.Native.Nat.{ℕ}
-use mathlib.Core.List.{List, _++_}
-use mathlib.Core.Path.{_≡_, sym, ap, ap₂, _∙_}
-use borrow.Author.Needs.{needs}
-use denote.Ref.{now}
-use lib.IntN.{ℤ, pos}
-use lib.ListN.{length, take, drop, replicate}
-use Rattle.refusals.specs.declared.Verdict.the-variants.{Passed}
-use Rattle.refusals.specs.Order.{verdictOf, judged}
-use Rattle.refusals.specs.Table.{choiceRow}
-use Rattle.figures.specs.declared.Counts.{Counts}
-use Rattle.figures.specs.Figure.{angleCount}
+use Rattle.vocabulary.specs.{ℕ, List, _++_, _≡_, sym, ap, ap₂, _∙_, needs, now, ℤ, pos, length, take, drop, replicate}
+use Rattle.refusals.specs.{declared.Verdict.the-variants.Passed, Order.verdictOf, Order.judged, Table.choiceRow}
+use Rattle.figures.specs.{declared.Counts.Counts, Figure.angleCount}
 use Rattle.pass_rules.specs.FirstPass.{misclosuresOf, numeratorsOf}
-use Rattle.pass_steps.proofs.Again.{Again, again}
-use Rattle.pass_steps.proofs.Counted.{Counted, counted}
+use Rattle.pass_steps.proofs.{Again.Again, Again.again, Counted.Counted, Counted.counted}
 use Rattle.closing.specs.Rules.{passRows, tenthsUnder, tenthsOver, restsLeft}
 use Rattle.closing.proofs.Promised.{check-length, check-refused, check-asked, misclosures-are, misclosures-small, numerators-are, numerators-small}
 use Rattle.closing.proofs.operations.check_of.Statement.{statement}
@@ -136,22 +126,10 @@ returns-3 c =
 
 pub check-of-spec : {M : Type 1} → statement M
 check-of-spec =
-    tie.close
-    (tie.spec
-    (λ c κs. search needs)
-    returns
-    (λ c. sizes (c .before) .few-conditions)
-    (λ c. sizes (c .before .before) .lent-conditions)
-    (λ c. sizes (c .before .before) .few-angles)
-    (λ c. sizes (c .before .before .before) .lent-angles)
-    exact-into-requires
-    (λ c. search needs)
-    returns-2
-    (λ c. search needs)
-    (λ c. search needs)
-    (λ c. w-again (c .before .before .before .before .before) .few)
+    tie.close (tie.spec (λ c κs. search needs) returns (λ c. sizes (c .before) .few-conditions)
+    (λ c. sizes (c .before .before) .lent-conditions) (λ c. sizes (c .before .before) .few-angles)
+    (λ c. sizes (c .before .before .before) .lent-angles) exact-into-requires (λ c. search needs) returns-2 (λ c. search needs)
+    (λ c. search needs) (λ c. w-again (c .before .before .before .before .before) .few)
     (λ c. w-again (c .before .before .before .before .before .before) .size)
     (λ c. exact-again (c .before .before .before .before .before .before) .few)
-    (λ c. exact-again (c .before .before .before .before .before .before .before) .size)
-    choice-verdict-requires
-    returns-3)
+    (λ c. exact-again (c .before .before .before .before .before .before .before) .size) choice-verdict-requires returns-3)

@@ -1,7 +1,5 @@
 -- `closing::operations::closing_corrections` meets its contract: the choice of the figure that is named.
-use mathlib.Core.Path.{sym, _∙_}
-use borrow.Author.Needs.{needs}
-use denote.Ref.{now}
+use Rattle.vocabulary.specs.{sym, _∙_, needs, now}
 use Rattle.pass_rules.specs.Promises.{FirstGiven, firstGiven}
 use Rattle.closing.proofs.Promised.{none-named, of-figure}
 use Rattle.closing.proofs.operations.closing_corrections.Statement.{statement}
@@ -24,12 +22,5 @@ returns-2 c =
 
 pub closing-corrections-spec : {M : Type 1} → statement M
 closing-corrections-spec =
-    tie.close
-    (tie.spec
-    (λ c κs. search needs)
-    (λ c. search needs)
-    (λ c. search needs)
-    returns
-    (λ c κs. search needs)
-    (λ c. search needs)
+    tie.close (tie.spec (λ c κs. search needs) (λ c. search needs) (λ c. search needs) returns (λ c κs. search needs) (λ c. search needs)
     returns-2)

@@ -1,16 +1,8 @@
 -- `closing::operations::closing_of` meets its contract: the rows in their order, and the choice from the numerators that the first pass
 -- left.
-use Prim.Native.Nat.{ℕ}
-use mathlib.Core.List.{List, _++_}
-use mathlib.Core.Path.{_≡_, sym, ap, _∙_}
-use borrow.Author.Needs.{needs}
-use denote.Ref.{now}
-use lib.IntN.{ℤ, pos}
-use lib.ListN.{length, take, drop, replicate}
-use Rattle.figures.specs.declared.Counts.{Counts}
-use Rattle.figures.specs.Figure.{angleCount}
-use Rattle.pass_steps.proofs.Again.{Again, again}
-use Rattle.pass_steps.proofs.Counted.{Counted, counted}
+use Rattle.vocabulary.specs.{ℕ, List, _++_, _≡_, sym, ap, _∙_, needs, now, ℤ, pos, length, take, drop, replicate}
+use Rattle.figures.specs.{declared.Counts.Counts, Figure.angleCount}
+use Rattle.pass_steps.proofs.{Again.Again, Again.again, Counted.Counted, Counted.counted}
 use Rattle.closing.proofs.Promised.{refused-length, refused-by-pass, chosen-by-pass, numerators-are, numerators-small}
 use Rattle.closing.proofs.operations.closing_of.Statement.{statement}
 use Rattle.closing.proofs.operations.closing_of.Tie as tie
@@ -91,21 +83,9 @@ returns-3 c =
 
 pub closing-of-spec : {M : Type 1} → statement M
 closing-of-spec =
-    tie.close
-    (tie.spec
-    (λ c κs. search needs)
-    returns
-    (λ c. sizes (c .before) .few-conditions)
-    (λ c. sizes (c .before .before) .lent-conditions)
-    (λ c. sizes (c .before .before) .few-angles)
-    (λ c. sizes (c .before .before .before) .lent-angles)
-    exact-into-requires
-    (λ c. search needs)
-    (λ c. search needs)
+    tie.close (tie.spec (λ c κs. search needs) returns (λ c. sizes (c .before) .few-conditions)
+    (λ c. sizes (c .before .before) .lent-conditions) (λ c. sizes (c .before .before) .few-angles)
+    (λ c. sizes (c .before .before .before) .lent-angles) exact-into-requires (λ c. search needs) (λ c. search needs)
     (λ c. part-again (c .before .before .before .before .before) .few)
-    (λ c. part-again (c .before .before .before .before .before .before) .size)
-    choice-into-requires
-    (λ c. search needs)
-    (λ c. search needs)
-    returns-2
-    returns-3)
+    (λ c. part-again (c .before .before .before .before .before .before) .size) choice-into-requires (λ c. search needs) (λ c. search needs)
+    returns-2 returns-3)

@@ -1,11 +1,7 @@
 -- `controller::look::bienguloc_look` meets its contract.
-use mathlib.Core.Path.{sym, ap, _∙_}
-use borrow.Author.Needs.{needs}
-use denote.Ref.{now}
-use lib.ListN.{length}
+use Rattle.vocabulary.specs.{sym, ap, _∙_, needs, now, length}
 use Rattle.controller.specs.Promises.{lookRows}
-use Rattle.controller.proofs.Answers.{refusal-small}
-use Rattle.controller.proofs.Looked.{look-refusal, look-refused, look-wrong, look-done}
+use Rattle.controller.proofs.{Answers.refusal-small, Looked.look-refusal, Looked.look-refused, Looked.look-wrong, Looked.look-done}
 use Rattle.controller.proofs.PlaceBounds.{look-in-table, look-within}
 use Rattle.controller.proofs.look.bienguloc_look.Statement.{statement}
 use Rattle.controller.proofs.look.bienguloc_look.Tie as tie
@@ -23,9 +19,6 @@ returns c =
     let at = told .before .before .before in
     let args = at .before .before .before .args in
     look-wrong (now (args .sheet)) (now (args .head)) _ _ (sym (at .look-at .ensures) ∙ told .before .kind .given .1) (c .before .if1 .taken) (c .refused2 .ensures)
-
-store-requires : tie.Need-store-requires
-store-requires c κs = c .before .before .before .if1 .left ∙ sym (ap length (c .before .before .head-of .ensures))
 
 returns-2 : tie.Need-returns-2
 returns-2 c =
@@ -45,17 +38,7 @@ returns-3 c =
 
 pub bienguloc-look-spec : {M : Type 1} → statement M
 bienguloc-look-spec =
-    tie.close
-    (tie.spec
-    (λ c κs. search needs)
-    (λ c. search needs)
-    refused-requires
-    (λ c. search needs)
-    (λ c κs. search needs)
-    returns
-    (λ c κs. search needs)
-    (λ c. search needs)
-    store-requires
-    returns-2
-    (λ c. search needs)
+    tie.close (tie.spec (λ c κs. search needs) (λ c. search needs) refused-requires (λ c. search needs) (λ c κs. search needs) returns
+    (λ c κs. search needs) (λ c. search needs)
+    (λ c κs. c .before .before .before .if1 .left ∙ sym (ap length (c .before .before .head-of .ensures))) returns-2 (λ c. search needs)
     returns-3)

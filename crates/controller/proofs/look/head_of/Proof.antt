@@ -1,11 +1,6 @@
 -- `controller::look::head_of` meets its contract: no figure has more than 24 of anything.
-use Prim.Native.Nat.{ℕ, _≤_}
-use mathlib.Core.List.{List, [], _∷_}
-use mathlib.Core.Path.{ap, ap₂, _∙_}
-use native.Mathlib.Omega.{arith}
-use borrow.Author.Needs.{needs}
-use Rattle.figures.specs.declared.Name.{Name}
-use Rattle.figures.specs.declared.Counts.{Counts}
+use Rattle.vocabulary.specs.{ℕ, _≤_, List, [], _∷_, ap, ap₂, _∙_, arith, needs}
+use Rattle.figures.specs.{declared.Name.Name, declared.Counts.Counts}
 use Rattle.figures.proofs.Figures.{angle-bound, condition-bound}
 use Rattle.sheet_layout.specs.declared.Lengths.{Lengths}
 use Rattle.controller.proofs.PlaceBounds.{fixed-in-few, sines-in-few, sides-in-few}
@@ -33,24 +28,6 @@ module _ (at : tie.After-counts-of) where
         omega (arith, ap (λ (l : Lengths). l .rounds) own, angle-bound f),
       )
 
-cast-t7 : tie.Need-cast-t7
-cast-t7 c = record { fits = omega (arith, few (c .before)) }
-
-cast-t8 : tie.Need-cast-t8
-cast-t8 c = record { fits = omega (arith, few (c .before .before)) }
-
-cast-t9 : tie.Need-cast-t9
-cast-t9 c = record { fits = omega (arith, few (c .before .before .before)) }
-
-cast-t10 : tie.Need-cast-t10
-cast-t10 c = record { fits = omega (arith, few (c .before .before .before .before)) }
-
-cast-t11 : tie.Need-cast-t11
-cast-t11 c = record { fits = omega (arith, few (c .before .before .before .before .before)) }
-
-cast-t12 : tie.Need-cast-t12
-cast-t12 c = record { fits = omega (arith, few (c .before .before .before .before .before .before)) }
-
 abbrev shown : (number : ℕ) → Name → Lengths → Counts → List ℕ
 shown number name lengths counts =
     number ∷ name .code ∷ name .n ∷ lengths .angles ∷ lengths .fixed ∷ lengths .«log_sines» ∷ counts .conditions ∷ lengths .«log_sides»
@@ -65,16 +42,9 @@ returns c =
 
 pub head-of-spec : {M : Type 1} → statement M
 head-of-spec =
-    tie.close
-    (tie.spec
-    (λ c κs. search needs)
-    (λ c κs. search needs)
-    (λ c κs. search needs)
-    (λ c κs. search needs)
-    cast-t7
-    cast-t8
-    cast-t9
-    cast-t10
-    cast-t11
-    cast-t12
-    returns)
+    tie.close (tie.spec (λ c κs. search needs) (λ c κs. search needs) (λ c κs. search needs) (λ c κs. search needs)
+    (λ c. record { fits = omega (arith, few (c .before)) }) (λ c. record { fits = omega (arith, few (c .before .before)) })
+    (λ c. record { fits = omega (arith, few (c .before .before .before)) })
+    (λ c. record { fits = omega (arith, few (c .before .before .before .before)) })
+    (λ c. record { fits = omega (arith, few (c .before .before .before .before .before)) })
+    (λ c. record { fits = omega (arith, few (c .before .before .before .before .before .before)) }) returns)

@@ -1,8 +1,5 @@
 -- `controller::read::bienguloc_read` meets its contract.
-use mathlib.Core.Path.{sym, ap, _∙_}
-use borrow.Author.Needs.{needs}
-use denote.Ref.{now}
-use lib.ListN.{length}
+use Rattle.vocabulary.specs.{sym, ap, _∙_, needs, now, length}
 use Rattle.sheet_rules.specs.Promises.{Slices, slices}
 use Rattle.controller.specs.Promises.{ReadLent, readLent}
 use Rattle.controller.proofs.SheetsRead.{wrong-head-small, wrong-head, right-refusal-small, right-refused, right-read}
@@ -73,26 +70,14 @@ returns-3 c =
 
 pub bienguloc-read-spec : {M : Type 1} → statement M
 bienguloc-read-spec =
-    tie.close
-    (tie.spec
-    (λ c κs. search needs)
-    refused-requires
-    returns
-    (λ c κs. search needs)
-    (λ c. search needs)
-    refused-requires-2
-    (λ c. search needs)
-    (λ c κs. search needs)
-    (λ c. search needs)
-    store-requires
+    tie.close (tie.spec (λ c κs. search needs) refused-requires returns (λ c κs. search needs) (λ c. search needs) refused-requires-2
+    (λ c. search needs) (λ c κs. search needs) (λ c. search needs) store-requires
     (λ c. called (c .before .before .before .before) .read-sheet .kept .1 .0)
     (λ c. called (c .before .before .before .before) .read-sheet .kept .1 .1 .0)
     (λ c. called (c .before .before .before .before) .read-sheet .kept .1 .1 .1 .0)
     (λ c. called (c .before .before .before .before) .read-sheet .kept .1 .1 .1 .1 .0)
     (λ c. called (c .before .before .before .before) .read-sheet .kept .1 .1 .1 .1 .1 .0)
-    (λ c. called (c .before .before .before .before) .read-sheet .kept .1 .1 .1 .1 .1 .1 .0)
-    returns-2
-    (λ c. search needs)
+    (λ c. called (c .before .before .before .before) .read-sheet .kept .1 .1 .1 .1 .1 .1 .0) returns-2 (λ c. search needs)
     (λ c. called (c .before .before .before .before .before .before .before .before .before) .read-sheet .kept .1 .0)
     (λ c. called (c .before .before .before .before .before .before .before .before .before) .read-sheet .kept .1 .1 .0)
     (λ c. called (c .before .before .before .before .before .before .before .before .before) .read-sheet .kept .1 .1 .1 .0)

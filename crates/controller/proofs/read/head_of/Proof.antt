@@ -1,8 +1,5 @@
 -- `controller::read::head_of` meets its contract.
-use Prim.Native.Nat.{ℕ}
-use mathlib.Core.List.{[], _∷_}
-use mathlib.Core.Path.{ap₂}
-use borrow.Author.Needs.{needs}
+use Rattle.vocabulary.specs.{ℕ, [], _∷_, ap₂, needs}
 use Rattle.figures.specs.declared.Name.{Name}
 use Rattle.controller.proofs.read.head_of.Statement.{statement}
 use Rattle.controller.proofs.read.head_of.Tie as tie

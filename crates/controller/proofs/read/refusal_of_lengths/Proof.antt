@@ -1,8 +1,5 @@
 -- `controller::read::refusal_of_lengths` meets its contract: the rows before number 2, and number 2, which no sheet without lengths passes.
-use mathlib.Core.List.{[]}
-use mathlib.Core.Path.{sym, _∙_}
-use borrow.Author.Needs.{needs}
-use denote.Ref.{now}
+use Rattle.vocabulary.specs.{[], sym, _∙_, needs, now}
 use Rattle.sheet_rules.proofs.Accepted.{head-found, head-refused}
 use Rattle.controller.proofs.SheetsRead.{size-refused, lengths-refused}
 use Rattle.controller.proofs.read.refusal_of_lengths.Statement.{statement}
@@ -29,12 +26,4 @@ returns-3 c =
 
 pub refusal-of-lengths-spec : {M : Type 1} → statement M
 refusal-of-lengths-spec =
-    tie.close
-    (tie.spec
-    (λ c κs. search needs)
-    (λ c. search needs)
-    (λ c. search needs)
-    (λ c κs. search needs)
-    returns
-    returns-2
-    returns-3)
+    tie.close (tie.spec (λ c κs. search needs) (λ c. search needs) (λ c. search needs) (λ c κs. search needs) returns returns-2 returns-3)

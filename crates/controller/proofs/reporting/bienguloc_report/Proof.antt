@@ -1,9 +1,7 @@
 -- `controller::reporting::bienguloc_report` meets its contract.
-use borrow.Author.Needs.{needs}
-use denote.Ref.{now}
+use Rattle.vocabulary.specs.{needs, now}
 use Rattle.controller.specs.Promises.{TextLent, textLent}
-use Rattle.controller.proofs.Lists.{stored-1}
-use Rattle.controller.proofs.TextsReported.{wrong-written, no-room-left, reported}
+use Rattle.controller.proofs.{Lists.stored-1, TextsReported.wrong-written, TextsReported.no-room-left, TextsReported.reported}
 use Rattle.controller.proofs.reporting.bienguloc_report.Statement.{statement}
 use Rattle.controller.proofs.reporting.bienguloc_report.Tie as tie
 
@@ -32,17 +30,5 @@ returns-3 c =
 
 pub bienguloc-report-spec : {M : Type 1} → statement M
 bienguloc-report-spec =
-    tie.close
-    (tie.spec
-    (λ c κs. search needs)
-    returns
-    (λ c κs. search needs)
-    (λ c. search needs)
-    (λ c κs. search needs)
-    (λ c. search needs)
-    (λ c. search needs)
-    (λ c. search needs)
-    returns-2
-    (λ c. search needs)
-    (λ c. search needs)
-    returns-3)
+    tie.close (tie.spec (λ c κs. search needs) returns (λ c κs. search needs) (λ c. search needs) (λ c κs. search needs) (λ c. search needs)
+    (λ c. search needs) (λ c. search needs) returns-2 (λ c. search needs) (λ c. search needs) returns-3)

@@ -1,16 +1,11 @@
 -- `controller::rounding::bienguloc_check_closing` meets its contract.
-use mathlib.Core.Path.{sym, ap, subst, _∙_}
-use borrow.Author.Needs.{needs}
-use denote.Ref.{now}
-use Prim.Native.Nat.{_<_}
-use Rattle.refusals.specs.declared.Verdict.{Verdict}
-use Rattle.refusals.specs.Numbers.{verdictTold}
+use Rattle.vocabulary.specs.{sym, ap, subst, _∙_, needs, now, _<_}
+use Rattle.refusals.specs.{declared.Verdict.Verdict, Numbers.verdictTold}
 use Rattle.pass_rules.specs.Promises.{FirstGiven, firstGiven}
 use Rattle.closing.specs.Promises.{checkRows}
 use Rattle.closing.proofs.Refusing.{check-in-table}
 use Rattle.controller.specs.Answer.{placeStep, answerNumber}
-use Rattle.controller.proofs.Answers.{place-small}
-use Rattle.controller.proofs.PlaceBounds.{check-within}
+use Rattle.controller.proofs.{Answers.place-small, PlaceBounds.check-within}
 use Rattle.controller.proofs.rounding.bienguloc_check_closing.Statement.{statement}
 use Rattle.controller.proofs.rounding.bienguloc_check_closing.Tie as tie
 
@@ -27,8 +22,7 @@ answered-requires c κs =
     subst (λ (v : Verdict). verdictTold v .place < placeStep) (sym (c .check-closing .ensures))
     (place-small rows (check-in-table (sheet s) (now (s .args .offered))) (check-within (sheet s) (now (s .args .offered))))
 
-returns : tie.Need-returns
-returns c = c .answered .ensures ∙ ap (λ (v : Verdict). answerNumber (verdictTold v)) (c .before .check-closing .ensures)
-
 pub bienguloc-check-closing-spec : {M : Type 1} → statement M
-bienguloc-check-closing-spec = tie.close (tie.spec (λ c κs. search needs) answered-requires returns)
+bienguloc-check-closing-spec =
+    tie.close (tie.spec (λ c κs. search needs) answered-requires
+    (λ c. c .answered .ensures ∙ ap (λ (v : Verdict). answerNumber (verdictTold v)) (c .before .check-closing .ensures)))

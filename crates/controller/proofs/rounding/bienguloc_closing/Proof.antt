@@ -1,19 +1,11 @@
 -- `controller::rounding::bienguloc_closing` meets its contract.
-use Prim.Native.Nat.{ℕ, _<_}
-use mathlib.Core.List.{List}
-use mathlib.Core.Path.{_≡_, sym, ap, subst, _∙_}
-use borrow.Author.Needs.{needs}
-use denote.Ref.{now}
-use lib.IntN.{ℤ}
-use Rattle.refusals.specs.declared.Verdict.{Verdict}
-use Rattle.refusals.specs.Numbers.{verdictTold}
+use Rattle.vocabulary.specs.{ℕ, _<_, List, _≡_, sym, ap, subst, _∙_, needs, now, ℤ}
+use Rattle.refusals.specs.{declared.Verdict.Verdict, Numbers.verdictTold}
 use Rattle.pass_rules.specs.Promises.{FirstGiven, firstGiven}
 use Rattle.closing.specs.Promises.{closingRows, ClosingPromise}
 use Rattle.closing.proofs.Refusing.{closing-in-table}
-use Rattle.controller.specs.Answer.{placeStep, answerNumber}
-use Rattle.controller.specs.Promises.{ClosingPassPromise}
-use Rattle.controller.proofs.Answers.{place-small}
-use Rattle.controller.proofs.PlaceBounds.{closing-within}
+use Rattle.controller.specs.{Answer.placeStep, Answer.answerNumber, Promises.ClosingPassPromise}
+use Rattle.controller.proofs.{Answers.place-small, PlaceBounds.closing-within}
 use Rattle.controller.proofs.rounding.bienguloc_closing.Statement.{statement}
 use Rattle.controller.proofs.rounding.bienguloc_closing.Tie as tie
 
@@ -47,9 +39,5 @@ returns c =
 
 pub bienguloc-closing-spec : {M : Type 1} → statement M
 bienguloc-closing-spec =
-    tie.close
-    (tie.spec
-    (λ c κs. search needs)
-    answered-requires
-    (λ c. c .before .before .closing-corrections .kept .1 .1 .1 .1 .1 .1 .0)
+    tie.close (tie.spec (λ c κs. search needs) answered-requires (λ c. c .before .before .closing-corrections .kept .1 .1 .1 .1 .1 .1 .0)
     returns)

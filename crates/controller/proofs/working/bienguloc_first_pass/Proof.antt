@@ -1,17 +1,11 @@
 -- `controller::working::bienguloc_first_pass` meets its contract.
-use Prim.Native.Nat.{ℕ, _<_}
-use mathlib.Core.Path.{_≡_, sym, ap, subst, _∙_}
-use borrow.Author.Needs.{needs}
-use denote.Ref.{now}
-use Rattle.refusals.specs.declared.Verdict.{Verdict}
-use Rattle.refusals.specs.Numbers.{verdictTold}
+use Rattle.vocabulary.specs.{ℕ, _<_, _≡_, sym, ap, subst, _∙_, needs, now}
+use Rattle.refusals.specs.{declared.Verdict.Verdict, Numbers.verdictTold}
 use Rattle.pass_rules.specs.FirstPass.{firstPassVerdict}
-use Rattle.pass_rules.proofs.Refusals.{first-in-table}
 use Rattle.pass_rules.specs.Promises.{FirstGiven, firstGiven, FirstLent, firstLent, firstLengthsLent, firstRowsOf, FirstPromise}
-use Rattle.controller.specs.Answer.{placeStep, answerNumber}
-use Rattle.controller.specs.Promises.{FirstPassPromise}
-use Rattle.controller.proofs.Answers.{place-small}
-use Rattle.controller.proofs.PlaceBounds.{first-within}
+use Rattle.pass_rules.proofs.Refusals.{first-in-table}
+use Rattle.controller.specs.{Answer.placeStep, Answer.answerNumber, Promises.FirstPassPromise}
+use Rattle.controller.proofs.{Answers.place-small, PlaceBounds.first-within}
 use Rattle.controller.proofs.working.bienguloc_first_pass.Statement.{statement}
 use Rattle.controller.proofs.working.bienguloc_first_pass.Tie as tie
 
@@ -53,10 +47,7 @@ returns c =
 
 pub bienguloc-first-pass-spec : {M : Type 1} → statement M
 bienguloc-first-pass-spec =
-    tie.close
-    (tie.spec
-    (λ c κs. search needs)
-    answered-requires
+    tie.close (tie.spec (λ c κs. search needs) answered-requires
     (λ c. c .before .before .before .before .before .before .before .before .before .first-pass .kept .1 .1 .1 .1 .1 .1 .0)
     (λ c. c .before .before .before .before .before .before .before .before .before .first-pass .kept .1 .1 .1 .1 .1 .1 .1 .0)
     (λ c. c .before .before .before .before .before .before .before .before .before .first-pass .kept .1 .1 .1 .1 .1 .1 .1 .1 .0)

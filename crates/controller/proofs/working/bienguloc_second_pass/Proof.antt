@@ -1,21 +1,9 @@
 -- `controller::working::bienguloc_second_pass` meets its contract.
-use Prim.Native.Nat.{_<_}
-use mathlib.Core.Bool.{true, false}
-use mathlib.Core.List.{[], _∷_}
-use mathlib.Core.Path.{_≡_, sym, ap, ap₂, subst, _∙_}
-use native.Mathlib.Omega.{arith}
-use borrow.Author.Needs.{needs}
-use borrow.Author.Tests.{not-true, not-false}
-use denote.Ref.{now}
-use lib.IntN.{ℤ}
-use lib.ListN.{length, length-set, take}
-use mir.Facts.{toZ-ofZ}
-use Rattle.refusals.specs.declared.Refusal.{Refusal}
-use Rattle.refusals.specs.Numbers.{placeOf, refusalTold}
-use Rattle.pass_rules.specs.SecondPass.{sineEntries}
-use Rattle.pass_rules.specs.Promises.{SecondGiven, secondGiven, SecondLent, secondLent}
-use Rattle.controller.specs.Answer.{placeStep, answerNumber}
-use Rattle.controller.specs.Promises.{SumsLent, sumsLent}
+use Rattle.vocabulary.specs.{_<_, true, false, [], _∷_, _≡_, sym, ap, ap₂, subst, _∙_, arith, needs, not-true, not-false, now, ℤ, length}
+use Rattle.vocabulary.specs.{length-set, take, toZ-ofZ}
+use Rattle.refusals.specs.{declared.Refusal.Refusal, Numbers.placeOf, Numbers.refusalTold}
+use Rattle.pass_rules.specs.{SecondPass.sineEntries, Promises.SecondGiven, Promises.secondGiven, Promises.SecondLent, Promises.secondLent}
+use Rattle.controller.specs.{Answer.placeStep, Answer.answerNumber, Promises.SumsLent, Promises.sumsLent}
 use Rattle.controller.proofs.Lists.{stored-2}
 use Rattle.controller.proofs.SecondSums.{ownLengths, wrong-sums-small, wrong-sums, right-refusal-small, right-refused, divisor-length, room-for-misclosures, right-done}
 use Rattle.controller.proofs.working.bienguloc_second_pass.Statement.{statement}
@@ -104,14 +92,6 @@ two-words c =
     divisor-length (sheet s) (lent s) (right test) {left = left worked}
     (worked .second-pass .ensures)
 
-slice-write-divisor : tie.Need-slice-write-divisor
-slice-write-divisor c = omega (arith, two-words (c .before .before .before .before .before .before))
-
-slice-write-divisor-2 : tie.Need-slice-write-divisor-2
-slice-write-divisor-2 c =
-    let right = two-words (c .before .before .before .before .before .before) in
-    simp length-set (omega (arith, right))
-
 returns-3 : tie.Need-returns-3
 returns-3 c =
     let found = c .before .before .before .before in
@@ -128,19 +108,10 @@ returns-3 c =
 
 pub bienguloc-second-pass-spec : {M : Type 1} → statement M
 bienguloc-second-pass-spec =
-    tie.close
-    (tie.spec
-    (λ c κs. search needs)
-    (λ c κs. search needs)
-    refused-requires
-    returns
-    (λ c κs. search needs)
-    (λ c. search needs)
-    refused-requires-2
-    (λ c. search needs)
-    store-misclosures-requires
-    slice-write-divisor
-    slice-write-divisor-2
+    tie.close (tie.spec (λ c κs. search needs) (λ c κs. search needs) refused-requires returns (λ c κs. search needs) (λ c. search needs)
+    refused-requires-2 (λ c. search needs) store-misclosures-requires
+    (λ c. omega (arith, two-words (c .before .before .before .before .before .before)))
+    (λ c. let right = two-words (c .before .before .before .before .before .before) in simp length-set (omega (arith, right)))
     (λ c. called (c .before .before .before .before) .second-pass .kept .1 .1 .1 .1 .1 .1 .1 .1 .0)
     (λ c. called (c .before .before .before .before) .second-pass .kept .1 .1 .1 .1 .1 .1 .1 .1 .1 .0)
     (λ c. called (c .before .before .before .before) .second-pass .kept .1 .1 .1 .1 .1 .1 .1 .1 .1 .1 .0)
@@ -148,10 +119,8 @@ bienguloc-second-pass-spec =
     (λ c. called (c .before .before .before .before) .second-pass .kept .1 .1 .1 .1 .1 .1 .1 .1 .1 .1 .1 .1 .0)
     (λ c. called (c .before .before .before .before) .second-pass .kept .1 .1 .1 .1 .1 .1 .1 .1 .1 .1 .1 .1 .1 .0)
     (λ c. called (c .before .before .before .before) .second-pass .kept .1 .1 .1 .1 .1 .1 .1 .1 .1 .1 .1 .1 .1 .1 .0)
-    (λ c. called (c .before .before .before .before) .second-pass .kept .1 .1 .1 .1 .1 .1 .1 .1 .1 .1 .1 .1 .1 .1 .1 .0)
-    returns-2
-    (λ c. search needs)
-    (λ c. search needs)
+    (λ c. called (c .before .before .before .before) .second-pass .kept .1 .1 .1 .1 .1 .1 .1 .1 .1 .1 .1 .1 .1 .1 .1 .0) returns-2
+    (λ c. search needs) (λ c. search needs)
     (λ c. called (c .before .before .before .before .before .before) .second-pass .kept .1 .1 .1 .1 .1 .1 .1 .1 .0)
     (λ c. called (c .before .before .before .before .before .before) .second-pass .kept .1 .1 .1 .1 .1 .1 .1 .1 .1 .0)
     (λ c. called (c .before .before .before .before .before .before) .second-pass .kept .1 .1 .1 .1 .1 .1 .1 .1 .1 .1 .0)

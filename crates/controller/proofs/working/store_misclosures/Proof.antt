@@ -1,11 +1,5 @@
 -- `controller::working::store_misclosures` meets its contract.
-use Prim.Native.Nat.{ℕ, _<_, _≤_}
-use mathlib.Core.Path.{ap, ap₂, subst, _∙_}
-use borrow.Author.Needs.{needs}
-use denote.Ref.{now}
-use lib.IntN.{ℤ}
-use lib.ListN.{length, set, length-set}
-use mir.Facts.{toZ-ofZ}
+use Rattle.vocabulary.specs.{ℕ, _<_, _≤_, ap, ap₂, subst, _∙_, needs, now, ℤ, length, set, length-set, toZ-ofZ}
 use Rattle.controller.proofs.Lists.{first-of-two, both-of-two}
 use Rattle.controller.proofs.working.store_misclosures.Statement.{statement}
 use Rattle.controller.proofs.working.store_misclosures.Tie as tie

@@ -1,20 +1,10 @@
 -- `controller::write::bienguloc_write` meets its contract.
-use Prim.Native.Nat.{ℕ, _<_}
-use mathlib.Core.List.{List}
-use mathlib.Core.Path.{_≡_, sym, ap, subst, _∙_}
-use borrow.Author.Needs.{needs}
-use denote.Ref.{now}
-use lib.ListN.{length}
-use Rattle.refusals.specs.declared.Verdict.{Verdict}
-use Rattle.refusals.specs.Numbers.{verdictTold}
-use Rattle.sheet_rules.specs.Judging.{writerRows, writingOf}
-use Rattle.sheet_rules.specs.Promises.{WriterPromise}
-use Rattle.sheet_rules.specs.Sheet.{Values, valuesFrom}
+use Rattle.vocabulary.specs.{ℕ, _<_, List, _≡_, sym, ap, subst, _∙_, needs, now, length}
+use Rattle.refusals.specs.{declared.Verdict.Verdict, Numbers.verdictTold}
+use Rattle.sheet_rules.specs.{Judging.writerRows, Judging.writingOf, Promises.WriterPromise, Sheet.Values, Sheet.valuesFrom}
 use Rattle.sheet_rules.proofs.Refusals.{writer-in-table}
-use Rattle.controller.specs.Answer.{placeStep, answerNumber}
-use Rattle.controller.specs.Promises.{WritePromise}
-use Rattle.controller.proofs.Answers.{place-small}
-use Rattle.controller.proofs.PlaceBounds.{write-within}
+use Rattle.controller.specs.{Answer.placeStep, Answer.answerNumber, Promises.WritePromise}
+use Rattle.controller.proofs.{Answers.place-small, PlaceBounds.write-within}
 use Rattle.controller.proofs.write.bienguloc_write.Statement.{statement}
 use Rattle.controller.proofs.write.bienguloc_write.Tie as tie
 

@@ -1,17 +1,6 @@
 -- `judging::search::lowest_entry_outside` meets its contract as `lowest_outside` does; a difference is read back from its bits.
-use Prim.Native.Nat.{ℕ, suc, _≤_, _-_}
-use mathlib.Core.Bool.{Bool}
-use mathlib.Core.List.{List, _++_}
-use mathlib.Core.Path.{_≡_, sym, ap₂, _∙_}
-use native.Mathlib.Omega.{arith}
-use lib.IntN.{ℤ, pos}
-use lib.ListN.{length-append}
-use mir.Syntax.{w32}
-use mir.ValLaws.{toZ-ofZ}
-use Rattle.refusals.specs.declared.Lowest.the-variants.{Nowhere}
-use Rattle.refusals.specs.Numbers.{numbered}
-use Rattle.refusals.specs.Order.{lowestPlace}
-use Rattle.refusals.specs.Questions.{asked}
+use Rattle.vocabulary.specs.{ℕ, suc, _≤_, _-_, Bool, List, _++_, _≡_, sym, ap₂, _∙_, arith, ℤ, pos, length-append, w32, toZ-ofZ-at}
+use Rattle.refusals.specs.{declared.Lowest.the-variants.Nowhere, Numbers.numbered, Order.lowestPlace, Questions.asked}
 use Rattle.refusals.specs.Table.{sineEntryOutside}
 use Rattle.judging.proofs.Asking.{none-asked, one-passes, one-fails, all-asked}
 use Rattle.judging.proofs.search.lowest_entry_outside.Statement.{statement}
@@ -34,7 +23,7 @@ tested : (c : tie.After-is-entry-outside Inv-loop μ-loop)
 tested c =
     let difference = c .before .signed-at in
     ap₂ (λ (n : ℕ) (z : ℤ). asked (sineEntryOutside n z)) (sym (c .before .before .value-at .ensures))
-    (sym (toZ-ofZ w32 (difference .result) (record { sfits = difference .ok }) ∙ difference .ensures))
+    (sym (toZ-ofZ-at w32 (difference .result) (record { sfits = difference .ok }) ∙ difference .ensures))
     ∙ sym (c .is-entry-outside .ensures)
 
 returns : tie.Need-returns Inv-loop μ-loop
@@ -56,18 +45,5 @@ returns-2 c =
 
 pub lowest-entry-outside-spec : {M : Type 1} → statement M
 lowest-entry-outside-spec =
-    tie.close
-    (tie.spec
-    Inv-loop
-    μ-loop
-    (λ c. omega arith)
-    (λ c. (omega arith, none-asked _))
-    (λ c κs. tt)
-    (λ c κs. tt)
-    (λ c κs. tt)
-    (λ c. omega arith)
-    returns
-    (λ c. omega arith)
-    (λ c. omega arith)
-    loop-again
-    returns-2)
+    tie.close (tie.spec Inv-loop μ-loop (λ c. omega arith) (λ c. (omega arith, none-asked _)) (λ c κs. tt) (λ c κs. tt) (λ c κs. tt)
+    (λ c. omega arith) returns (λ c. omega arith) (λ c. omega arith) loop-again returns-2)

@@ -1,20 +1,8 @@
 -- `judging::search::lowest_result_outside` meets its contract as `lowest_outside` does, of each angle with its correction.
-use Prim.Native.Nat.{ℕ, suc, _≤_, _-_}
-use mathlib.Core.Bool.{Bool}
-use mathlib.Core.List.{List}
-use mathlib.Core.Path.{_≡_, sym, ap, _∙_}
-use native.Mathlib.Omega.{arith}
-use borrow.Author.Needs.{needs}
-use lib.IntN.{ℤ, pos, _+ℤ_}
-use lib.ListN.{length, getD}
-use mir.Syntax.{w32}
-use mir.ValLaws.{toZ-ofZ}
+use Rattle.vocabulary.specs.{ℕ, suc, _≤_, _-_, Bool, List, _≡_, sym, ap, _∙_, arith, needs, ℤ, pos, _+ℤ_, length, getD, w32, toZ-ofZ-at}
 use Rattle.whole.proofs.Lists.{length-listed, getD-listed}
-use Rattle.refusals.specs.declared.Lowest.the-variants.{Nowhere}
-use Rattle.refusals.specs.Numbers.{numbered}
-use Rattle.refusals.specs.Order.{lowestPlace}
+use Rattle.refusals.specs.{declared.Lowest.the-variants.Nowhere, Numbers.numbered, Order.lowestPlace, Ranges.leastAngle, Ranges.mostAngle}
 use Rattle.refusals.specs.Questions.{asked, outsideSigned}
-use Rattle.refusals.specs.Ranges.{leastAngle, mostAngle}
 use Rattle.judging.specs.Searches.{resultsOf}
 use Rattle.judging.proofs.Asking.{none-asked, one-passes, one-fails, all-asked}
 use Rattle.judging.proofs.search.lowest_result_outside.Statement.{statement}
@@ -43,7 +31,7 @@ tested c =
     let correction = c .before .signed-at in
     ap isOutside (getD-listed (length angles) (λ i. pos (getD angles i 0) +ℤ getD (start .args .corrections .now) i (pos 0)) passed (pos 0) (omega arith))
     ∙ ap (λ (z : ℤ). isOutside (pos (getD angles passed 0) +ℤ z))
-    (sym (toZ-ofZ w32 (correction .result) (record { sfits = correction .ok }) ∙ correction .ensures))
+    (sym (toZ-ofZ-at w32 (correction .result) (record { sfits = correction .ok }) ∙ correction .ensures))
     ∙ sym (c .is-result-outside .ensures)
 
 -- as many results as angles
@@ -69,17 +57,5 @@ returns-2 c =
 
 pub lowest-result-outside-spec : {M : Type 1} → statement M
 lowest-result-outside-spec =
-    tie.close
-    (tie.spec
-    Inv-loop
-    μ-loop
-    (λ c. (omega arith, none-asked _))
-    (λ c. search needs)
-    (λ c. omega arith)
-    (λ c κs. tt)
-    (λ c. omega arith)
-    (λ c κs. tt)
-    returns
-    (λ c. omega arith)
-    loop-again
-    returns-2)
+    tie.close (tie.spec Inv-loop μ-loop (λ c. (omega arith, none-asked _)) (λ c. search needs) (λ c. omega arith) (λ c κs. tt)
+    (λ c. omega arith) (λ c κs. tt) returns (λ c. omega arith) loop-again returns-2)

@@ -1,19 +1,8 @@
 -- `judging::search::lowest_signed_outside` meets its contract as `lowest_outside` does; each value is read back from its bits.
-use Prim.Native.Nat.{ℕ, suc, _≤_, _-_}
-use mathlib.Core.Bool.{Bool}
-use mathlib.Core.List.{List}
-use mathlib.Core.Path.{_≡_, sym, ap, ap₂, _∙_}
-use native.Mathlib.Omega.{arith}
-use borrow.Author.Needs.{needs}
-use lib.IntN.{ℤ, pos}
-use lib.ListN.{length, getD}
-use mir.Syntax.{w32, w64}
-use mir.Val.{toZ, ofZ, SFits}
-use mir.ValLaws.{toZ-ofZ}
+use Rattle.vocabulary.specs.{ℕ, suc, _≤_, _-_, Bool, List, _≡_, sym, ap, ap₂, _∙_, arith, needs, ℤ, pos, length, getD, w32, w64, toZ, ofZ}
+use Rattle.vocabulary.specs.{SFits, toZ-ofZ-at}
 use Rattle.whole.proofs.Magnitudes.{widened, widens}
-use Rattle.refusals.specs.declared.Lowest.the-variants.{Nowhere}
-use Rattle.refusals.specs.Order.{lowestPlace}
-use Rattle.refusals.specs.Numbers.{numbered}
+use Rattle.refusals.specs.{declared.Lowest.the-variants.Nowhere, Order.lowestPlace, Numbers.numbered}
 use Rattle.refusals.specs.Questions.{asked, outsideSigned}
 use Rattle.judging.proofs.Asking.{none-asked, one-passes, one-fails, all-asked}
 use Rattle.judging.proofs.search.lowest_signed_outside.Statement.{statement}
@@ -26,7 +15,7 @@ fails values least most place = asked (outsideSigned least most (numbered values
 read-back : (values : List ℤ) (least most : ℤ) (count : ℕ) → SFits w64 least → SFits w64 most
     → lowestPlace (fails values (toZ w64 (ofZ w64 least)) (toZ w64 (ofZ w64 most))) count ≡ lowestPlace (fails values least most) count
 read-back values least most count l m =
-    ap₂ (λ (a b : ℤ). lowestPlace (fails values a b) count) (toZ-ofZ w64 least l) (toZ-ofZ w64 most m)
+    ap₂ (λ (a b : ℤ). lowestPlace (fails values a b) count) (toZ-ofZ-at w64 least l) (toZ-ofZ-at w64 most m)
 
 abbrev Inv-loop : tie.InvT-loop
 Inv-loop values least most passed₀ passed =
@@ -72,17 +61,5 @@ returns-2 c =
 
 pub lowest-signed-outside-spec : {M : Type 1} → statement M
 lowest-signed-outside-spec =
-    tie.close
-    (tie.spec
-    Inv-loop
-    μ-loop
-    (λ c. (omega arith, none-asked _))
-    (λ c. search needs)
-    (λ c. omega arith)
-    cast-value
-    (λ c. omega arith)
-    (λ c κs. tt)
-    returns
-    (λ c. omega arith)
-    loop-again
-    returns-2)
+    tie.close (tie.spec Inv-loop μ-loop (λ c. (omega arith, none-asked _)) (λ c. search needs) (λ c. omega arith) cast-value
+    (λ c. omega arith) (λ c κs. tt) returns (λ c. omega arith) loop-again returns-2)

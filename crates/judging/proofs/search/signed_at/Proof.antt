@@ -1,13 +1,9 @@
 -- `judging::search::signed_at` meets its contract: past the end the definition reads 0.
-use mathlib.Core.Path.{sym}
-use borrow.Author.Needs.{needs}
-use lib.IntN.{pos}
-use lib.ListN.{List·getD-eq-default}
+use Rattle.vocabulary.specs.{sym, needs, pos, List·getD-eq-default}
 use Rattle.judging.proofs.search.signed_at.Statement.{statement}
 use Rattle.judging.proofs.search.signed_at.Tie as tie
 
-returns-2 : tie.Need-returns-2
-returns-2 c = sym (List·getD-eq-default (c .before .args .values .now) (pos 0) (c .if1 .left))
-
 pub signed-at-spec : {M : Type 1} → statement M
-signed-at-spec = tie.close (tie.spec (λ c. search needs) (λ c. search needs) (λ c. search needs) returns-2)
+signed-at-spec =
+    tie.close (tie.spec (λ c. search needs) (λ c. search needs) (λ c. search needs)
+    (λ c. sym (List·getD-eq-default (c .before .args .values .now) (pos 0) (c .if1 .left))))

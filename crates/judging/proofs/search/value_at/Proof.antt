@@ -1,7 +1,5 @@
 -- `judging::search::value_at` meets its contract: before the end of the first list the value is the first's, from there on the second's.
-use mathlib.Core.Path.{sym, _∙_}
-use borrow.Author.Needs.{needs}
-use lib.ListN.{List·getD-append, List·getD-eq-default}
+use Rattle.vocabulary.specs.{sym, _∙_, needs, List·getD-append, List·getD-eq-default}
 use Rattle.judging.proofs.Following.{getD-later}
 use Rattle.judging.proofs.search.value_at.Statement.{statement}
 use Rattle.judging.proofs.search.value_at.Tie as tie
@@ -23,13 +21,5 @@ returns-3 c =
 
 pub value-at-spec : {M : Type 1} → statement M
 value-at-spec =
-    tie.close
-    (tie.spec
-    (λ c. search needs)
-    (λ c. search needs)
-    returns
-    (λ c. search needs)
-    (λ c. search needs)
-    (λ c. search needs)
-    returns-2
-    returns-3)
+    tie.close (tie.spec (λ c. search needs) (λ c. search needs) returns (λ c. search needs) (λ c. search needs) (λ c. search needs)
+    returns-2 returns-3)

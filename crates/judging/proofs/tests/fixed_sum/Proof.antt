@@ -1,9 +1,5 @@
 -- `judging::tests::fixed_sum` meets its contract, case by case.
-use mathlib.Core.Path.{sym, ap, _∙_}
-use mathlib.Core.Bool.{Bool, cond}
-use Prim.Native.Nat.{ℕ}
-use lib.Dec.{eqb}
-use borrow.Author.Tests.{eq-eqb, ne-eqb}
+use Rattle.vocabulary.specs.{sym, ap, _∙_, Bool, cond, ℕ, eqb, eq-eqb, ne-eqb}
 use Rattle.judging.proofs.tests.fixed_sum.Statement.{statement}
 use Rattle.judging.proofs.tests.fixed_sum.Tie as tie
 
@@ -12,9 +8,6 @@ four b = cond b 12_960_000 0
 
 abbrev three : ℕ → Bool → ℕ
 three count b = cond b 6_480_000 (four (eqb count 4))
-
-returns : tie.Need-returns
-returns c = sym (ap (three (c .before .args .count)) (eq-eqb (c .before .args .count) 3 (c .if1 .taken)))
 
 returns-2 : tie.Need-returns-2
 returns-2 c =
@@ -27,4 +20,6 @@ returns-3 c =
     sym (ap (three count) (ne-eqb count 3 (c .before .if1 .left)) ∙ ap four (ne-eqb count 4 (c .if2 .left)))
 
 pub fixed-sum-spec : {M : Type 1} → statement M
-fixed-sum-spec = tie.close (tie.spec returns returns-2 returns-3)
+fixed-sum-spec =
+    tie.close (tie.spec (λ c. sym (ap (three (c .before .args .count)) (eq-eqb (c .before .args .count) 3 (c .if1 .taken)))) returns-2
+    returns-3)

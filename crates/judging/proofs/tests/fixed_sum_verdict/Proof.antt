@@ -1,12 +1,6 @@
 -- `judging::tests::fixed_sum_verdict` meets its contract, by what the fixed angles sum to.
-use mathlib.Core.Path.{_≡_, sym, ap, _∙_}
-use mathlib.Core.Bool.{Bool, not}
-use lib.Dec.{eqb}
-use lib.ListN.{length}
-use denote.Ref.{now}
-use Rattle.refusals.specs.declared.Refusal.{Refusal}
-use Rattle.refusals.specs.Order.{failsIf}
-use Rattle.refusals.specs.Table.{fixedSum, sumOfAll}
+use Rattle.vocabulary.specs.{_≡_, sym, ap, _∙_, Bool, not, eqb, length, now}
+use Rattle.refusals.specs.{declared.Refusal.Refusal, Order.failsIf, Table.fixedSum, Table.sumOfAll}
 use Rattle.judging.proofs.tests.fixed_sum_verdict.Statement.{statement}
 use Rattle.judging.proofs.tests.fixed_sum_verdict.Tie as tie
 
@@ -16,11 +10,8 @@ compared : (c : tie.After-sums-to) → {answer : Bool} → c .sums-to .result �
 compared c e =
     ap (eqb (sumOfAll (now (c .before .before .before .args .fixed)))) (sym (c .before .fixed-sum .ensures)) ∙ sym (c .sums-to .ensures) ∙ e
 
-returns : tie.Need-returns
-returns c = sym (ap (λ (b : Bool). failsIf (not b) Refusal.FixedAnglesDoNotSum) (compared (c .before) (c .if1 .taken)))
-
-returns-2 : tie.Need-returns-2
-returns-2 c = sym (ap (λ (b : Bool). failsIf (not b) Refusal.FixedAnglesDoNotSum) (compared (c .before) (c .if1 .left)))
-
 pub fixed-sum-verdict-spec : {M : Type 1} → statement M
-fixed-sum-verdict-spec = tie.close (tie.spec (λ c κs. tt) (λ c κs. tt) returns returns-2)
+fixed-sum-verdict-spec =
+    tie.close (tie.spec (λ c κs. tt) (λ c κs. tt)
+    (λ c. sym (ap (λ (b : Bool). failsIf (not b) Refusal.FixedAnglesDoNotSum) (compared (c .before) (c .if1 .taken))))
+    (λ c. sym (ap (λ (b : Bool). failsIf (not b) Refusal.FixedAnglesDoNotSum) (compared (c .before) (c .if1 .left)))))

@@ -1,9 +1,6 @@
 -- `judging::tests::limit_or_tolerance_verdict` meets its contract, by the test.
-use mathlib.Core.Path.{sym, ap}
-use mathlib.Core.Bool.{Bool}
-use borrow.Author.Tests.{lt-ltb, le-ltb}
-use Rattle.refusals.specs.declared.Refusal.{Refusal}
-use Rattle.refusals.specs.Order.{failsIf}
+use Rattle.vocabulary.specs.{sym, ap, Bool, lt-ltb, le-ltb}
+use Rattle.refusals.specs.{declared.Refusal.Refusal, Order.failsIf}
 use Rattle.judging.proofs.tests.limit_or_tolerance_verdict.Statement.{statement}
 use Rattle.judging.proofs.tests.limit_or_tolerance_verdict.Tie as tie
 

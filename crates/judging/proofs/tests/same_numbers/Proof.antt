@@ -1,10 +1,5 @@
 -- `judging::tests::same_numbers` meets its contract. The invariant: the lists are the same exactly if what is left of them is.
-use mathlib.Core.Path.{_≡_, refl, sym, ap, _∙_}
-use Prim.Native.Nat.{ℕ, _≤_, _-_}
-use native.Mathlib.Omega.{arith}
-use borrow.Author.Needs.{needs}
-use lib.ListN.{length, drop}
-use denote.Ref.{now}
+use Rattle.vocabulary.specs.{_≡_, refl, sym, ap, _∙_, ℕ, _≤_, _-_, arith, needs, length, drop, now}
 use Rattle.refusals.specs.Questions.{sameNumbers}
 use Rattle.refusals.proofs.NumberLists.{lengths-differ, one-same, one-differs, all-same}
 use Rattle.judging.proofs.tests.same_numbers.Statement.{statement}
@@ -15,9 +10,6 @@ Inv-loop lent own i₀ i = (i ≤ length lent) × (length lent ≡ length own) �
 
 abbrev μ-loop : tie.MeasureT-loop
 μ-loop lent own i₀ i = length lent - i
-
-returns : tie.Need-returns Inv-loop μ-loop
-returns c = sym (lengths-differ (now (c .before .args .lent)) (now (c .before .args .own)) (c .if1 .taken))
 
 returns-2 : tie.Need-returns-2 Inv-loop μ-loop
 returns-2 c =
@@ -41,18 +33,7 @@ returns-3 c =
 
 pub same-numbers-spec : {M : Type 1} → statement M
 same-numbers-spec =
-    tie.close
-    (tie.spec
-    Inv-loop
-    μ-loop
-    returns
-    (λ c. (omega arith, c .if1 .left, refl))
-    (λ c. search needs)
-    (λ c. search needs)
-    (λ c. search needs)
-    (λ c. omega arith)
-    returns-2
-    (λ c. omega arith)
-    (λ c. omega arith)
-    loop-again
-    returns-3)
+    tie.close (tie.spec Inv-loop μ-loop
+    (λ c. sym (lengths-differ (now (c .before .args .lent)) (now (c .before .args .own)) (c .if1 .taken)))
+    (λ c. (omega arith, c .if1 .left, refl)) (λ c. search needs) (λ c. search needs) (λ c. search needs) (λ c. omega arith) returns-2
+    (λ c. omega arith) (λ c. omega arith) loop-again returns-3)

@@ -1,11 +1,6 @@
 -- `judging::tests::squares_verdict` meets its contract: a number is 0 exactly if both words are.
-use mathlib.Core.Path.{_≡_, sym, ap}
-use mathlib.Core.Bool.{Bool}
-use Prim.Native.Nat.{_+_, _*_, _^_}
-use native.Mathlib.Omega.{arith}
-use borrow.Author.Tests.{eq-eqb, ne-eqb}
-use Rattle.refusals.specs.declared.Refusal.{Refusal}
-use Rattle.refusals.specs.Order.{failsIf}
+use Rattle.vocabulary.specs.{_≡_, sym, ap, Bool, _+_, _*_, _^_, arith, eq-eqb, ne-eqb}
+use Rattle.refusals.specs.{declared.Refusal.Refusal, Order.failsIf}
 use Rattle.judging.proofs.tests.squares_verdict.Statement.{statement}
 use Rattle.judging.proofs.tests.squares_verdict.Tie as tie
 

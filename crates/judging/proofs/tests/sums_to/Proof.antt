@@ -1,12 +1,5 @@
 -- `judging::tests::sums_to` meets its contract. The invariant: what the values taken so far have taken off the sum is what they add up to.
-use mathlib.Core.Path.{_≡_, sym, ap, _∙_}
-use Prim.Native.Nat.{ℕ, zero, suc, _+_, _-_, _≤_}
-use native.Mathlib.Omega.{arith}
-use borrow.Author.Needs.{needs}
-use borrow.Author.Tests.{eq-eqb, ne-eqb}
-use lib.Dec.{eqb}
-use lib.ListN.{length, drop}
-use denote.Ref.{now}
+use Rattle.vocabulary.specs.{_≡_, sym, ap, _∙_, ℕ, zero, suc, _+_, _-_, _≤_, arith, needs, eq-eqb, ne-eqb, eqb, length, drop, now}
 use Rattle.refusals.specs.Table.{sumOfAll}
 use Rattle.refusals.proofs.NumberLists.{sum-next, sum-past}
 use Rattle.judging.proofs.tests.sums_to.Statement.{statement}
@@ -46,15 +39,5 @@ returns-2 c =
 
 pub sums-to-spec : {M : Type 1} → statement M
 sums-to-spec =
-    tie.close
-    (tie.spec
-    Inv-loop
-    μ-loop
-    (λ c. (omega arith, omega arith))
-    (λ c. search needs)
-    (λ c. omega arith)
-    returns
-    (λ c. omega arith)
-    (λ c. omega arith)
-    loop-again
-    returns-2)
+    tie.close (tie.spec Inv-loop μ-loop (λ c. (omega arith, omega arith)) (λ c. search needs) (λ c. omega arith) returns (λ c. omega arith)
+    (λ c. omega arith) loop-again returns-2)

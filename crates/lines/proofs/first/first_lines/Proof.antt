@@ -1,7 +1,6 @@
 -- `lines::first::first_lines` meets its contract: the figure's line and those of its angles and of its conditions make the text
 -- (`text-laid`).
-use Prim.Native.Nat.{_≤_}
-use borrow.Author.Needs.{needs}
+use Rattle.vocabulary.specs.{_≤_, needs}
 use Rattle.lines.specs.Lines.{firstLines, firstText}
 use Rattle.lines.proofs.Texts.{few-lines, text-laid}
 use Rattle.lines.proofs.first.first_lines.Statement.{statement}
@@ -21,5 +20,5 @@ returns c =
 
 pub first-lines-spec : {M : Type 1} → statement M
 first-lines-spec =
-    tie.close
-    (tie.spec (λ c κs. search needs) (λ c κs. search needs) (λ c κs. few (c .before .before .before .before .before) .0) (λ c κs. few (c .before .before .before .before .before .before .before .before .before) .1) (λ c. search needs) returns)
+    tie.close (tie.spec (λ c κs. search needs) (λ c κs. search needs) (λ c κs. few (c .before .before .before .before .before) .0)
+    (λ c κs. few (c .before .before .before .before .before .before .before .before .before) .1) (λ c. search needs) returns)

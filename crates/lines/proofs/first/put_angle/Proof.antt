@@ -1,11 +1,5 @@
 -- `lines::first::put_angle` meets its contract: its numbers are the angle's own number and what the slices have for it.
-use mathlib.Core.Path.{ap}
-use native.Mathlib.Omega.{arith}
-use mathlib.Core.List.{List}
-use borrow.Author.Needs.{needs}
-use lib.IntN.{ℤ}
-use mir.Syntax.{w64}
-use mir.Facts.{toZ-pos}
+use Rattle.vocabulary.specs.{ap, arith, List, needs, ℤ, w64, toZ-pos}
 use Rattle.whole.specs.Lists.{listed}
 use Rattle.text.specs.Text.{lineFeed, line}
 use Rattle.lines.specs.Lays.{numbersEnded}
@@ -31,5 +25,5 @@ returns c =
 
 pub put-angle-spec : {M : Type 1} → statement M
 put-angle-spec =
-    tie.close
-    (tie.spec (λ c. search needs) (λ c. search needs) (λ c κs. search needs) (λ c κs. search needs) (λ c κs. search needs) (λ c κs. search needs) (λ c κs. search needs) (λ c κs. search needs) (λ c. search needs) returns)
+    tie.close (tie.spec (λ c. search needs) (λ c. search needs) (λ c κs. search needs) (λ c κs. search needs) (λ c κs. search needs)
+    (λ c κs. search needs) (λ c κs. search needs) (λ c κs. search needs) (λ c. search needs) returns)

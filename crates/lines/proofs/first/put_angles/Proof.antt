@@ -1,7 +1,5 @@
 -- `lines::first::put_angles` meets its contract: each turn lays one line more (`printing-more`).
-use Prim.Native.Nat.{_-_}
-use native.Mathlib.Omega.{arith}
-use borrow.Author.Needs.{needs}
+use Rattle.vocabulary.specs.{_-_, arith, needs}
 use Rattle.whole.specs.Sums.{naturals, vector}
 use Rattle.lines.specs.Lines.{firstAngle}
 use Rattle.lines.proofs.Laid.{Printing, printing-none, printing-more, printing-all}
@@ -18,10 +16,7 @@ abbrev μ-loop : tie.MeasureT-loop
 loop-again : tie.Need-loop-again Inv-loop μ-loop
 loop-again c = printing-more (c .before .before .before .before .before .loop .inv) (omega arith) (search needs) (c .before .before .put-angle .ensures)
 
-returns : tie.Need-returns Inv-loop μ-loop
-returns c = printing-all (c .before .loop .inv) (omega arith)
-
 pub put-angles-spec : {M : Type 1} → statement M
 put-angles-spec =
-    tie.close
-    (tie.spec Inv-loop μ-loop (λ c. printing-none _ _ _ _) (λ c κs. search needs) (λ c. search needs) (λ c. search needs) loop-again (λ c. search needs) returns)
+    tie.close (tie.spec Inv-loop μ-loop (λ c. printing-none _ _ _ _) (λ c κs. search needs) (λ c. search needs) (λ c. search needs)
+    loop-again (λ c. search needs) (λ c. printing-all (c .before .loop .inv) (omega arith)))

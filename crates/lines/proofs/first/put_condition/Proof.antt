@@ -1,15 +1,8 @@
 -- `lines::first::put_condition` meets its contract: the word, the condition's own number and what the slices have for it.
-use mathlib.Core.Path.{refl, ap, _∙_}
-use mathlib.Core.List.{List, [], _∷_, _++_}
-use native.Mathlib.Omega.{arith}
-use borrow.Author.Needs.{needs}
-use lib.IntN.{ℤ, pos}
-use mir.Syntax.{w64}
-use mir.Facts.{toZ-pos}
+use Rattle.vocabulary.specs.{refl, ap, _∙_, List, [], _∷_, _++_, arith, needs, ℤ, pos, w64, toZ-pos}
 use Rattle.whole.specs.Lists.{listed}
 use Rattle.text.specs.Text.{space, lineFeed, line}
-use Rattle.lines.specs.Lays.{numbersEnded}
-use Rattle.lines.specs.Lines.{conditionWord}
+use Rattle.lines.specs.{Lays.numbersEnded, Lines.conditionWord}
 use Rattle.lines.proofs.Laid.{lays-as, part-line, answered, six-same}
 use Rattle.lines.proofs.first.put_condition.Statement.{statement}
 use Rattle.lines.proofs.first.put_condition.Tie as tie
@@ -29,5 +22,5 @@ returns c =
 
 pub put-condition-spec : {M : Type 1} → statement M
 put-condition-spec =
-    tie.close
-    (tie.spec (λ c. search needs) (λ c. search needs) (λ c κs. search needs) (λ c κs. search needs) (λ c. search needs) (λ c κs. search needs) (λ c. search needs) returns)
+    tie.close (tie.spec (λ c. search needs) (λ c. search needs) (λ c κs. search needs) (λ c κs. search needs) (λ c. search needs)
+    (λ c κs. search needs) (λ c. search needs) returns)

@@ -1,19 +1,10 @@
 -- `lines::first::put_figure_line` meets its contract: the denominator's word and number are laid after the figure's name.
-use mathlib.Core.Path.{ap, _∙_}
-use mathlib.Core.List.{[], _∷_, _++_}
-use native.Mathlib.Omega.{arith}
-use borrow.Author.Needs.{needs}
-use lib.IntN.{ℤ, pos}
-use mir.Syntax.{w64}
-use mir.Facts.{toZ-pos}
+use Rattle.vocabulary.specs.{ap, _∙_, [], _∷_, _++_, arith, needs, ℤ, pos, w64, toZ-pos}
 use Rattle.whole.specs.Lists.{listed}
-use Rattle.figures.specs.declared.Counts.{Counts}
-use Rattle.figures.specs.Figure.{denominator}
+use Rattle.figures.specs.{declared.Counts.Counts, Figure.denominator}
 use Rattle.text.specs.Text.{space, lineFeed, decimal, line}
-use Rattle.lines.specs.Lays.{numbersEnded}
-use Rattle.lines.specs.Lines.{denominatorWord, figureNamed}
-use Rattle.lines.proofs.Laid.{lays-as, lays-line, part-line}
-use Rattle.lines.proofs.Texts.{zeros}
+use Rattle.lines.specs.{Lays.numbersEnded, Lines.denominatorWord, Lines.figureNamed}
+use Rattle.lines.proofs.{Laid.lays-as, Laid.lays-line, Laid.part-line, Texts.zeros}
 use Rattle.lines.proofs.first.put_figure_line.Statement.{statement}
 use Rattle.lines.proofs.first.put_figure_line.Tie as tie
 
@@ -34,5 +25,5 @@ returns c =
 
 pub put-figure-line-spec : {M : Type 1} → statement M
 put-figure-line-spec =
-    tie.close
-    (tie.spec (λ c κs. search needs) (λ c. search needs) (λ c κs. search needs) (λ c. search needs) (λ c κs. search needs) (λ c. search needs) returns)
+    tie.close (tie.spec (λ c κs. search needs) (λ c. search needs) (λ c κs. search needs) (λ c. search needs) (λ c κs. search needs)
+    (λ c. search needs) returns)

@@ -1,12 +1,8 @@
 -- `lines::put::put_figure_start` meets its contract: the word, the code and n, each with the space after it.
-use mathlib.Core.Path.{ap}
-use mathlib.Core.List.{[], _∷_}
-use borrow.Author.Needs.{needs}
-use lib.IntN.{pos}
+use Rattle.vocabulary.specs.{ap, [], _∷_, needs, pos}
 use Rattle.text.specs.Text.{decimal}
 use Rattle.figures.specs.declared.Name.{Name}
-use Rattle.lines.specs.Lays.{lineStart}
-use Rattle.lines.specs.Lines.{figureWord}
+use Rattle.lines.specs.{Lays.lineStart, Lines.figureWord}
 use Rattle.lines.proofs.Laid.{lays-as, lays-parts, part-start}
 use Rattle.lines.proofs.put.put_figure_start.Statement.{statement}
 use Rattle.lines.proofs.put.put_figure_start.Tie as tie
@@ -26,5 +22,5 @@ returns c =
 
 pub put-figure-start-spec : {M : Type 1} → statement M
 put-figure-start-spec =
-    tie.close
-    (tie.spec (λ c κs. search needs) (λ c. search needs) (λ c κs. search needs) (λ c. search needs) (λ c κs. search needs) (λ c. search needs) (λ c κs. search needs) (λ c. search needs) returns)
+    tie.close (tie.spec (λ c κs. search needs) (λ c. search needs) (λ c κs. search needs) (λ c. search needs) (λ c κs. search needs)
+    (λ c. search needs) (λ c κs. search needs) (λ c. search needs) returns)

@@ -1,18 +1,9 @@
 -- `lines::put::put_numbers` meets its contract: each turn lays one number more with a space after it (`number-started`), and the last has
 -- the byte that ends them (`number-ended`).
-use mathlib.Core.Path.{_≡_, ap, _∙_}
-use mathlib.Core.List.{List, [], _∷_, _++_}
-use Prim.Native.Nat.{ℕ, _+_, _-_, _≤_}
-use native.Mathlib.Omega.{arith}
-use borrow.Author.Needs.{needs}
-use lib.IntN.{ℤ}
-use lib.ListN.{length}
-use mir.Facts.{toZ-ofZ}
-use Rattle.whole.specs.Lists.{listed}
-use Rattle.whole.specs.Sums.{vector}
+use Rattle.vocabulary.specs.{_≡_, ap, _∙_, List, [], _∷_, _++_, ℕ, _+_, _-_, _≤_, arith, needs, ℤ, length, toZ-ofZ}
+use Rattle.whole.specs.{Lists.listed, Sums.vector}
 use Rattle.text.specs.Text.{space, decimal}
-use Rattle.lines.specs.Lays.{Lays, lineStart, numbersEnded}
-use Rattle.lines.specs.Lines.{numbers}
+use Rattle.lines.specs.{Lays.Lays, Lays.lineStart, Lays.numbersEnded, Lines.numbers}
 use Rattle.lines.proofs.Laid.{lays-none, lays-then, lays-as, number-started, number-ended}
 use Rattle.lines.proofs.put.put_numbers.Statement.{statement}
 use Rattle.lines.proofs.put.put_numbers.Tie as tie
@@ -59,5 +50,6 @@ returns c =
 
 pub put-numbers-spec : {M : Type 1} → statement M
 put-numbers-spec =
-    tie.close
-    (tie.spec Inv-loop μ-loop loop-holds (λ c. search needs) (λ c. search needs) (λ c. search needs) (λ c κs. search needs) (λ c. search needs) (λ c. search needs) loop-again (λ c. search needs) (λ c. search needs) (λ c κs. search needs) (λ c. search needs) returns)
+    tie.close (tie.spec Inv-loop μ-loop loop-holds (λ c. search needs) (λ c. search needs) (λ c. search needs) (λ c κs. search needs)
+    (λ c. search needs) (λ c. search needs) loop-again (λ c. search needs) (λ c. search needs) (λ c κs. search needs) (λ c. search needs)
+    returns)

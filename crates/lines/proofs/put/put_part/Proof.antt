@@ -1,9 +1,5 @@
 -- `lines::put::put_part` meets its contract: the byte is laid after the number.
-use mathlib.Core.Path.{ap}
-use mathlib.Core.List.{[], _∷_, _++_}
-use borrow.Author.Needs.{needs}
-use lib.IntN.{ℤ}
-use mir.Facts.{toZ-ofZ}
+use Rattle.vocabulary.specs.{ap, [], _∷_, _++_, needs, ℤ, toZ-ofZ}
 use Rattle.text.specs.Text.{decimal}
 use Rattle.lines.proofs.Laid.{lays-laid, lays-then, lays-as}
 use Rattle.lines.proofs.put.put_part.Statement.{statement}

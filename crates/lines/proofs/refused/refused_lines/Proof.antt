@@ -1,13 +1,8 @@
 -- `lines::refused::refused_lines` meets its contract: the word, the number and the place make the text (`refused-text`).
-use mathlib.Core.Path.{ap₂, _∙_}
-use mathlib.Core.List.{[], _∷_, _++_}
-use Prim.Native.Nat.{ℕ}
-use borrow.Author.Needs.{needs}
-use lib.IntN.{pos}
+use Rattle.vocabulary.specs.{ap₂, _∙_, [], _∷_, _++_, ℕ, needs, pos}
 use Rattle.text.specs.Text.{space, lineFeed, decimal}
 use Rattle.lines.specs.Lines.{refusedWord}
-use Rattle.lines.proofs.Laid.{lays-then, lays-as, lays-start}
-use Rattle.lines.proofs.Texts.{refused-text}
+use Rattle.lines.proofs.{Laid.lays-then, Laid.lays-as, Laid.lays-start, Texts.refused-text}
 use Rattle.lines.proofs.refused.refused_lines.Statement.{statement}
 use Rattle.lines.proofs.refused.refused_lines.Tie as tie
 
@@ -24,5 +19,5 @@ returns c =
 
 pub refused-lines-spec : {M : Type 1} → statement M
 refused-lines-spec =
-    tie.close
-    (tie.spec (λ c κs. search needs) (λ c. search needs) (λ c κs. search needs) (λ c. search needs) (λ c κs. search needs) (λ c κs. search needs) (λ c κs. search needs) (λ c. search needs) returns)
+    tie.close (tie.spec (λ c κs. search needs) (λ c. search needs) (λ c κs. search needs) (λ c. search needs) (λ c κs. search needs)
+    (λ c κs. search needs) (λ c κs. search needs) (λ c. search needs) returns)

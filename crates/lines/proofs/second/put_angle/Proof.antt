@@ -1,16 +1,9 @@
 -- `lines::second::put_angle` meets its contract: numerator, rounded correction, result and rounds are laid after the angle's other numbers.
-use mathlib.Core.Path.{refl, sym, ap}
-use mathlib.Core.List.{List, [], _∷_, _++_, map-append}
-use Prim.Native.Nat.{_+_}
-use borrow.Author.Needs.{needs}
-use denote.Ref.{now}
-use lib.IntN.{ℤ, pos}
-use Rattle.whole.specs.Lists.{listed}
-use Rattle.whole.specs.Sums.{naturals, vector}
+use Rattle.vocabulary.specs.{refl, sym, ap, List, [], _∷_, _++_, map-append, _+_, needs, now, ℤ, pos}
+use Rattle.whole.specs.{Lists.listed, Sums.naturals, Sums.vector}
 use Rattle.figures.specs.Figure.{hasSide}
 use Rattle.text.specs.Text.{space, lineFeed, decimal, line}
-use Rattle.lines.specs.Lays.{numbersEnded}
-use Rattle.lines.specs.Lines.{numbers, coefficients, wideNumbers}
+use Rattle.lines.specs.{Lays.numbersEnded, Lines.numbers, Lines.coefficients, Lines.wideNumbers}
 use Rattle.lines.proofs.Laid.{lays-as, lays-line, part-start, answered, six-same}
 use Rattle.lines.proofs.second.put_angle.Statement.{statement}
 use Rattle.lines.proofs.second.put_angle.Tie as tie
@@ -45,5 +38,5 @@ returns c =
 
 pub put-angle-spec : {M : Type 1} → statement M
 put-angle-spec =
-    tie.close
-    (tie.spec (λ c κs. search needs) (λ c κs. search needs) (λ c κs. search needs) (λ c κs. search needs) (λ c κs. search needs) (λ c κs. search needs) (λ c κs. search needs) (λ c. search needs) returns)
+    tie.close (tie.spec (λ c κs. search needs) (λ c κs. search needs) (λ c κs. search needs) (λ c κs. search needs) (λ c κs. search needs)
+    (λ c κs. search needs) (λ c κs. search needs) (λ c. search needs) returns)

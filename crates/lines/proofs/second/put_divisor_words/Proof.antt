@@ -1,13 +1,7 @@
 -- `lines::second::put_divisor_words` meets its contract: with a side condition its misclosure and the determinant's word, else the word S.
-use mathlib.Core.Path.{sym, ap, _∙_}
-use mathlib.Core.Bool.{Bool}
-use mathlib.Core.List.{[], _∷_, _++_}
-use borrow.Author.Needs.{needs}
-use lib.IntN.{ℤ}
-use mir.Facts.{toZ-ofZ}
+use Rattle.vocabulary.specs.{sym, ap, _∙_, Bool, [], _∷_, _++_, needs, ℤ, toZ-ofZ}
 use Rattle.text.specs.Text.{space, decimal}
-use Rattle.lines.specs.Lays.{lineStart}
-use Rattle.lines.specs.Lines.{sWord, determinantWord, divisorWords}
+use Rattle.lines.specs.{Lays.lineStart, Lines.sWord, Lines.determinantWord, Lines.divisorWords}
 use Rattle.lines.proofs.Laid.{lays-as, lays-parts, part-start}
 use Rattle.lines.proofs.second.put_divisor_words.Statement.{statement}
 use Rattle.lines.proofs.second.put_divisor_words.Tie as tie
@@ -36,5 +30,5 @@ returns-2 c =
 
 pub put-divisor-words-spec : {M : Type 1} → statement M
 put-divisor-words-spec =
-    tie.close
-    (tie.spec (λ c κs. search needs) (λ c κs. search needs) (λ c. search needs) (λ c κs. search needs) (λ c. search needs) (λ c κs. search needs) (λ c. search needs) returns (λ c. search needs) returns-2)
+    tie.close (tie.spec (λ c κs. search needs) (λ c κs. search needs) (λ c. search needs) (λ c κs. search needs) (λ c. search needs)
+    (λ c κs. search needs) (λ c. search needs) returns (λ c. search needs) returns-2)

@@ -1,19 +1,12 @@
 -- `lines::second::put_figure_line` meets its contract: its parts are laid one after the other, the divisor last.
-use mathlib.Core.Path.{_≡_, ap, _∙_}
-use mathlib.Core.Bool.{false}
-use mathlib.Core.List.{[], _∷_, _++_}
-use Prim.Native.Nat.{ℕ}
-use borrow.Author.Needs.{needs}
-use lib.IntN.{ℤ, pos}
-use mir.Facts.{toZ-ofZ}
+use Rattle.vocabulary.specs.{_≡_, ap, _∙_, false, [], _∷_, _++_, ℕ, needs, ℤ, pos, toZ-ofZ}
 use Rattle.wide.specs.Wide.{sizeOf, valueOf}
 use Rattle.wide.proofs.Signs.{signed-above}
 use Rattle.wide_words.specs.Words.{joined}
 use Rattle.wide_words.proofs.Joining.{joined-above}
 use Rattle.figures.specs.Figure.{hasSide}
 use Rattle.text.specs.Text.{space, lineFeed, decimal}
-use Rattle.lines.specs.Lays.{lineStart}
-use Rattle.lines.specs.Lines.{wWord, figureNamed, divisorWords}
+use Rattle.lines.specs.{Lays.lineStart, Lines.wWord, Lines.figureNamed, Lines.divisorWords}
 use Rattle.lines.proofs.Laid.{lays-as, lays-parts, lays-line, part-start, part-last}
 use Rattle.lines.proofs.second.put_figure_line.Statement.{statement}
 use Rattle.lines.proofs.second.put_figure_line.Tie as tie
@@ -49,5 +42,5 @@ returns c =
 
 pub put-figure-line-spec : {M : Type 1} → statement M
 put-figure-line-spec =
-    tie.close
-    (tie.spec (λ c κs. search needs) (λ c. search needs) (λ c κs. search needs) (λ c κs. search needs) (λ c κs. search needs) (λ c κs. search needs) (λ c. search needs) returns)
+    tie.close (tie.spec (λ c κs. search needs) (λ c. search needs) (λ c κs. search needs) (λ c κs. search needs) (λ c κs. search needs)
+    (λ c κs. search needs) (λ c. search needs) returns)

@@ -1,21 +1,9 @@
 -- `lines::second::put_reduced` meets its contract: its numbers are the angle's own number and what the slices have for it, the last one
 -- where the figure has a side condition.
-use mathlib.Core.Path.{_≡_, refl, sym, ap, _∙_}
-use mathlib.Core.Bool.{Bool}
-use mathlib.Core.List.{List, [], _∷_}
-use Prim.Native.Nat.{ℕ, suc, _+_}
-use native.Mathlib.Omega.{arith}
-use borrow.Author.Needs.{needs}
-use denote.Ref.{now}
-use lib.IntN.{ℤ, pos}
-use mir.Syntax.{w64}
-use mir.Facts.{toZ-pos}
-use mir.Val.{toZ, ofZ}
-use Rattle.whole.specs.Lists.{listed}
-use Rattle.whole.specs.Sums.{naturals, vector}
+use Rattle.vocabulary.specs.{_≡_, refl, sym, ap, _∙_, Bool, List, [], _∷_, ℕ, suc, _+_, arith, needs, now, ℤ, pos, w64, toZ-pos, toZ, ofZ}
+use Rattle.whole.specs.{Lists.listed, Sums.naturals, Sums.vector}
 use Rattle.text.specs.Text.{space, decimal}
-use Rattle.lines.specs.Lays.{lineStart, numbersEnded}
-use Rattle.lines.specs.Lines.{numbers, coefficients}
+use Rattle.lines.specs.{Lays.lineStart, Lays.numbersEnded, Lines.numbers, Lines.coefficients}
 use Rattle.lines.proofs.Laid.{lays-as, spaced-start, answered, six-same}
 use Rattle.lines.proofs.second.put_reduced.Statement.{statement}
 use Rattle.lines.proofs.second.put_reduced.Tie as tie
@@ -75,5 +63,5 @@ returns-2 c =
 
 pub put-reduced-spec : {M : Type 1} → statement M
 put-reduced-spec =
-    tie.close
-    (tie.spec (λ c. search needs) (λ c. search needs) (λ c κs. search needs) (λ c κs. search needs) (λ c κs. search needs) (λ c κs. search needs) (λ c κs. search needs) (λ c κs. search needs) (λ c. search needs) returns (λ c. search needs) returns-2)
+    tie.close (tie.spec (λ c. search needs) (λ c. search needs) (λ c κs. search needs) (λ c κs. search needs) (λ c κs. search needs)
+    (λ c κs. search needs) (λ c κs. search needs) (λ c κs. search needs) (λ c. search needs) returns (λ c. search needs) returns-2)

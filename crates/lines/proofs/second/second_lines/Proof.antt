@@ -1,15 +1,10 @@
 -- `lines::second::second_lines` meets its contract: the figure's line and those of its angles and of its conditions make the text
 -- (`text-laid`).
-use mathlib.Core.Path.{ap₂}
-use Prim.Native.Nat.{_≤_}
-use borrow.Author.Needs.{needs}
-use lib.IntN.{ℤ, pos}
-use mir.Facts.{toZ-ofZ}
+use Rattle.vocabulary.specs.{ap₂, _≤_, needs, ℤ, pos, toZ-ofZ}
 use Rattle.wide_words.specs.Words.{joined}
 use Rattle.text.specs.Text.{line}
 use Rattle.lines.specs.Lines.{secondFigure, secondLines, secondText}
-use Rattle.lines.proofs.Laid.{lays-as}
-use Rattle.lines.proofs.Texts.{few-lines, text-laid}
+use Rattle.lines.proofs.{Laid.lays-as, Texts.few-lines, Texts.text-laid}
 use Rattle.lines.proofs.second.second_lines.Statement.{statement}
 use Rattle.lines.proofs.second.second_lines.Tie as tie
 
@@ -34,5 +29,5 @@ returns c =
 
 pub second-lines-spec : {M : Type 1} → statement M
 second-lines-spec =
-    tie.close
-    (tie.spec (λ c κs. search needs) (λ c κs. search needs) (λ c κs. few (c .before .before .before .before .before) .0) (λ c κs. few (c .before .before .before .before .before .before .before .before .before) .1) (λ c. search needs) returns)
+    tie.close (tie.spec (λ c κs. search needs) (λ c κs. search needs) (λ c κs. few (c .before .before .before .before .before) .0)
+    (λ c κs. few (c .before .before .before .before .before .before .before .before .before) .1) (λ c. search needs) returns)

@@ -1,6 +1,5 @@
 -- `lines::values::wide_at` meets its contract: the two words are what the slices have.
-use mathlib.Core.Path.{ap₂, _∙_}
-use borrow.Author.Needs.{needs}
+use Rattle.vocabulary.specs.{ap₂, _∙_, needs}
 use Rattle.wide_words.specs.Words.{joined}
 use Rattle.lines.proofs.Laid.{answered}
 use Rattle.lines.proofs.values.wide_at.Statement.{statement}

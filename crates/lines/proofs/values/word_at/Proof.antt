@@ -1,12 +1,9 @@
 -- `lines::values::word_at` meets its contract: past the end the definition reads 0.
-use mathlib.Core.Path.{sym}
-use borrow.Author.Needs.{needs}
-use lib.ListN.{List·getD-eq-default}
+use Rattle.vocabulary.specs.{sym, needs, List·getD-eq-default}
 use Rattle.lines.proofs.values.word_at.Statement.{statement}
 use Rattle.lines.proofs.values.word_at.Tie as tie
 
-returns-2 : tie.Need-returns-2
-returns-2 c = sym (List·getD-eq-default (c .before .args .values .now) 0 (c .if1 .left))
-
 pub word-at-spec : {M : Type 1} → statement M
-word-at-spec = tie.close (tie.spec (λ c. search needs) (λ c. search needs) (λ c. search needs) returns-2)
+word-at-spec =
+    tie.close (tie.spec (λ c. search needs) (λ c. search needs) (λ c. search needs)
+    (λ c. sym (List·getD-eq-default (c .before .args .values .now) 0 (c .if1 .left))))

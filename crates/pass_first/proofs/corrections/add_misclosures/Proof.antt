@@ -1,15 +1,6 @@
 -- `pass_first::corrections::add_misclosures` meets its contract. The invariant: the rests passed are worked over, and the sums after them
 -- as they were.
-use mathlib.Core.Path.{_≡_, ap₂, _∙_}
-use Prim.Native.Nat.{ℕ, _-_}
-use native.Mathlib.Nat.{le-refl}
-use native.Mathlib.Omega.{arith}
-use denote.Ref.{now}
-use lib.IntN.{ℤ, pos, _+ℤ_}
-use lib.ListN.{length}
-use mir.Syntax.{w32}
-use mir.Val.{SFits, toZ, ofZ}
-use mir.ValLaws.{toZ-ofZ}
+use Rattle.vocabulary.specs.{_≡_, ap₂, _∙_, ℕ, _-_, le-refl, arith, now, ℤ, pos, _+ℤ_, length, w32, SFits, toZ, ofZ, toZ-ofZ-at}
 use Rattle.whole.specs.Sums.{vector}
 use Rattle.whole.proofs.Lists.{Replaced, replaced-none, replaced-more, filled-all}
 use Rattle.whole.proofs.Magnitudes.{natAbs-add, magnitude-fits}
@@ -21,9 +12,6 @@ Inv-loop w rests₀ j₀ rests j = Replaced (pos 0) (length w) (λ k. vector w k
 
 abbrev μ-loop : tie.MeasureT-loop
 μ-loop w rests₀ j₀ rests j = length w - j
-
-loop-holds : tie.Need-loop-holds Inv-loop μ-loop
-loop-holds c = replaced-none _ _ _ _ (c .pre .0)
 
 module _ (c : tie.After-rests2 Inv-loop μ-loop) where
   abbrev at : tie.At-loop Inv-loop μ-loop
@@ -43,37 +31,15 @@ module _ (c : tie.After-rests2 Inv-loop μ-loop) where
 
   both : toZ w32 (ofZ w32 misclosure) +ℤ toZ w32 (ofZ w32 (vector (at .loop .rests) j)) ≡ misclosure +ℤ corrections
   both =
-      ap₂ _+ℤ_ (toZ-ofZ w32 misclosure (record { sfits = c .before .rests .given }))
-      (toZ-ofZ w32 (vector (at .loop .rests) j) (record { sfits = c .rests2 .given }) ∙ at .loop .inv .left j (le-refl j))
+      ap₂ _+ℤ_ (toZ-ofZ-at w32 misclosure (record { sfits = c .before .rests .given }))
+      (toZ-ofZ-at w32 (vector (at .loop .rests) j) (record { sfits = c .rests2 .given }) ∙ at .loop .inv .left j (le-refl j))
 
   fits : SFits w32 (misclosure +ℤ corrections)
   fits = magnitude-fits w32 (misclosure +ℤ corrections) (omega (arith, natAbs-add misclosure corrections, start .pre .1 .0 j, start .pre .1 .1 j))
 
-add-rests : tie.Need-add-rests Inv-loop μ-loop
-add-rests c = rw (both c) (fits c)
-
-loop-again : tie.Need-loop-again Inv-loop μ-loop
-loop-again c = replaced-more (at c .loop .inv) (omega arith) (rw (both c) (toZ-ofZ w32 _ (fits c)))
-
-returns : tie.Need-returns Inv-loop μ-loop
-returns c = filled-all (c .before .loop .inv .filled) (omega arith)
-
 pub add-misclosures-spec : {M : Type 1} → statement M
 add-misclosures-spec =
-    tie.close
-    (tie.spec
-    Inv-loop
-    μ-loop
-    loop-holds
-    (λ c. omega arith)
-    (λ c. omega arith)
-    (λ c. omega arith)
-    (λ c. omega arith)
-    add-rests
-    (λ c. omega arith)
-    (λ c. omega arith)
-    (λ c. omega arith)
-    (λ c. omega arith)
-    loop-again
-    (λ c. omega arith)
-    returns)
+    tie.close (tie.spec Inv-loop μ-loop (λ c. replaced-none _ _ _ _ (c .pre .0)) (λ c. omega arith) (λ c. omega arith) (λ c. omega arith)
+    (λ c. omega arith) (λ c. rw (both c) (fits c)) (λ c. omega arith) (λ c. omega arith) (λ c. omega arith) (λ c. omega arith)
+    (λ c. replaced-more (at c .loop .inv) (omega arith) (rw (both c) (toZ-ofZ-at w32 _ (fits c)))) (λ c. omega arith)
+    (λ c. filled-all (c .before .loop .inv .filled) (omega arith)))

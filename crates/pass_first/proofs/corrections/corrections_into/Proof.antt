@@ -1,14 +1,7 @@
 -- `pass_first::corrections::corrections_into` meets its contract: each step takes what the step before it gave.
-use mathlib.Core.Path.{_≡_, sym, _∙_}
-use native.Mathlib.Nat.{le-trans}
-use borrow.Author.Needs.{needs}
-use denote.Ref.{now}
-use lib.Dec.{lit≤}
-use Rattle.pass_steps.specs.Premises.{mostRounded, mostApplied}
-use Rattle.pass_steps.specs.Steps.{numeratorsFrom}
-use Rattle.pass_steps.proofs.Fitting.{fits}
-use Rattle.pass_steps.proofs.Judged.{misclosures-pass, taken}
-use Rattle.pass_steps.proofs.StepLaws.{length-of}
+use Rattle.vocabulary.specs.{_≡_, sym, _∙_, le-trans, needs, now, lit≤}
+use Rattle.pass_steps.specs.{Premises.mostRounded, Premises.mostApplied, Steps.numeratorsFrom}
+use Rattle.pass_steps.proofs.{Fitting.fits, Judged.misclosures-pass, Judged.taken, StepLaws.length-of}
 use Rattle.pass_first.proofs.FirstSteps.{exact-within, tenths-are}
 use Rattle.pass_first.proofs.corrections.corrections_into.Statement.{statement}
 use Rattle.pass_first.proofs.corrections.corrections_into.Tie as tie

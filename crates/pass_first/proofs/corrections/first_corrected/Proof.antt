@@ -1,23 +1,12 @@
 -- `pass_first::corrections::first_corrected` meets its contract: number 7 is asked of the results, and everything is stored where it
 -- passes.
-use mathlib.Core.Path.{_≡_, sym, ap, _∙_}
-use mathlib.Core.List.{List, [], _∷_, _++_}
-use Prim.Native.Nat.{ℕ, _≤_}
-use native.Mathlib.Omega.{arith}
-use denote.Ref.{now}
-use lib.Dec.{lit≤}
-use lib.IntN.{ℤ, pos}
-use lib.ListN.{length, getD, take, drop, replicate}
-use Rattle.refusals.specs.declared.Verdict.{Verdict}
-use Rattle.refusals.specs.Order.{verdictOf, judged}
-use Rattle.refusals.specs.Table.{lengthsRow, resultsRow}
+use Rattle.vocabulary.specs.{_≡_, sym, ap, _∙_, List, [], _∷_, _++_, ℕ, _≤_, arith, now, lit≤, ℤ, pos, length, getD, take, drop, replicate}
+use Rattle.refusals.specs.{declared.Verdict.Verdict, Order.verdictOf, Order.judged, Table.lengthsRow, Table.resultsRow}
 use Rattle.judging.specs.Searches.{resultsOf}
 use Rattle.figures.proofs.Figures.{angle-bound}
-use Rattle.pass_steps.specs.Premises.{mostSummed}
-use Rattle.pass_steps.specs.Steps.{numeratorsFrom, resultsRows, resultsFrom}
-use Rattle.pass_steps.proofs.Judged.{lengths-pass, first-passes, kept, written, taken}
+use Rattle.pass_steps.specs.{Premises.mostSummed, Steps.numeratorsFrom, Steps.resultsRows, Steps.resultsFrom}
+use Rattle.pass_steps.proofs.{Judged.lengths-pass, Judged.first-passes, Judged.kept, Judged.written, Judged.taken, StepLaws.length-of}
 use Rattle.whole.proofs.Lending.{lent-length, part-again, still-few, again-length}
-use Rattle.pass_steps.proofs.StepLaws.{length-of}
 use Rattle.pass_first.specs.Steps.{tenthsOf, restsFrom, firstWork, workLent, workLengths, firstFrom}
 use Rattle.pass_first.proofs.FirstSteps.{tenths-within}
 use Rattle.pass_first.proofs.corrections.first_corrected.Statement.{statement}
@@ -34,12 +23,6 @@ room : (s : tie.Start) (k : ℕ)
     → getD (workLent (firstWork (now (s .args .misclosures)) (now (s .args .numerators)) (now (s .args .rounded)) (now (s .args .corrected)) (now (s .args .rests)))) k 0
     ≡ getD (workLengths (s .args .figure)) k 0
 room s k = ap (λ (l : List ℕ). getD l k 0) (s .pre .1 .1 .0)
-
-corrections-into-requires : tie.Need-corrections-into-requires
-corrections-into-requires c κs =
-    let s = c .before .before .before .before in
-    let n = sym (lent s) ∙ s .pre .0 in
-    (s .pre .1 .0, (n, (n, s .pre .1 .1 .1)))
 
 -- what the corrections left, each at the start of its array
 module _ (c : tie.After-corrections-into) where
@@ -167,28 +150,16 @@ returns-2 c =
 
 pub first-corrected-spec : {M : Type 1} → statement M
 first-corrected-spec =
-    tie.close
-    (tie.spec
-    (λ c. few (c .before .before))
-    (λ c. lent (c .before .before .before))
-    (λ c. few (c .before .before .before))
+    tie.close (tie.spec (λ c. few (c .before .before)) (λ c. lent (c .before .before .before)) (λ c. few (c .before .before .before))
     (λ c. lent (c .before .before .before .before))
-    corrections-into-requires
+    (λ c κs. let s = c .before .before .before .before in let n = sym (lent s) ∙ s .pre .0 in (s .pre .1 .0, (n, (n, s .pre .1 .1 .1))))
     (λ c. let k = c .before .before in share k (tenthsPart k) (tenths-kept k))
-    (λ c. let k = c .before .before .before in aggregate k (tenthsPart k) (tenths-kept k))
-    (λ c κs. tt)
-    (λ c. c .match .keys1)
+    (λ c. let k = c .before .before .before in aggregate k (tenthsPart k) (tenths-kept k)) (λ c κs. tt) (λ c. c .match .keys1)
     (λ c. let k = c .before .before .before .before .before .before .before .before .before in share k (exactPart k) (exact-kept k))
     (λ c. let k = c .before .before .before .before .before .before .before .before .before .before in aggregate k (exactPart k) (exact-kept k))
     (λ c. let k = c .before .before .before .before .before .before .before .before .before .before in share k (tenthsPart k) (tenths-kept k))
     (λ c. let k = c .before .before .before .before .before .before .before .before .before .before .before in aggregate k (tenthsPart k) (tenths-kept k))
-    store-first-requires
-    (λ c. c .match .keys2)
-    (λ c. stores c .store-first .kept .1 .1 .1 .1 .0)
-    (λ c. stores c .store-first .kept .1 .1 .1 .1 .1 .0)
-    (λ c. stores c .store-first .kept .1 .1 .1 .1 .1 .1 .0)
-    (λ c. results c .results-into .kept .1 .1 .0)
-    (λ c. stores c .store-first .kept .1 .1 .1 .1 .1 .1 .1 .0)
-    returns
-    (λ c. c .before .before .before .before .results-into .kept .1 .1 .0)
-    returns-2)
+    store-first-requires (λ c. c .match .keys2) (λ c. stores c .store-first .kept .1 .1 .1 .1 .0)
+    (λ c. stores c .store-first .kept .1 .1 .1 .1 .1 .0) (λ c. stores c .store-first .kept .1 .1 .1 .1 .1 .1 .0)
+    (λ c. results c .results-into .kept .1 .1 .0) (λ c. stores c .store-first .kept .1 .1 .1 .1 .1 .1 .1 .0) returns
+    (λ c. c .before .before .before .before .results-into .kept .1 .1 .0) returns-2)

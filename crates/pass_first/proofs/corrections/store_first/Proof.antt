@@ -1,15 +1,8 @@
 -- `pass_first::corrections::store_first` meets its contract: each slice has the length of what it is to hold.
-use mathlib.Core.Path.{_≡_, refl, sym, _∙_}
-use borrow.Author.Needs.{needs}
-use denote.Ref.{now}
-use lib.IntN.{_+ℤ_}
-use Rattle.whole.specs.Lists.{listed}
-use Rattle.whole.specs.Sums.{vector}
-use Rattle.figures.specs.Figure.{conditionCount}
-use Rattle.figures.specs.Numerators.{conditionSum}
-use Rattle.pass_steps.proofs.Fitting.{copied}
-use Rattle.pass_steps.proofs.Held.{totals-within, sums-are}
-use Rattle.pass_steps.proofs.StepLaws.{listed-after, length-of}
+use Rattle.vocabulary.specs.{_≡_, refl, sym, _∙_, needs, now, _+ℤ_}
+use Rattle.whole.specs.{Lists.listed, Sums.vector}
+use Rattle.figures.specs.{Figure.conditionCount, Numerators.conditionSum}
+use Rattle.pass_steps.proofs.{Fitting.copied, Held.totals-within, Held.sums-are, StepLaws.listed-after, StepLaws.length-of}
 use Rattle.pass_first.proofs.corrections.store_first.Statement.{statement}
 use Rattle.pass_first.proofs.corrections.store_first.Tie as tie
 
@@ -52,15 +45,5 @@ returns c =
 
 pub store-first-spec : {M : Type 1} → statement M
 store-first-spec =
-    tie.close
-    (tie.spec
-    (λ c κs. tt)
-    (λ c κs. tt)
-    (λ c κs. tt)
-    (λ c κs. tt)
-    add-misclosures-requires
-    (λ c. search needs)
-    (λ c. search needs)
-    (λ c. search needs)
-    (λ c. search needs)
-    returns)
+    tie.close (tie.spec (λ c κs. tt) (λ c κs. tt) (λ c κs. tt) (λ c κs. tt) add-misclosures-requires (λ c. search needs) (λ c. search needs)
+    (λ c. search needs) (λ c. search needs) returns)

@@ -1,6 +1,5 @@
 -- `pass_first::first::first_pass` meets its contract: the pass of the figure that is named.
-use mathlib.Core.Path.{sym, _∙_}
-use denote.Ref.{now}
+use Rattle.vocabulary.specs.{sym, _∙_, now}
 use Rattle.pass_rules.specs.Promises.{FirstGiven, FirstLent, firstGiven, firstLent}
 use Rattle.pass_first.proofs.FirstPromised.{none-named, of-figure}
 use Rattle.pass_first.proofs.first.first_pass.Statement.{statement}
@@ -29,17 +28,8 @@ returns-2 c =
 
 pub first-pass-spec : {M : Type 1} → statement M
 first-pass-spec =
-    tie.close
-    (tie.spec
-    (λ c κs. tt)
-    (λ c. c .match .keys1)
-    (λ c. c .match .keys2)
-    returns
-    (λ c κs. tt)
-    (λ c. called c .first-pass-of .kept .1 .1 .1 .1 .1 .0)
-    (λ c. called c .first-pass-of .kept .1 .1 .1 .1 .1 .1 .0)
-    (λ c. called c .first-pass-of .kept .1 .1 .1 .1 .1 .1 .1 .0)
-    (λ c. called c .first-pass-of .kept .1 .1 .1 .1 .1 .1 .1 .1 .0)
-    (λ c. called c .first-pass-of .kept .1 .1 .1 .1 .1 .1 .1 .1 .1 .0)
-    (λ c. called c .first-pass-of .kept .1 .1 .1 .1 .1 .1 .1 .1 .1 .1 .0)
+    tie.close (tie.spec (λ c κs. tt) (λ c. c .match .keys1) (λ c. c .match .keys2) returns (λ c κs. tt)
+    (λ c. called c .first-pass-of .kept .1 .1 .1 .1 .1 .0) (λ c. called c .first-pass-of .kept .1 .1 .1 .1 .1 .1 .0)
+    (λ c. called c .first-pass-of .kept .1 .1 .1 .1 .1 .1 .1 .0) (λ c. called c .first-pass-of .kept .1 .1 .1 .1 .1 .1 .1 .1 .0)
+    (λ c. called c .first-pass-of .kept .1 .1 .1 .1 .1 .1 .1 .1 .1 .0) (λ c. called c .first-pass-of .kept .1 .1 .1 .1 .1 .1 .1 .1 .1 .1 .0)
     returns-2)

@@ -1,14 +1,6 @@
 -- `pass_first::first::first_pass_of` meets its contract: each row in its order, and a refusal before any store.
-use mathlib.Core.Path.{_≡_, sym, _∙_}
-use mathlib.Core.List.{List, [], _∷_, _++_}
-use Prim.Native.Nat.{ℕ, _≤_}
-use native.Mathlib.Omega.{arith}
-use denote.Ref.{now}
-use lib.IntN.{ℤ, pos}
-use lib.ListN.{length, take, drop, replicate}
-use Rattle.refusals.specs.declared.Verdict.the-variants.{Passed}
-use Rattle.refusals.specs.declared.Verdict.{Verdict}
-use Rattle.refusals.specs.Order.{verdictOf, judged}
+use Rattle.vocabulary.specs.{_≡_, sym, _∙_, List, [], _∷_, _++_, ℕ, _≤_, arith, now, ℤ, pos, length, take, drop, replicate}
+use Rattle.refusals.specs.{declared.Verdict.the-variants.Passed, declared.Verdict.Verdict, Order.verdictOf, Order.judged}
 use Rattle.refusals.specs.Table.{misclosuresRow}
 use Rattle.figures.specs.Figure.{conditionCount}
 use Rattle.figures.proofs.Figures.{condition-bound}
@@ -16,8 +8,8 @@ use Rattle.pass_rules.specs.FirstPass.{limitOf, givenRows, misclosuresOf}
 use Rattle.pass_rules.specs.Promises.{FirstLent, firstLent, firstSlices}
 use Rattle.pass_first.specs.Steps.{workLent, workLengths}
 use Rattle.pass_first.proofs.FirstPromised.{workOf, refused-before, length-at, small-angles, small-fixed, refused-misclosure, small-misclosures, by-results}
-use Rattle.whole.proofs.Lending.{lent-length, part-again, still-few, again-length}
 use Rattle.pass_first.proofs.first.first_pass_of.Statement.{statement}
+use Rattle.whole.proofs.Lending.{lent-length, part-again, still-few, again-length}
 use Rattle.pass_first.proofs.first.first_pass_of.Tie as tie
 
 abbrev entry : tie.Start → FirstLent
@@ -144,30 +136,10 @@ returns-3 c =
 
 pub first-pass-of-spec : {M : Type 1} → statement M
 first-pass-of-spec =
-    tie.close
-    (tie.spec
-    (λ c κs. tt)
-    (λ c. c .match .keys1)
-    returns
-    (λ c. c .match .keys2)
-    (λ c. few c)
-    (λ c. lent (c .before))
-    misclosures-into-requires
-    (λ c. share (c .before))
-    (λ c. aggregate (c .before .before))
-    (λ c κs. tt)
-    (λ c κs. tt)
-    (λ c. c .match2 .keys1)
-    returns-2
-    (λ c. c .match2 .keys2)
-    (λ c. share (c .before .before .before .before .before .before))
-    (λ c. aggregate (c .before .before .before .before .before .before .before))
-    first-corrected-requires
-    (λ c κs. tt)
-    (λ c. corrected c .first-corrected .kept .1 .1 .1 .0)
-    (λ c. corrected c .first-corrected .kept .1 .1 .1 .1 .0)
-    (λ c. corrected c .first-corrected .kept .1 .1 .1 .1 .1 .0)
-    (λ c. corrected c .first-corrected .kept .1 .1 .1 .1 .1 .1 .0)
-    (λ c. c .before .before .store-rounds .kept .1 .1 .0)
-    (λ c. corrected c .first-corrected .kept .1 .1 .1 .1 .1 .1 .1 .0)
-    returns-3)
+    tie.close (tie.spec (λ c κs. tt) (λ c. c .match .keys1) returns (λ c. c .match .keys2) (λ c. few c) (λ c. lent (c .before))
+    misclosures-into-requires (λ c. share (c .before)) (λ c. aggregate (c .before .before)) (λ c κs. tt) (λ c κs. tt)
+    (λ c. c .match2 .keys1) returns-2 (λ c. c .match2 .keys2) (λ c. share (c .before .before .before .before .before .before))
+    (λ c. aggregate (c .before .before .before .before .before .before .before)) first-corrected-requires (λ c κs. tt)
+    (λ c. corrected c .first-corrected .kept .1 .1 .1 .0) (λ c. corrected c .first-corrected .kept .1 .1 .1 .1 .0)
+    (λ c. corrected c .first-corrected .kept .1 .1 .1 .1 .1 .0) (λ c. corrected c .first-corrected .kept .1 .1 .1 .1 .1 .1 .0)
+    (λ c. c .before .before .store-rounds .kept .1 .1 .0) (λ c. corrected c .first-corrected .kept .1 .1 .1 .1 .1 .1 .1 .0) returns-3)

@@ -1,14 +1,6 @@
 -- `pass_first::misclosures::less_targets` meets its contract. The invariant: the misclosures passed are worked over, and the sums after
 -- them as they were.
-use mathlib.Core.Path.{_≡_, ap₂, _∙_}
-use Prim.Native.Nat.{ℕ, suc, _-_}
-use native.Mathlib.Nat.{le-refl}
-use native.Mathlib.Omega.{arith}
-use denote.Ref.{now}
-use lib.IntN.{ℤ, pos, _-ℤ_}
-use mir.Syntax.{w32}
-use mir.Val.{SFits, toZ, ofZ}
-use mir.ValLaws.{toZ-ofZ}
+use Rattle.vocabulary.specs.{_≡_, ap₂, _∙_, ℕ, suc, _-_, le-refl, arith, now, ℤ, pos, _-ℤ_, w32, SFits, toZ, ofZ, toZ-ofZ-at}
 use Rattle.whole.specs.Sums.{vector}
 use Rattle.whole.proofs.Lists.{Replaced, replaced-none, replaced-more, filled-all}
 use Rattle.whole.proofs.Magnitudes.{natAbs-sub, magnitude-fits}
@@ -23,9 +15,6 @@ Inv-loop f fixed w₀ j₀ w j = Replaced (pos 0) (conditionCount f) (λ k. vect
 
 abbrev μ-loop : tie.MeasureT-loop
 μ-loop f fixed w₀ j₀ w j = conditionCount f - j
-
-loop-holds : tie.Need-loop-holds Inv-loop μ-loop
-loop-holds c = replaced-none _ _ _ _ (c .before .pre .1 .0)
 
 should-be-requires : tie.Need-should-be-requires Inv-loop μ-loop
 should-be-requires c κs =
@@ -50,8 +39,8 @@ module _ (c : tie.After-should-be Inv-loop μ-loop) where
 
   both : toZ w32 (ofZ w32 (vector (at .loop .w) j)) -ℤ toZ w32 (ofZ w32 (c .should-be .result)) ≡ total -ℤ target
   both =
-      ap₂ _-ℤ_ (toZ-ofZ w32 (vector (at .loop .w) j) (record { sfits = c .before .w .given }) ∙ at .loop .inv .left j (le-refl j))
-      (toZ-ofZ w32 (c .should-be .result) (record { sfits = c .should-be .ok }) ∙ c .should-be .ensures)
+      ap₂ _-ℤ_ (toZ-ofZ-at w32 (vector (at .loop .w) j) (record { sfits = c .before .w .given }) ∙ at .loop .inv .left j (le-refl j))
+      (toZ-ofZ-at w32 (c .should-be .result) (record { sfits = c .should-be .ok }) ∙ c .should-be .ensures)
 
   fits : SFits w32 (total -ℤ target)
   fits =
@@ -62,30 +51,9 @@ module _ (c : tie.After-should-be Inv-loop μ-loop) where
         target-small (now (start .args .fixed)) (start .pre .1 .1 .1) (targetOf (start .args .figure) (suc j)),
       ))
 
-sub-w : tie.Need-sub-w Inv-loop μ-loop
-sub-w c = rw (both c) (fits c)
-
-loop-again : tie.Need-loop-again Inv-loop μ-loop
-loop-again c = replaced-more (at c .loop .inv) (omega arith) (rw (both c) (toZ-ofZ w32 _ (fits c)))
-
-returns : tie.Need-returns Inv-loop μ-loop
-returns c = filled-all (c .before .loop .inv .filled) (omega arith)
-
 pub less-targets-spec : {M : Type 1} → statement M
 less-targets-spec =
-    tie.close
-    (tie.spec
-    Inv-loop
-    μ-loop
-    loop-holds
-    (λ c. omega arith)
-    (λ c. omega arith)
-    should-be-requires
-    sub-w
-    (λ c. omega arith)
-    (λ c. omega arith)
-    (λ c. omega arith)
-    (λ c. omega arith)
-    loop-again
-    (λ c. omega arith)
-    returns)
+    tie.close (tie.spec Inv-loop μ-loop (λ c. replaced-none _ _ _ _ (c .before .pre .1 .0)) (λ c. omega arith) (λ c. omega arith)
+    should-be-requires (λ c. rw (both c) (fits c)) (λ c. omega arith) (λ c. omega arith) (λ c. omega arith) (λ c. omega arith)
+    (λ c. replaced-more (at c .loop .inv) (omega arith) (rw (both c) (toZ-ofZ-at w32 _ (fits c)))) (λ c. omega arith)
+    (λ c. filled-all (c .before .loop .inv .filled) (omega arith)))

@@ -1,35 +1,19 @@
 -- `pass_first::misclosures::misclosures_into` meets its contract: the sums of the angles as they were given, less what they should be.
-use mathlib.Core.Path.{_≡_, refl, sym, ap, _∙_}
-use mathlib.Core.List.{List, _++_}
-use Prim.Native.Nat.{ℕ, suc, _≤_}
-use native.Mathlib.Omega.{arith}
-use borrow.Author.Needs.{needs}
-use denote.Ref.{now}
-use lib.IntN.{ℤ, pos, _-ℤ_}
-use lib.ListN.{length, take, drop, replicate}
-use Rattle.whole.specs.Lists.{listed}
-use Rattle.whole.specs.Sums.{vector}
-use Rattle.whole.proofs.Lists.{listed-ext}
-use Rattle.figures.specs.declared.Figure.{Figure}
-use Rattle.figures.specs.Figure.{angleCount, conditionCount, targetOf}
-use Rattle.figures.specs.Numerators.{conditionSum}
+use Rattle.vocabulary.specs.{_≡_, refl, sym, ap, _∙_, List, _++_, ℕ, suc, _≤_, arith, needs, now, ℤ, pos, _-ℤ_, length, take, drop}
+use Rattle.vocabulary.specs.{replicate}
+use Rattle.whole.specs.{Lists.listed, Sums.vector}
+use Rattle.whole.proofs.{Lists.listed-ext, Lending.lent-length, Lending.part-again, Lending.still-few, Lending.again-length}
+use Rattle.figures.specs.{declared.Figure.Figure, Figure.angleCount, Figure.conditionCount, Figure.targetOf, Numerators.conditionSum}
 use Rattle.figures.proofs.Figures.{angle-bound}
-use Rattle.pass_rules.specs.FirstPass.{shouldBe, misclosure, misclosuresOf}
-use Rattle.pass_rules.specs.Pass.{given}
+use Rattle.pass_rules.specs.{FirstPass.shouldBe, FirstPass.misclosure, FirstPass.misclosuresOf, Pass.given}
 use Rattle.pass_steps.specs.Premises.{Within, mostSummed}
 use Rattle.pass_steps.proofs.Held.{totals-within, sums-are}
-use Rattle.whole.proofs.Lending.{lent-length, part-again, still-few, again-length}
 use Rattle.pass_steps.proofs.StepLaws.{listed-at, listed-within, listed-after, length-of, condition-ext}
 use Rattle.pass_first.proofs.misclosures.misclosures_into.Statement.{statement}
 use Rattle.pass_first.proofs.misclosures.misclosures_into.Tie as tie
 
 few : (s : tie.Start) → length (now (s .args .angles)) ≤ 24
 few s = omega (arith, s .pre .0, angle-bound (s .args .figure))
-
-signed-into-requires : tie.Need-signed-into-requires
-signed-into-requires c κs =
-    let start = c .before .before .before in
-    (sym (lent-length _ (replicate 24 (pos 0)) (few start)), start .pre .1 .1 .1 .0)
 
 -- the angles as signed numbers, where they were lent
 module _ (c : tie.After-signed-into) where
@@ -91,14 +75,7 @@ returns c =
 
 pub misclosures-into-spec : {M : Type 1} → statement M
 misclosures-into-spec =
-    tie.close
-    (tie.spec
-    (λ c. few (c .before .before))
-    (λ c. lent-length _ (replicate 24 (pos 0)) (few (c .before .before .before)))
-    signed-into-requires
+    tie.close (tie.spec (λ c. few (c .before .before)) (λ c. lent-length _ (replicate 24 (pos 0)) (few (c .before .before .before)))
+    (λ c κs. let start = c .before .before .before in (sym (lent-length _ (replicate 24 (pos 0)) (few start)), start .pre .1 .1 .1 .0))
     (λ c. let s = c .before in still-few (length (angles s)) (replicate 24 (pos 0)) (few (start s)) (part s) (s .signed-into .kept .1 .0))
-    (λ c. again-size (c .before .before))
-    (λ c κs. tt)
-    less-targets-requires
-    (λ c. search needs)
-    returns)
+    (λ c. again-size (c .before .before)) (λ c κs. tt) less-targets-requires (λ c. search needs) returns)

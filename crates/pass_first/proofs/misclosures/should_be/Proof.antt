@@ -1,17 +1,6 @@
 -- `pass_first::misclosures::should_be` meets its contract: the targets of each family.
-use mathlib.Core.Path.{_≡_, sym, ap, _∙_, subst}
-use mathlib.Core.List.{List}
-use Prim.Native.Nat.{ℕ, suc, _+_, _-_, _≤_, _<_}
-use native.Mathlib.Omega.{arith}
-use borrow.Author.Needs.{needs}
-use denote.Ref.{now}
-use lib.Dec.{T}
-use lib.ListN.{length}
-use mir.Syntax.{w32}
-use mir.Facts.{toZ-pos}
-use Rattle.figures.specs.declared.Figure.{Figure}
-use Rattle.figures.specs.declared.Figure.the-variants.{Quadrilateral}
-use Rattle.figures.specs.declared.Target.{Target}
+use Rattle.vocabulary.specs.{_≡_, sym, ap, _∙_, subst, List, ℕ, suc, _+_, _-_, _≤_, _<_, arith, needs, now, T, length, w32, toZ-pos}
+use Rattle.figures.specs.{declared.Figure.Figure, declared.Figure.the-variants.Quadrilateral, declared.Target.Target}
 use Rattle.figures.specs.declared.Target.the-variants.{HalfTurn, FullTurn, FixedAngle}
 use Rattle.figures.specs.Figure.{description, targetOf, conditionCount, fixedCount}
 use Rattle.figures.proofs.Families.{isPointInside, isPolygon, point-inside, polygon, quadrilateral-target, triangle-target}
@@ -102,16 +91,5 @@ returns-5 c =
 
 pub should-be-spec : {M : Type 1} → statement M
 should-be-spec =
-    tie.close
-    (tie.spec
-    (λ c. search needs)
-    (λ c. omega arith)
-    (λ c. omega (arith, few c))
-    (λ c. few (c .before))
-    cast-result
-    (λ c. search needs)
-    returns
-    returns-2
-    returns-3
-    returns-4
-    returns-5)
+    tie.close (tie.spec (λ c. search needs) (λ c. omega arith) (λ c. omega (arith, few c)) (λ c. few (c .before)) cast-result
+    (λ c. search needs) returns returns-2 returns-3 returns-4 returns-5)

@@ -1,18 +1,7 @@
 -- `pass_first::quotients::over` meets its contract. The invariant: the quotients passed are filled in; none is greater than its numerator.
-use mathlib.Core.Path.{_≡_, ap, _∙_}
-use Prim.Native.Nat.{ℕ, _-_, _≤_}
-use native.Mathlib.Nat.{le-trans}
-use native.Mathlib.Omega.{arith}
-use borrow.Author.Needs.{needs}
-use denote.Ref.{now}
-use lib.IntN.{ℤ, natAbs}
-use lib.ListN.{length}
-use mir.Syntax.{w32, w64}
-use mir.Val.{SFits}
-use Rattle.whole.specs.Quotient.{roundedQuotient}
-use Rattle.whole.specs.Sums.{vector}
-use Rattle.whole.proofs.Lists.{Filled, filled-none, filled-more, filled-all}
-use Rattle.whole.proofs.Magnitudes.{widened, widens}
+use Rattle.vocabulary.specs.{_≡_, ap, _∙_, ℕ, _-_, _≤_, le-trans, arith, needs, now, ℤ, natAbs, length, w32, w64, SFits}
+use Rattle.whole.specs.{Quotient.roundedQuotient, Sums.vector}
+use Rattle.whole.proofs.{Lists.Filled, Lists.filled-none, Lists.filled-more, Lists.filled-all, Magnitudes.widened, Magnitudes.widens}
 use Rattle.whole.proofs.Quotient.{rounded-within}
 use Rattle.pass_steps.specs.Premises.{mostRounded}
 use Rattle.pass_steps.proofs.Narrowing.{narrow-fits, narrowed}
@@ -24,9 +13,6 @@ Inv-loop divisor numerators rounded₀ i₀ rounded i = Filled (length numerator
 
 abbrev μ-loop : tie.MeasureT-loop
 μ-loop divisor numerators rounded₀ i₀ rounded i = length numerators - i
-
-loop-holds : tie.Need-loop-holds Inv-loop μ-loop
-loop-holds c = filled-none _ _ _ (c .pre .0)
 
 cast-rounded-quotient : tie.Need-cast-rounded-quotient Inv-loop μ-loop
 cast-rounded-quotient c =
@@ -50,28 +36,9 @@ module _ (c : tie.After-rounded-quotient Inv-loop μ-loop) where
   small : natAbs (roundedQuotient numerator divisor) ≤ mostRounded
   small = le-trans (rounded-within numerator divisor) (c .before .before .before .before .pre .1 (c .before .before .before .loop .i))
 
-loop-again : tie.Need-loop-again Inv-loop μ-loop
-loop-again c = filled-more (c .before .before .before .loop .inv) (omega arith) (narrowed _ _ (fits c) (exact c) (small c))
-
-returns : tie.Need-returns Inv-loop μ-loop
-returns c = filled-all (c .before .loop .inv) (omega arith)
-
 pub over-spec : {M : Type 1} → statement M
 over-spec =
-    tie.close
-    (tie.spec
-    Inv-loop
-    μ-loop
-    loop-holds
-    (λ c. omega arith)
-    (λ c. omega arith)
-    cast-rounded-quotient
-    (λ c κs. search needs)
-    (λ c. narrow-fits _ _ (fits c) (exact c) (small c))
-    (λ c. omega arith)
-    (λ c. omega arith)
-    (λ c. omega arith)
-    (λ c. omega arith)
-    loop-again
-    (λ c. omega arith)
-    returns)
+    tie.close (tie.spec Inv-loop μ-loop (λ c. filled-none _ _ _ (c .pre .0)) (λ c. omega arith) (λ c. omega arith) cast-rounded-quotient
+    (λ c κs. search needs) (λ c. narrow-fits _ _ (fits c) (exact c) (small c)) (λ c. omega arith) (λ c. omega arith) (λ c. omega arith)
+    (λ c. omega arith) (λ c. filled-more (c .before .before .before .loop .inv) (omega arith) (narrowed _ _ (fits c) (exact c) (small c)))
+    (λ c. omega arith) (λ c. filled-all (c .before .loop .inv) (omega arith)))

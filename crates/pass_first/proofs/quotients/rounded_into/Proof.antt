@@ -1,15 +1,7 @@
 -- `pass_first::quotients::rounded_into` meets its contract: each figure's denominator is its type's.
-use mathlib.Core.Path.{_≡_, sym, ap, _∙_}
-use mathlib.Core.List.{List}
-use borrow.Author.Needs.{needs}
-use denote.Ref.{now}
-use lib.IntN.{ℤ}
-use lib.ListN.{length}
-use Rattle.whole.specs.Lists.{listed}
-use Rattle.whole.specs.Quotient.{roundedQuotient}
-use Rattle.whole.specs.Sums.{vector}
-use Rattle.figures.specs.declared.Figure.{Figure}
-use Rattle.figures.specs.Figure.{denominator}
+use Rattle.vocabulary.specs.{_≡_, sym, ap, _∙_, List, needs, now, ℤ, length}
+use Rattle.whole.specs.{Lists.listed, Quotient.roundedQuotient, Sums.vector}
+use Rattle.figures.specs.{declared.Figure.Figure, Figure.denominator}
 use Rattle.pass_first.proofs.quotients.rounded_into.Statement.{statement}
 use Rattle.pass_first.proofs.quotients.rounded_into.Tie as tie
 
@@ -20,36 +12,13 @@ by f g numerators rounded told e = e ∙ ap (λ (h : Figure). listed (length num
 
 pub rounded-into-spec : {M : Type 1} → statement M
 rounded-into-spec =
-    tie.close
-    (tie.spec
-    (λ c. search needs)
-    (λ c. search needs)
-    (λ c κs. c .before .before .before .pre)
-    (λ c. search needs)
-    (λ c. search needs)
-    (λ c κs. c .before .before .before .pre)
-    (λ c. search needs)
-    (λ c. search needs)
-    (λ c κs. c .before .before .before .pre)
-    (λ c. search needs)
-    (λ c. search needs)
-    (λ c κs. c .before .before .before .pre)
-    (λ c. search needs)
-    (λ c. search needs)
-    (λ c κs. c .before .before .before .pre)
-    (λ c. search needs)
-    (λ c. search needs)
-    (λ c κs. c .before .before .before .pre)
-    (λ c. search needs)
-    (λ c. search needs)
-    (λ c κs. c .before .before .before .pre)
-    (λ c. search needs)
-    (λ c. search needs)
-    (λ c κs. c .before .before .before .pre)
-    (λ c. search needs)
-    (λ c. search needs)
-    (λ c κs. c .before .before .before .pre)
-    (λ c. search needs)
+    tie.close (tie.spec (λ c. search needs) (λ c. search needs) (λ c κs. c .before .before .before .pre) (λ c. search needs)
+    (λ c. search needs) (λ c κs. c .before .before .before .pre) (λ c. search needs) (λ c. search needs)
+    (λ c κs. c .before .before .before .pre) (λ c. search needs) (λ c. search needs) (λ c κs. c .before .before .before .pre)
+    (λ c. search needs) (λ c. search needs) (λ c κs. c .before .before .before .pre) (λ c. search needs) (λ c. search needs)
+    (λ c κs. c .before .before .before .pre) (λ c. search needs) (λ c. search needs) (λ c κs. c .before .before .before .pre)
+    (λ c. search needs) (λ c. search needs) (λ c κs. c .before .before .before .pre) (λ c. search needs) (λ c. search needs)
+    (λ c κs. c .before .before .before .pre) (λ c. search needs)
     (λ c. by _ Figure.Quadrilateral (now (c .before .before .before .before .before .args .numerators)) _ (c .before .before .before .enum-told .given .1) (c .before .over .ensures))
     (λ c. search needs)
     (λ c. by _ Figure.PointInTriangle (now (c .before .before .before .before .before .args .numerators)) _ (c .before .before .before .enum-told2 .given .1) (c .before .over2 .ensures))

@@ -1,12 +1,6 @@
 -- `pass_rules::first::first_given_verdict` meets its contract: the rows in their order, each by its own promise.
-use mathlib.Core.List.{List, _∷_}
-use mathlib.Core.Path.{_≡_, ap₂, _∙_}
-use Prim.Native.Nat.{ℕ}
-use borrow.Author.Needs.{needs}
-use denote.Ref.{now}
-use lib.ListN.{length}
-use Rattle.refusals.specs.Order.{verdictOf}
-use Rattle.refusals.specs.Ranges.{mostLimit, mostRounds}
+use Rattle.vocabulary.specs.{List, _∷_, _≡_, ap₂, _∙_, ℕ, needs, now, length}
+use Rattle.refusals.specs.{Order.verdictOf, Ranges.mostLimit, Ranges.mostRounds}
 use Rattle.refusals.specs.Table.{lengthsRow, limitOrToleranceRow, anglesRow, roundsRow, fixedRow, fixedSumRow}
 use Rattle.refusals.proofs.InSteps.{last-row, next-row}
 use Rattle.figures.specs.declared.Counts.{Counts}
@@ -42,23 +36,7 @@ returns c =
 
 pub first-given-verdict-spec : {M : Type 1} → statement M
 first-given-verdict-spec =
-    tie.close
-    (tie.spec
-    (λ c κs. search needs)
-    (λ c κs. search needs)
-    (λ c κs. search needs)
-    (λ c κs. search needs)
-    (λ c. search needs)
-    (λ c. search needs)
-    (λ c κs. search needs)
-    (λ c κs. search needs)
-    (λ c κs. search needs)
-    (λ c κs. search needs)
-    (λ c κs. search needs)
-    (λ c κs. search needs)
-    (λ c κs. search needs)
-    (λ c κs. search needs)
-    (λ c κs. search needs)
-    (λ c κs. search needs)
-    (λ c κs. search needs)
-    returns)
+    tie.close (tie.spec (λ c κs. search needs) (λ c κs. search needs) (λ c κs. search needs) (λ c κs. search needs) (λ c. search needs)
+    (λ c. search needs) (λ c κs. search needs) (λ c κs. search needs) (λ c κs. search needs) (λ c κs. search needs) (λ c κs. search needs)
+    (λ c κs. search needs) (λ c κs. search needs) (λ c κs. search needs) (λ c κs. search needs) (λ c κs. search needs)
+    (λ c κs. search needs) returns)

@@ -1,9 +1,5 @@
 -- `pass_rules::first::first_lengths` meets its contract: the results' lengths one by one.
-use mathlib.Core.List.{List, _∷_}
-use mathlib.Core.Path.{ap}
-use Prim.Native.Nat.{ℕ}
-use native.Mathlib.Omega.{arith}
-use borrow.Author.Needs.{needs}
+use Rattle.vocabulary.specs.{List, _∷_, ap, ℕ, arith, needs}
 use Rattle.whole.specs.Lists.{listed}
 use Rattle.pass_rules.proofs.ResultLengths.{one-by-one}
 use Rattle.pass_rules.proofs.first.first_lengths.Statement.{statement}
@@ -17,5 +13,5 @@ returns c =
 
 pub first-lengths-spec : {M : Type 1} → statement M
 first-lengths-spec =
-    tie.close
-    (tie.spec (λ c. search needs) (λ c. search needs) (λ c. search needs) (λ c. search needs) (λ c. search needs) (λ c. search needs) returns)
+    tie.close (tie.spec (λ c. search needs) (λ c. search needs) (λ c. search needs) (λ c. search needs) (λ c. search needs)
+    (λ c. search needs) returns)

@@ -1,12 +1,6 @@
 -- `pass_rules::second::second_given_verdict` meets its contract: the rows in their order, each by its own promise.
-use mathlib.Core.List.{List, _∷_, _++_}
-use mathlib.Core.Path.{_≡_, ap₂, _∙_}
-use Prim.Native.Nat.{ℕ}
-use borrow.Author.Needs.{needs}
-use denote.Ref.{now}
-use lib.ListN.{length}
-use Rattle.refusals.specs.Order.{verdictOf}
-use Rattle.refusals.specs.Ranges.{mostTolerance, mostRounds}
+use Rattle.vocabulary.specs.{List, _∷_, _++_, _≡_, ap₂, _∙_, ℕ, needs, now, length}
+use Rattle.refusals.specs.{Order.verdictOf, Ranges.mostTolerance, Ranges.mostRounds}
 use Rattle.refusals.specs.Table.{lengthsRow, limitOrToleranceRow, anglesRow, roundsRow, sineEntriesRow}
 use Rattle.refusals.proofs.InSteps.{last-row, next-row}
 use Rattle.figures.specs.declared.Counts.{Counts}
@@ -40,21 +34,6 @@ returns c =
 
 pub second-given-verdict-spec : {M : Type 1} → statement M
 second-given-verdict-spec =
-    tie.close
-    (tie.spec
-    (λ c κs. search needs)
-    (λ c κs. search needs)
-    (λ c κs. search needs)
-    (λ c κs. search needs)
-    (λ c. search needs)
-    (λ c. search needs)
-    (λ c κs. search needs)
-    (λ c κs. search needs)
-    (λ c κs. search needs)
-    (λ c κs. search needs)
-    (λ c κs. search needs)
-    (λ c κs. search needs)
-    (λ c κs. search needs)
-    (λ c κs. search needs)
-    (λ c κs. search needs)
-    returns)
+    tie.close (tie.spec (λ c κs. search needs) (λ c κs. search needs) (λ c κs. search needs) (λ c κs. search needs) (λ c. search needs)
+    (λ c. search needs) (λ c κs. search needs) (λ c κs. search needs) (λ c κs. search needs) (λ c κs. search needs) (λ c κs. search needs)
+    (λ c κs. search needs) (λ c κs. search needs) (λ c κs. search needs) (λ c κs. search needs) returns)

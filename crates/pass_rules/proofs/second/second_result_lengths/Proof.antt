@@ -1,10 +1,5 @@
 -- `pass_rules::second::second_result_lengths` meets its contract: the figure's counts, as the slices of the second pass stand.
-use mathlib.Core.Bool.{cond}
-use mathlib.Core.Path.{ap, ap₂, _∙_}
-use mathlib.Core.List.{[], _∷_}
-use Prim.Native.Nat.{ℕ}
-use borrow.Author.Needs.{needs}
-use lib.Dec.{eqb}
+use Rattle.vocabulary.specs.{cond, ap, ap₂, _∙_, [], _∷_, ℕ, needs, eqb}
 use Rattle.figures.specs.declared.Counts.{Counts}
 use Rattle.pass_rules.proofs.SideCounts.{side-reduced-count}
 use Rattle.pass_rules.proofs.second.second_result_lengths.Statement.{statement}

@@ -1,30 +1,18 @@
 -- `pass_second::corrections::second_corrected` meets its contract: number 7 is asked of the results, and everything is stored where it
 -- passes.
-use mathlib.Core.Bool.{Bool, cond}
-use mathlib.Core.Path.{_≡_, sym, ap, _∙_}
-use mathlib.Core.List.{List, [], _∷_, _++_}
-use Prim.Native.Nat.{ℕ, _≤_}
-use native.Mathlib.Omega.{arith}
-use denote.Ref.{now}
-use lib.IntN.{ℤ, pos}
-use lib.ListN.{length, getD, take, drop, replicate}
-use Rattle.whole.specs.Lists.{listed}
-use Rattle.whole.specs.Sums.{vector}
-use Rattle.refusals.specs.declared.Verdict.{Verdict}
-use Rattle.refusals.specs.Order.{verdictOf, judged}
-use Rattle.refusals.specs.Table.{lengthsRow, resultsRow}
+use Rattle.vocabulary.specs.{Bool, cond, _≡_, sym, ap, _∙_, List, [], _∷_, _++_, ℕ, _≤_, arith, now, ℤ, pos, length, getD, take, drop}
+use Rattle.vocabulary.specs.{replicate}
+use Rattle.whole.specs.{Lists.listed, Sums.vector}
+use Rattle.refusals.specs.{declared.Verdict.Verdict, Order.verdictOf, Order.judged, Table.lengthsRow, Table.resultsRow}
 use Rattle.judging.specs.Searches.{resultsOf}
-use Rattle.figures.specs.declared.Counts.{Counts}
-use Rattle.figures.specs.declared.Figure.{Figure}
-use Rattle.figures.specs.Figure.{denominator, angleCount, conditionCount}
+use Rattle.figures.specs.{declared.Counts.Counts, declared.Figure.Figure, Figure.denominator, Figure.angleCount, Figure.conditionCount}
 use Rattle.figures.specs.Numerators.{conditionSum}
 use Rattle.figures.proofs.Figures.{angle-bound, side-some}
 use Rattle.pass_steps.specs.Steps.{resultsRows, resultsFrom}
 use Rattle.pass_steps.proofs.Judged.{lengths-pass, first-passes, kept, written, taken}
 use Rattle.whole.proofs.Lending.{lent-length, part-again, still-few, again-length}
 use Rattle.pass_second.specs.Steps.{highsFrom, lowsFrom, tenthsFrom, SecondWork, secondWork, workLent, workLengths, secondFrom}
-use Rattle.pass_second.proofs.Passed.{passed-small}
-use Rattle.pass_second.proofs.SineBounds.{denominator-bound}
+use Rattle.pass_second.proofs.{Passed.passed-small, SineBounds.denominator-bound}
 use Rattle.pass_second.proofs.corrections.second_corrected.Statement.{statement}
 use Rattle.pass_second.proofs.corrections.second_corrected.Tie as tie
 
@@ -240,35 +228,22 @@ returns-2 c =
 
 pub second-corrected-spec : {M : Type 1} → statement M
 second-corrected-spec =
-    tie.close
-    (tie.spec
-    (λ c κs. tt)
-    (λ c. few (c .before .before .before .before))
+    tie.close (tie.spec (λ c κs. tt) (λ c. few (c .before .before .before .before))
     (λ c. lent-length _ (replicate 24 (pos 0)) (few (c .before .before .before .before .before)))
     (λ c. few (c .before .before .before .before .before))
     (λ c. lent-length _ noWords (few (c .before .before .before .before .before .before)))
     (λ c. few (c .before .before .before .before .before .before))
-    (λ c. lent-length _ (replicate 24 (pos 0)) (few (c .before .before .before .before .before .before .before)))
-    corrections-into-requires
+    (λ c. lent-length _ (replicate 24 (pos 0)) (few (c .before .before .before .before .before .before .before))) corrections-into-requires
     (λ c. let k = c .before .before .before in share k (tenthsPart k) (tenths-kept k))
-    (λ c. let k = c .before .before .before .before in aggregate k (tenthsPart k) (tenths-kept k))
-    (λ c κs. tt)
-    (λ c. c .match .keys1)
+    (λ c. let k = c .before .before .before .before in aggregate k (tenthsPart k) (tenths-kept k)) (λ c κs. tt) (λ c. c .match .keys1)
     (λ c. let k = c .before .before .before .before .before .before .before .before .before .before in share k (highPart k) (high-kept k))
     (λ c. let k = c .before .before .before .before .before .before .before .before .before .before .before in aggregate k (highPart k) (high-kept k))
     (λ c. share-words (c .before .before .before .before .before .before .before .before .before .before .before))
     (λ c. aggregate-words (c .before .before .before .before .before .before .before .before .before .before .before .before))
     (λ c. let k = c .before .before .before .before .before .before .before .before .before .before .before .before in share k (tenthsPart k) (tenths-kept k))
     (λ c. let k = c .before .before .before .before .before .before .before .before .before .before .before .before .before in aggregate k (tenthsPart k) (tenths-kept k))
-    store-second-requires
-    (λ c. c .match .keys2)
-    (λ c. stores c .store-second .kept .1 .1 .1 .1 .1 .1 .0)
-    (λ c. stores c .store-second .kept .1 .1 .1 .1 .1 .1 .1 .0)
-    (λ c. stores c .store-second .kept .1 .1 .1 .1 .1 .1 .1 .1 .0)
-    (λ c. stores c .store-second .kept .1 .1 .1 .1 .1 .1 .1 .1 .1 .0)
-    (λ c. stores c .store-second .kept .1 .1 .1 .1 .1 .1 .1 .1 .1 .1 .0)
-    (λ c. results c .results-into .kept .1 .1 .0)
-    (λ c. stores c .store-second .kept .1 .1 .1 .1 .1 .1 .1 .1 .1 .1 .1 .0)
-    returns
-    (λ c. c .before .before .before .before .results-into .kept .1 .1 .0)
-    returns-2)
+    store-second-requires (λ c. c .match .keys2) (λ c. stores c .store-second .kept .1 .1 .1 .1 .1 .1 .0)
+    (λ c. stores c .store-second .kept .1 .1 .1 .1 .1 .1 .1 .0) (λ c. stores c .store-second .kept .1 .1 .1 .1 .1 .1 .1 .1 .0)
+    (λ c. stores c .store-second .kept .1 .1 .1 .1 .1 .1 .1 .1 .1 .0) (λ c. stores c .store-second .kept .1 .1 .1 .1 .1 .1 .1 .1 .1 .1 .0)
+    (λ c. results c .results-into .kept .1 .1 .0) (λ c. stores c .store-second .kept .1 .1 .1 .1 .1 .1 .1 .1 .1 .1 .1 .0) returns
+    (λ c. c .before .before .before .before .results-into .kept .1 .1 .0) returns-2)

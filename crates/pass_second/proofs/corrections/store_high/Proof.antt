@@ -1,10 +1,5 @@
 -- `pass_second::corrections::store_high` meets its contract. The invariant: the places passed hold the numbers.
-use mathlib.Core.Path.{_∙_}
-use Prim.Native.Nat.{_-_}
-use native.Mathlib.Omega.{arith}
-use lib.IntN.{pos}
-use lib.ListN.{length}
-use mir.Facts.{toZ-ofZ}
+use Rattle.vocabulary.specs.{_∙_, _-_, arith, pos, length, toZ-ofZ}
 use Rattle.whole.specs.Sums.{vector}
 use Rattle.whole.proofs.Lists.{Filled, filled-none, filled-more, filled-all, listed-getD}
 use Rattle.pass_second.proofs.corrections.store_high.Statement.{statement}
@@ -16,28 +11,9 @@ Inv-loop x lent₀ i₀ lent i = Filled (length x) (vector x) i lent
 abbrev μ-loop : tie.MeasureT-loop
 μ-loop x lent₀ i₀ lent i = length x - i
 
-loop-holds : tie.Need-loop-holds Inv-loop μ-loop
-loop-holds c = filled-none _ _ _ (c .pre)
-
-loop-again : tie.Need-loop-again Inv-loop μ-loop
-loop-again c = filled-more (c .before .before .loop .inv) (omega arith) (toZ-ofZ (record { sfits = c .lent .given }))
-
-returns : tie.Need-returns Inv-loop μ-loop
-returns c = filled-all (c .before .loop .inv) (omega arith) ∙ listed-getD (pos 0) _
-
 pub store-high-spec : {M : Type 1} → statement M
 store-high-spec =
-    tie.close
-    (tie.spec
-    Inv-loop
-    μ-loop
-    loop-holds
-    (λ c. omega arith)
-    (λ c. omega arith)
-    (λ c. omega arith)
-    (λ c. omega arith)
-    (λ c. omega arith)
-    (λ c. omega arith)
-    loop-again
-    (λ c. omega arith)
-    returns)
+    tie.close (tie.spec Inv-loop μ-loop (λ c. filled-none _ _ _ (c .pre)) (λ c. omega arith) (λ c. omega arith) (λ c. omega arith)
+    (λ c. omega arith) (λ c. omega arith) (λ c. omega arith)
+    (λ c. filled-more (c .before .before .loop .inv) (omega arith) (toZ-ofZ (record { sfits = c .lent .given }))) (λ c. omega arith)
+    (λ c. filled-all (c .before .loop .inv) (omega arith) ∙ listed-getD (pos 0) _))

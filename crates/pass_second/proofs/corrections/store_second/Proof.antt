@@ -1,9 +1,6 @@
 -- `pass_second::corrections::store_second` meets its contract: each slice has the length of what it is to hold.
-use mathlib.Core.Path.{refl, sym, _∙_}
-use borrow.Author.Needs.{needs}
-use denote.Ref.{now}
-use Rattle.pass_steps.proofs.Fitting.{copied}
-use Rattle.pass_steps.proofs.Held.{sums-are}
+use Rattle.vocabulary.specs.{refl, sym, _∙_, needs, now}
+use Rattle.pass_steps.proofs.{Fitting.copied, Held.sums-are}
 use Rattle.pass_second.proofs.corrections.store_second.Statement.{statement}
 use Rattle.pass_second.proofs.corrections.store_second.Tie as tie
 
@@ -29,18 +26,6 @@ returns c =
 
 pub store-second-spec : {M : Type 1} → statement M
 store-second-spec =
-    tie.close
-    (tie.spec
-    (λ c κs. search needs)
-    (λ c κs. search needs)
-    (λ c κs. search needs)
-    (λ c κs. search needs)
-    (λ c κs. search needs)
-    (λ c κs. search needs)
-    (λ c. search needs)
-    (λ c. search needs)
-    (λ c. search needs)
-    (λ c. search needs)
-    (λ c. search needs)
-    (λ c. search needs)
-    returns)
+    tie.close (tie.spec (λ c κs. search needs) (λ c κs. search needs) (λ c κs. search needs) (λ c κs. search needs) (λ c κs. search needs)
+    (λ c κs. search needs) (λ c. search needs) (λ c. search needs) (λ c. search needs) (λ c. search needs) (λ c. search needs)
+    (λ c. search needs) returns)

@@ -1,11 +1,5 @@
 -- `pass_second::corrections::store_wide` meets its contract. The invariant: the places passed hold the numbers.
-use mathlib.Core.Path.{_∙_}
-use Prim.Native.Nat.{_-_}
-use native.Mathlib.Omega.{arith}
-use denote.Ref.{now}
-use lib.IntN.{pos}
-use lib.ListN.{length}
-use mir.Syntax.{w32, w64}
+use Rattle.vocabulary.specs.{_∙_, _-_, arith, now, pos, length, w32, w64}
 use Rattle.whole.specs.Sums.{vector}
 use Rattle.whole.proofs.Magnitudes.{widened, widens}
 use Rattle.whole.proofs.Lists.{Filled, filled-none, filled-more, filled-all, listed-getD}
@@ -18,29 +12,10 @@ Inv-loop x lent₀ i₀ lent i = Filled (length x) (vector x) i lent
 abbrev μ-loop : tie.MeasureT-loop
 μ-loop x lent₀ i₀ lent i = length x - i
 
-loop-holds : tie.Need-loop-holds Inv-loop μ-loop
-loop-holds c = filled-none _ _ _ (c .pre)
-
-loop-again : tie.Need-loop-again Inv-loop μ-loop
-loop-again c = filled-more (c .before .before .loop .inv) (omega arith) (widened w32 w64 _ tt (record { sfits = c .lent .given }))
-
-returns : tie.Need-returns Inv-loop μ-loop
-returns c = filled-all (c .before .loop .inv) (omega arith) ∙ listed-getD (pos 0) _
-
 pub store-wide-spec : {M : Type 1} → statement M
 store-wide-spec =
-    tie.close
-    (tie.spec
-    Inv-loop
-    μ-loop
-    loop-holds
-    (λ c. omega arith)
-    (λ c. omega arith)
+    tie.close (tie.spec Inv-loop μ-loop (λ c. filled-none _ _ _ (c .pre)) (λ c. omega arith) (λ c. omega arith)
     (λ c. widens w32 w64 (vector (now (c .before .before .before .args .x)) (c .before .before .loop .i)) tt (record { sfits = c .lent .given }))
-    (λ c. omega arith)
-    (λ c. omega arith)
-    (λ c. omega arith)
-    (λ c. omega arith)
-    loop-again
-    (λ c. omega arith)
-    returns)
+    (λ c. omega arith) (λ c. omega arith) (λ c. omega arith) (λ c. omega arith)
+    (λ c. filled-more (c .before .before .loop .inv) (omega arith) (widened w32 w64 _ tt (record { sfits = c .lent .given })))
+    (λ c. omega arith) (λ c. filled-all (c .before .loop .inv) (omega arith) ∙ listed-getD (pos 0) _))

@@ -1,13 +1,5 @@
 -- `pass_second::numerators::clamped_tenths` meets its contract: beyond either bound the quotient is that bound, and else it fits 32 bits.
-use mathlib.Core.Path.{_≡_, refl, sym, ap, _∙_}
-use mathlib.Core.Bool.{Bool}
-use Prim.Native.Nat.{_≤_}
-use borrow.Author.Needs.{needs}
-use lib.IntN.{ℤ, pos, natAbs}
-use lib.Signed.{leZ}
-use mir.Syntax.{w64}
-use mir.Val.{toZ, ofZ}
-use mir.Facts.{toZ-ofZ}
+use Rattle.vocabulary.specs.{_≡_, refl, sym, ap, _∙_, Bool, _≤_, needs, ℤ, pos, natAbs, leZ, w64, toZ, ofZ, toZ-ofZ}
 use Rattle.pass_pair.specs.Pair.{mostTenths}
 use Rattle.pass_pair.proofs.Clamping.{clamped-small}
 use Rattle.pass_steps.proofs.Narrowing.{narrow-fits, narrowed}
@@ -28,15 +20,6 @@ small c =
     let s = c .before .before in
     between (quotient s) (told s (λ z. leZ z leastTenths) _ (c .before .if1 .left)) (told s (leZ (pos mostTenths)) _ (c .if2 .left))
 
-cast-result-3 : tie.Need-cast-result-3
-cast-result-3 c = let s = c .before .before in narrow-fits (quotient s) (quotient s) (s .fits .quotient) refl (small c)
-
-returns : tie.Need-returns
-returns c = let s = c .before in sym (clamped-below (quotient s) (told s (λ z. leZ z leastTenths) _ (c .if1 .taken)))
-
-returns-2 : tie.Need-returns-2
-returns-2 c = let s = c .before .before in sym (clamped-above (quotient s) (told s (leZ (pos mostTenths)) _ (c .if2 .taken)))
-
 returns-3 : tie.Need-returns-3
 returns-3 c =
     let s = c .before .before in
@@ -44,13 +27,7 @@ returns-3 c =
 
 pub clamped-tenths-spec : {M : Type 1} → statement M
 clamped-tenths-spec =
-    tie.close
-    (tie.spec
-    (λ c. search needs)
-    (λ c. search needs)
-    (λ c. search needs)
-    (λ c. search needs)
-    cast-result-3
-    returns
-    returns-2
-    returns-3)
+    tie.close (tie.spec (λ c. search needs) (λ c. search needs) (λ c. search needs) (λ c. search needs)
+    (λ c. let s = c .before .before in narrow-fits (quotient s) (quotient s) (s .fits .quotient) refl (small c))
+    (λ c. let s = c .before in sym (clamped-below (quotient s) (told s (λ z. leZ z leastTenths) _ (c .if1 .taken))))
+    (λ c. let s = c .before .before in sym (clamped-above (quotient s) (told s (leZ (pos mostTenths)) _ (c .if2 .taken)))) returns-3)

@@ -1,13 +1,5 @@
 -- `pass_second::numerators::corrections_into` meets its contract: one sine condition and two make the corrections of the definitions.
-use mathlib.Core.Path.{_≡_, ap, _∙_}
-use Prim.Native.Nat.{_*_}
-use borrow.Author.Needs.{needs}
-use denote.Ref.{now}
-use lib.Dec.{lit<}
-use lib.IntN.{ℤ, _*ℤ_}
-use mir.Syntax.{w64}
-use mir.Val.{toZ, ofZ}
-use mir.Facts.{toZ-ofZ}
+use Rattle.vocabulary.specs.{_≡_, ap, _∙_, _*_, needs, now, lit<, ℤ, _*ℤ_, w64, toZ, ofZ, toZ-ofZ}
 use Rattle.whole.specs.Sums.{vector}
 use Rattle.pass_steps.specs.Premises.{mostDenominator, mostMisclosure}
 use Rattle.pass_second.specs.Steps.{factorOf, exactCorrection, pairCorrection}
@@ -80,18 +72,6 @@ returns-2 c =
 
 pub corrections-into-spec : {M : Type 1} → statement M
 corrections-into-spec =
-    tie.close
-    (tie.spec
-    (λ c κs. search needs)
-    (λ c. scale c .fits)
-    one-into-requires
-    (λ c κs. search needs)
-    two-into-requires
-    (λ c. search needs)
-    (λ c. search needs)
-    (λ c. search needs)
-    returns
-    (λ c. search needs)
-    (λ c. search needs)
-    (λ c. search needs)
+    tie.close (tie.spec (λ c κs. search needs) (λ c. scale c .fits) one-into-requires (λ c κs. search needs) two-into-requires
+    (λ c. search needs) (λ c. search needs) (λ c. search needs) returns (λ c. search needs) (λ c. search needs) (λ c. search needs)
     returns-2)

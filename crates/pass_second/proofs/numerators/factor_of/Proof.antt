@@ -1,12 +1,5 @@
 -- `pass_second::numerators::factor_of` meets its contract: a hundred times 48 fits 64 bits.
-use mathlib.Core.Path.{_≡_, _∙_}
-use native.Mathlib.Nat.{le-refl}
-use native.Mathlib.Omega.{arith}
-use borrow.Author.Needs.{needs}
-use lib.IntN.{pos, negℤ, _*ℤ_}
-use mir.Syntax.{w64}
-use mir.Val.{toZ}
-use mir.Facts.{toZ-ofZ, toZ-pos}
+use Rattle.vocabulary.specs.{_≡_, _∙_, le-refl, arith, needs, pos, negℤ, _*ℤ_, w64, toZ, toZ-ofZ, toZ-pos}
 use Rattle.whole.proofs.Magnitudes.{magnitude-fits}
 use Rattle.pass_steps.specs.Premises.{mostDenominator}
 use Rattle.pass_second.proofs.Exact.{product-magnitude}
@@ -22,8 +15,5 @@ mul-result c =
     (magnitude-fits w64 (negℤ (pos 100) *ℤ pos (c .args .denominator))
     (omega (arith, product-magnitude (negℤ (pos 100)) (pos (c .args .denominator)) 100 mostDenominator (le-refl 100) (c .pre))))
 
-returns : tie.Need-returns
-returns c = toZ-ofZ (mul-result c) ∙ rw (denominator c)
-
 pub factor-of-spec : {M : Type 1} → statement M
-factor-of-spec = tie.close (tie.spec (λ c. search needs) mul-result returns)
+factor-of-spec = tie.close (tie.spec (λ c. search needs) mul-result (λ c. toZ-ofZ (mul-result c) ∙ rw (denominator c)))

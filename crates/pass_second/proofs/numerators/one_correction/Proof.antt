@@ -1,14 +1,7 @@
 -- `pass_second::numerators::one_correction` meets its contract: the numerator fits 64 bits, so that its own words are answered.
-use mathlib.Core.Path.{_≡_, ap, _∙_}
-use Prim.Native.Nat.{_*_}
-use lib.Dec.{lit<}
-use lib.IntN.{ℤ, _*ℤ_}
-use mir.Syntax.{w64}
-use mir.Val.{toZ, ofZ}
-use mir.Facts.{toZ-ofZ}
+use Rattle.vocabulary.specs.{_≡_, ap, _∙_, _*_, lit<, ℤ, _*ℤ_, w64, toZ, ofZ, toZ-ofZ}
 use Rattle.whole.specs.Quotient.{roundedQuotient}
-use Rattle.wide_words.specs.Words.{wordsFrom}
-use Rattle.wide_words.specs.declared.Words.{Words}
+use Rattle.wide_words.specs.{Words.wordsFrom, declared.Words.Words}
 use Rattle.pass_pair.specs.Pair.{clamped}
 use Rattle.pass_steps.specs.Premises.{mostDenominator, mostMisclosure, mostReduced}
 use Rattle.pass_second.proofs.Exact.{Exact, product}
@@ -47,11 +40,4 @@ returns c =
     λ k. record { high = high k; low = low k; tenths = nearest k }
 
 pub one-correction-spec : {M : Type 1} → statement M
-one-correction-spec =
-    tie.close
-    (tie.spec
-    (λ c. numerator c .fits)
-    (λ c κs. tt)
-    (λ c κs. tt)
-    (λ c κs. tt)
-    returns)
+one-correction-spec = tie.close (tie.spec (λ c. numerator c .fits) (λ c κs. tt) (λ c κs. tt) (λ c κs. tt) returns)

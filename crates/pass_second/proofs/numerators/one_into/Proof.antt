@@ -1,13 +1,5 @@
 -- `pass_second::numerators::one_into` meets its contract. The invariant: the angles passed have their corrections.
-use mathlib.Core.Path.{_≡_, refl, ap, _∙_, subst}
-use Prim.Native.Nat.{_-_}
-use native.Mathlib.Omega.{arith}
-use denote.Ref.{now}
-use lib.IntN.{ℤ, _*ℤ_}
-use lib.ListN.{length}
-use mir.Syntax.{w32, w64}
-use mir.Val.{toZ, ofZ}
-use mir.Facts.{toZ-ofZ}
+use Rattle.vocabulary.specs.{_≡_, refl, ap, _∙_, subst, _-_, arith, now, ℤ, _*ℤ_, length, w32, w64, toZ, ofZ, toZ-ofZ}
 use Rattle.whole.specs.Sums.{vector}
 use Rattle.whole.proofs.Magnitudes.{widened, widens}
 use Rattle.pass_second.specs.Steps.{exactCorrection}
@@ -21,9 +13,6 @@ Inv-loop scale divisor a high₀ low₀ tenths₀ i₀ high low tenths i =
 
 abbrev μ-loop : tie.MeasureT-loop
 μ-loop scale divisor a high₀ low₀ tenths₀ i₀ high low tenths i = length a - i
-
-loop-holds : tie.Need-loop-holds Inv-loop μ-loop
-loop-holds c = let pre = c .before .pre in corrected-none _ _ _ _ _ (pre .1 .1 .0) (pre .1 .1 .1 .0) (pre .1 .1 .1 .1)
 
 one-correction-requires : tie.Need-one-correction-requires Inv-loop μ-loop
 one-correction-requires c κs =
@@ -60,25 +49,9 @@ returns c =
 
 pub one-into-spec : {M : Type 1} → statement M
 one-into-spec =
-    tie.close
-    (tie.spec
-    Inv-loop
-    μ-loop
-    loop-holds
-    (λ c. omega arith)
+    tie.close (tie.spec Inv-loop μ-loop
+    (λ c. let pre = c .before .pre in corrected-none _ _ _ _ _ (pre .1 .1 .0) (pre .1 .1 .1 .0) (pre .1 .1 .1 .1)) (λ c. omega arith)
     (λ c. omega arith)
     (λ c. widens w32 w64 (vector (now (c .before .before .before .before .args .a)) (c .before .before .loop .i)) tt (record { sfits = c .one-correction-arg .given }))
-    one-correction-requires
-    (λ c. omega arith)
-    (λ c. omega arith)
-    (λ c. omega arith)
-    (λ c. omega arith)
-    (λ c. omega arith)
-    (λ c. omega arith)
-    (λ c. omega arith)
-    (λ c. omega arith)
-    loop-again
-    (λ c. omega arith)
-    (λ c. omega arith)
-    (λ c. omega arith)
-    returns)
+    one-correction-requires (λ c. omega arith) (λ c. omega arith) (λ c. omega arith) (λ c. omega arith) (λ c. omega arith)
+    (λ c. omega arith) (λ c. omega arith) (λ c. omega arith) loop-again (λ c. omega arith) (λ c. omega arith) (λ c. omega arith) returns)

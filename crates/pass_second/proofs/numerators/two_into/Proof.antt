@@ -1,18 +1,9 @@
 -- `pass_second::numerators::two_into` meets its contract. The invariant: the angles passed have their corrections.
-use mathlib.Core.Path.{_≡_, refl, ap₂, subst}
-use Prim.Native.Nat.{_-_}
-use native.Mathlib.Omega.{arith}
-use denote.Ref.{now}
-use lib.IntN.{ℤ, natAbs}
-use lib.ListN.{length}
-use mir.Syntax.{w32, w64}
-use mir.Val.{toZ, ofZ}
-use mir.Facts.{toZ-ofZ}
+use Rattle.vocabulary.specs.{_≡_, refl, ap₂, subst, _-_, arith, now, ℤ, natAbs, length, w32, w64, toZ, ofZ, toZ-ofZ}
 use Rattle.whole.proofs.Magnitudes.{widened, widens}
 use Rattle.whole.specs.Sums.{vector}
 use Rattle.wide.specs.Wide.{valueOf}
-use Rattle.pass_pair.specs.declared.PairFactors.{PairFactors}
-use Rattle.pass_pair.specs.declared.PairCorrection.{PairCorrection}
+use Rattle.pass_pair.specs.{declared.PairFactors.PairFactors, declared.PairCorrection.PairCorrection}
 use Rattle.pass_pair.specs.Pair.{heldNumerator, correctionFrom}
 use Rattle.pass_second.specs.Steps.{pairCorrection}
 use Rattle.pass_second.proofs.CorrectionSteps.{Corrected, corrected-none, corrected-more, corrected-all}
@@ -31,9 +22,6 @@ Inv-loop factor factors a b high₀ low₀ tenths₀ i₀ high low tenths i =
 
 abbrev μ-loop : tie.MeasureT-loop
 μ-loop factor factors a b high₀ low₀ tenths₀ i₀ high low tenths i = length a - i
-
-loop-holds : tie.Need-loop-holds Inv-loop μ-loop
-loop-holds c = let pre = c .before .pre in corrected-none _ _ _ _ _ (pre .1 .0) (pre .1 .1 .0) (pre .1 .1 .1)
 
 loop-again : tie.Need-loop-again Inv-loop μ-loop
 loop-again c =
@@ -66,28 +54,11 @@ returns c =
 
 pub two-into-spec : {M : Type 1} → statement M
 two-into-spec =
-    tie.close
-    (tie.spec
-    Inv-loop
-    μ-loop
-    loop-holds
-    (λ c. omega arith)
+    tie.close (tie.spec Inv-loop μ-loop
+    (λ c. let pre = c .before .pre in corrected-none _ _ _ _ _ (pre .1 .0) (pre .1 .1 .0) (pre .1 .1 .1)) (λ c. omega arith)
     (λ c. omega arith)
     (λ c. widens w32 w64 (vector (now (c .before .before .before .before .args .a)) (c .before .before .loop .i)) tt (record { sfits = c .pair-correction-arg .given }))
-    (λ c. omega arith)
-    (λ c. omega arith)
+    (λ c. omega arith) (λ c. omega arith)
     (λ c. widens w32 w64 (vector (now (c .before .before .before .before .before .args .b)) (c .before .before .before .loop .i)) tt (record { sfits = c .pair-correction-arg2 .given }))
-    (λ c κs. tt)
-    (λ c. omega arith)
-    (λ c. omega arith)
-    (λ c. omega arith)
-    (λ c. omega arith)
-    (λ c. omega arith)
-    (λ c. omega arith)
-    (λ c. omega arith)
-    (λ c. omega arith)
-    loop-again
-    (λ c. omega arith)
-    (λ c. omega arith)
-    (λ c. omega arith)
-    returns)
+    (λ c κs. tt) (λ c. omega arith) (λ c. omega arith) (λ c. omega arith) (λ c. omega arith) (λ c. omega arith) (λ c. omega arith)
+    (λ c. omega arith) (λ c. omega arith) loop-again (λ c. omega arith) (λ c. omega arith) (λ c. omega arith) returns)

@@ -1,10 +1,6 @@
 -- `pass_second::second::answer_of` meets its contract: both misclosures and the divisor's words where the verdict passed, and else its
 -- refusal.
-use mathlib.Core.Path.{sym, ap, ap₂, _∙_}
-use borrow.Author.Needs.{needs}
-use lib.IntN.{ℤ}
-use mir.Syntax.{w64}
-use mir.ValLaws.{toZ-ofZ}
+use Rattle.vocabulary.specs.{sym, ap, ap₂, _∙_, needs, ℤ, w64, toZ-ofZ-at}
 use Rattle.refusals.specs.declared.Verdict.{Verdict}
 use Rattle.pass_rules.specs.declared.second.SecondAnswer.the-variants.{Done}
 use Rattle.pass_second.specs.Steps.{answerBy}
@@ -15,7 +11,7 @@ returns : tie.Need-returns
 returns c =
     let start = c .before .before in
     let args = start .args in
-    ap₂ (λ (w s : ℤ). Done w s (args .divisor .high) (args .divisor .low)) (toZ-ofZ w64 _ (start .fits .w)) (toZ-ofZ w64 _ (start .fits .side-w))
+    ap₂ (λ (w s : ℤ). Done w s (args .divisor .high) (args .divisor .low)) (toZ-ofZ-at w64 _ (start .fits .w)) (toZ-ofZ-at w64 _ (start .fits .side-w))
     ∙ sym (ap (λ (v : Verdict). answerBy v (args .w) (args .side-w) (args .divisor .high) (args .divisor .low)) (c .enum-told .given .1))
 
 returns-2 : tie.Need-returns-2

@@ -1,8 +1,6 @@
 -- `pass_second::second::second_pass` meets its contract: the pass of the figure that is named.
-use mathlib.Core.Path.{sym, _∙_}
-use denote.Ref.{now}
-use Rattle.pass_rules.specs.Promises.{SecondGiven, SecondLent, secondGiven, secondLent}
-use Rattle.pass_rules.specs.SecondPass.{sineEntries}
+use Rattle.vocabulary.specs.{sym, _∙_, now}
+use Rattle.pass_rules.specs.{Promises.SecondGiven, Promises.SecondLent, Promises.secondGiven, Promises.secondLent, SecondPass.sineEntries}
 use Rattle.pass_second.proofs.SecondPromised.{none-named, of-figure}
 use Rattle.pass_second.proofs.second.second_pass.Statement.{statement}
 use Rattle.pass_second.proofs.second.second_pass.Tie as tie
@@ -34,19 +32,11 @@ returns-2 c =
 
 pub second-pass-spec : {M : Type 1} → statement M
 second-pass-spec =
-    tie.close
-    (tie.spec
-    (λ c κs. tt)
-    (λ c. c .match .keys1)
-    (λ c. c .match .keys2)
-    returns
-    (λ c κs. tt)
-    (λ c. called c .second-pass-of .kept .1 .1 .1 .1 .1 .1 .1 .0)
-    (λ c. called c .second-pass-of .kept .1 .1 .1 .1 .1 .1 .1 .1 .0)
+    tie.close (tie.spec (λ c κs. tt) (λ c. c .match .keys1) (λ c. c .match .keys2) returns (λ c κs. tt)
+    (λ c. called c .second-pass-of .kept .1 .1 .1 .1 .1 .1 .1 .0) (λ c. called c .second-pass-of .kept .1 .1 .1 .1 .1 .1 .1 .1 .0)
     (λ c. called c .second-pass-of .kept .1 .1 .1 .1 .1 .1 .1 .1 .1 .0)
     (λ c. called c .second-pass-of .kept .1 .1 .1 .1 .1 .1 .1 .1 .1 .1 .0)
     (λ c. called c .second-pass-of .kept .1 .1 .1 .1 .1 .1 .1 .1 .1 .1 .1 .0)
     (λ c. called c .second-pass-of .kept .1 .1 .1 .1 .1 .1 .1 .1 .1 .1 .1 .1 .0)
     (λ c. called c .second-pass-of .kept .1 .1 .1 .1 .1 .1 .1 .1 .1 .1 .1 .1 .1 .0)
-    (λ c. called c .second-pass-of .kept .1 .1 .1 .1 .1 .1 .1 .1 .1 .1 .1 .1 .1 .1 .0)
-    returns-2)
+    (λ c. called c .second-pass-of .kept .1 .1 .1 .1 .1 .1 .1 .1 .1 .1 .1 .1 .1 .1 .0) returns-2)

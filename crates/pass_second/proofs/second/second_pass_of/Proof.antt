@@ -1,27 +1,14 @@
 -- `pass_second::second::second_pass_of` meets its contract: each row in its order, and a refusal before any store.
-use mathlib.Core.Path.{_≡_, refl, sym, ap, _∙_, subst}
-use mathlib.Core.List.{List, [], _∷_, _++_}
-use Prim.Native.Nat.{ℕ, _≤_, _<_, _^_}
-use native.Mathlib.Omega.{arith}
-use denote.Ref.{now}
-use lib.Dec.{leb, leb→le}
-use lib.IntN.{ℤ, pos, natAbs}
-use lib.ListN.{length, take, drop, replicate}
-use lib.Signed.{_≤ℤ_}
-use mir.Syntax.{w64}
-use mir.ValLaws.{toZ-ofZ}
-use Rattle.wide.specs.declared.Size.{Size}
-use Rattle.wide.specs.Wide.{sizeOf}
-use Rattle.refusals.specs.declared.Verdict.the-variants.{Passed}
-use Rattle.refusals.specs.Order.{judged}
-use Rattle.figures.specs.declared.Figure.{Figure}
-use Rattle.figures.specs.Figure.{angleCount, sideCount}
+use Rattle.vocabulary.specs.{_≡_, refl, sym, ap, _∙_, subst, List, [], _∷_, _++_, ℕ, _≤_, _<_, _^_, arith, now, leb, leb→le, ℤ, pos}
+use Rattle.vocabulary.specs.{natAbs, length, take, drop, replicate, _≤ℤ_, w64, toZ-ofZ-at}
+use Rattle.wide.specs.{declared.Size.Size, Wide.sizeOf}
+use Rattle.refusals.specs.{declared.Verdict.the-variants.Passed, Order.judged}
+use Rattle.figures.specs.{declared.Figure.Figure, Figure.angleCount, Figure.sideCount}
 use Rattle.figures.proofs.Figures.{each-figure, angle-bound}
 use Rattle.pass_rules.specs.SecondPass.{SineEntries, sineEntries, reducedOf, sideReducedOf, sideReducedCount, entryRows, sineRowsOf}
 use Rattle.pass_rules.specs.Promises.{SecondLent, secondLent, secondSlices}
 use Rattle.whole.proofs.Lending.{lent-length, part-again, still-few, again-length}
-use Rattle.pass_second.specs.declared.sums.Sums.{Sums}
-use Rattle.pass_second.specs.Sines.{pairOf, sumsOf}
+use Rattle.pass_second.specs.{declared.sums.Sums.Sums, Sines.pairOf, Sines.sumsOf}
 use Rattle.pass_second.specs.Steps.{SmallPair, divisorFrom, workLent, workLengths, answerBy}
 use Rattle.pass_second.proofs.SecondPromised as promised
 use Rattle.pass_second.proofs.SecondSteps.{divisor-from-natural}
@@ -264,8 +251,8 @@ returns-3 c =
     let k = known v in
     let t = first u in
     let pair = sums k .pair in
-    let wa = toZ-ofZ w64 (pair .wa) (record { sfits = c .before .before .struct-told .given .1 .1 .1 .0 .1 }) in
-    let wb = toZ-ofZ w64 (pair .wb) (record { sfits = c .before .before .struct-told .given .1 .1 .1 .1 .0 .1 }) in
+    let wa = toZ-ofZ-at w64 (pair .wa) (record { sfits = c .before .before .struct-told .given .1 .1 .1 .0 .1 }) in
+    let wb = toZ-ofZ-at w64 (pair .wb) (record { sfits = c .before .before .struct-told .given .1 .1 .1 .1 .0 .1 }) in
     let kept =
     promised.by-results (f t) (tolerance t) (angles t) (rounds t) (e t) (entry (start t)) (passed t) (within u) (length (now (start t .args .log-sides))) pair (a k) (b k)
     (sides t) (pair-is k) (a-are k) (b-are k) (d v) (omega (arith, v .before .divisor-of .ok)) (d-is v) (p .second-corrected .ensures) (c .before .before .before .before .before .store-rounds .ensures)
@@ -277,35 +264,19 @@ returns-3 c =
 
 pub second-pass-of-spec : {M : Type 1} → statement M
 second-pass-of-spec =
-    tie.close
-    (tie.spec
-    (λ c κs. tt)
-    (λ c. c .match .keys1)
-    returns
-    (λ c. c .match .keys2)
-    few
-    (λ c. lent-length (n (c .before)) (replicate 24 (pos 0)) (few (c .before)))
-    (λ c. side-few (c .before))
-    (λ c. lent-length (m (c .before .before)) (replicate 12 (pos 0)) (side-few (c .before .before)))
-    sums-into-requires
-    divisor-of-requires
-    sine-verdict-requires
-    (λ c. c .match2 .keys1)
-    returns-2
-    (λ c. c .match2 .keys2)
+    tie.close (tie.spec (λ c κs. tt) (λ c. c .match .keys1) returns (λ c. c .match .keys2) few
+    (λ c. lent-length (n (c .before)) (replicate 24 (pos 0)) (few (c .before))) (λ c. side-few (c .before))
+    (λ c. lent-length (m (c .before .before)) (replicate 12 (pos 0)) (side-few (c .before .before))) sums-into-requires divisor-of-requires
+    sine-verdict-requires (λ c. c .match2 .keys1) returns-2 (λ c. c .match2 .keys2)
     (λ c. let k = known (verdict c) in let t = told k in still-few (n t) (replicate 24 (pos 0)) (few t) (aPart k) (a-kept k))
     (λ c. let k = known (verdict (c .before)) in let t = told k in again-length (n t) (replicate 24 (pos 0)) (few t) (aPart k) (a-kept k))
     (λ c. let k = known (verdict (c .before)) in let t = told k in still-few (m t) (replicate 12 (pos 0)) (side-few t) (bPart k) (b-kept k))
     (λ c. let k = known (verdict (c .before .before)) in let t = told k in again-length (m t) (replicate 12 (pos 0)) (side-few t) (bPart k) (b-kept k))
-    second-corrected-requires
-    (λ c κs. tt)
-    (λ c κs. tt)
-    (λ c. corrected c .second-corrected .kept .1 .1 .1 .1 .1 .1 .1 .0)
+    second-corrected-requires (λ c κs. tt) (λ c κs. tt) (λ c. corrected c .second-corrected .kept .1 .1 .1 .1 .1 .1 .1 .0)
     (λ c. corrected c .second-corrected .kept .1 .1 .1 .1 .1 .1 .1 .1 .0)
     (λ c. corrected c .second-corrected .kept .1 .1 .1 .1 .1 .1 .1 .1 .1 .0)
     (λ c. corrected c .second-corrected .kept .1 .1 .1 .1 .1 .1 .1 .1 .1 .1 .0)
     (λ c. corrected c .second-corrected .kept .1 .1 .1 .1 .1 .1 .1 .1 .1 .1 .1 .0)
     (λ c. corrected c .second-corrected .kept .1 .1 .1 .1 .1 .1 .1 .1 .1 .1 .1 .1 .0)
     (λ c. c .before .before .before .before .before .store-rounds .kept .1 .1 .0)
-    (λ c. corrected c .second-corrected .kept .1 .1 .1 .1 .1 .1 .1 .1 .1 .1 .1 .1 .1 .0)
-    returns-3)
+    (λ c. corrected c .second-corrected .kept .1 .1 .1 .1 .1 .1 .1 .1 .1 .1 .1 .1 .1 .0) returns-3)

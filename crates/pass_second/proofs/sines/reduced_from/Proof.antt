@@ -1,18 +1,7 @@
 -- `pass_second::sines::reduced_from` meets its contract. The invariant: the places passed are worked over, those after them as they were,
 -- and the total is the sum of the squares.
-use mathlib.Core.Path.{_≡_, refl, ap, ap₂, _∙_}
-use mathlib.Core.List.{List}
-use Prim.Native.Nat.{ℕ, _-_, _*_, _≤_}
-use native.Mathlib.Nat.{le-refl}
-use native.Mathlib.Omega.{arith}
-use denote.Ref.{now}
-use lib.Dec.{lit<}
-use lib.IntN.{ℤ, pos, natAbs, _+ℤ_, _*ℤ_}
-use lib.ListN.{length}
-use mir.Syntax.{w32, w64}
-use mir.Val.{toZ, ofZ}
-use mir.Facts.{toZ-pos}
-use mir.ValLaws.{toZ-ofZ}
+use Rattle.vocabulary.specs.{_≡_, refl, ap, ap₂, _∙_, List, ℕ, _-_, _*_, _≤_, le-refl, arith, now, lit<, ℤ, pos, natAbs, _+ℤ_, _*ℤ_}
+use Rattle.vocabulary.specs.{length, w32, w64, toZ, ofZ, toZ-pos, toZ-ofZ-at}
 use Rattle.whole.specs.Sums.{sum, dot, vector}
 use Rattle.whole.proofs.Lists.{Replaced, replaced-none, replaced-more, filled-all}
 use Rattle.refusals.specs.Ranges.{mostDifference}
@@ -20,8 +9,8 @@ use Rattle.pass_steps.specs.Premises.{mostDenominator, mostReduced}
 use Rattle.pass_second.specs.Sines.{reducedFrom}
 use Rattle.pass_second.proofs.Exact.{Exact, is-exact, product, wide-fits, wide-read}
 use Rattle.pass_second.proofs.SineBounds.{together-magnitude}
-use Rattle.pass_steps.proofs.Totals.{More, more}
 use Rattle.pass_second.proofs.sines.reduced_from.Statement.{statement}
+use Rattle.pass_steps.proofs.Totals.{More, more}
 use Rattle.pass_second.proofs.sines.reduced_from.Tie as tie
 
 abbrev square : ℕ → List ℤ → List ℤ → ℕ → ℤ
@@ -53,7 +42,7 @@ module _ (c : tie.After-one Inv-loop μ-loop) where
   scaled =
       let few = start .pre .1 .1 .0 in
       product w32 mostDenominator mostDifference _ _ (pos (start .args .denominator)) difference (lit< tt)
-      (toZ-pos w32 (omega (arith, few))) (toZ-ofZ w32 difference (record { sfits = c .one .given })) few (start .pre .1 .1 .1 .0 i)
+      (toZ-pos w32 (omega (arith, few))) (toZ-ofZ-at w32 difference (record { sfits = c .one .given })) few (start .pre .1 .1 .1 .0 i)
 
   abbrev scaled-bits : ℤ
   scaled-bits = toZ w32 (ofZ w32 (toZ w32 (start .args .denominator) *ℤ toZ w32 (ofZ w32 difference)))
@@ -73,7 +62,7 @@ module _ (c : tie.After-one2 Inv-loop μ-loop) where
       let pre = start at .pre in
       let taken = vector (now (start at .args .a)) (i at) in
       let left = at .before .before .loop .inv .0 .left (i at) (le-refl (i at)) in
-      is-exact w32 mostReduced made here (lit< tt) (ap₂ _+ℤ_ (scaled at .read) (toZ-ofZ w32 _ (record { sfits = c .one2 .given }) ∙ left))
+      is-exact w32 mostReduced made here (lit< tt) (ap₂ _+ℤ_ (scaled at .read) (toZ-ofZ-at w32 _ (record { sfits = c .one2 .given }) ∙ left))
       (together-magnitude (start at .args .denominator) (vector (now (start at .args .d)) (i at)) taken (pre .1 .1 .0) (pre .1 .1 .1 .0 (i at)) (pre .1 .1 .1 .1 (i at)))
 
   abbrev wide : ℤ
@@ -105,26 +94,7 @@ returns c =
 
 pub reduced-from-spec : {M : Type 1} → statement M
 reduced-from-spec =
-    tie.close
-    (tie.spec
-    Inv-loop
-    μ-loop
-    loop-holds
-    (λ c. record { sfits = omega (arith, c .before .before .pre .1 .1 .0) })
-    (λ c. omega arith)
-    (λ c. omega arith)
-    (λ c. scaled c .fits)
-    (λ c. omega arith)
-    (λ c. omega arith)
-    (λ c. together c .fits)
-    (λ c. omega arith)
-    (λ c. omega arith)
-    (λ c. wide-fits _ (together c))
-    (λ c. wide-fits _ (together c))
-    (λ c. squared c .fits)
-    (λ c. more-squares c .fits)
-    (λ c. omega arith)
-    (λ c. omega arith)
-    loop-again
-    (λ c. omega arith)
-    returns)
+    tie.close (tie.spec Inv-loop μ-loop loop-holds (λ c. record { sfits = omega (arith, c .before .before .pre .1 .1 .0) })
+    (λ c. omega arith) (λ c. omega arith) (λ c. scaled c .fits) (λ c. omega arith) (λ c. omega arith) (λ c. together c .fits)
+    (λ c. omega arith) (λ c. omega arith) (λ c. wide-fits _ (together c)) (λ c. wide-fits _ (together c)) (λ c. squared c .fits)
+    (λ c. more-squares c .fits) (λ c. omega arith) (λ c. omega arith) loop-again (λ c. omega arith) returns)

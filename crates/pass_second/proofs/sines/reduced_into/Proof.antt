@@ -1,31 +1,15 @@
 -- `pass_second::sines::reduced_into` meets its contract: what is taken are the numerators for the conditions' sums of d.
-use mathlib.Core.Path.{_≡_, refl, sym, ap, _∙_}
-use mathlib.Core.List.{List, _++_}
-use Prim.Native.Nat.{ℕ, _≤_}
-use native.Mathlib.Nat.{le-trans}
-use native.Mathlib.Omega.{arith}
-use borrow.Author.Needs.{needs}
-use denote.Ref.{now}
-use lib.Dec.{lit≤}
-use lib.IntN.{ℤ, pos, natAbs}
-use lib.ListN.{length, take, drop, replicate}
-use mir.Syntax.{w64}
-use mir.ValLaws.{toZ-ofZ}
-use Rattle.whole.specs.Lists.{listed}
-use Rattle.whole.specs.Sums.{vector}
+use Rattle.vocabulary.specs.{_≡_, refl, sym, ap, _∙_, List, _++_, ℕ, _≤_, le-trans, arith, needs, now, lit≤, ℤ, pos, natAbs, length, take}
+use Rattle.vocabulary.specs.{drop, replicate, w64, toZ-ofZ-at}
+use Rattle.whole.specs.{Lists.listed, Sums.vector}
 use Rattle.refusals.specs.Ranges.{mostDifference}
-use Rattle.figures.specs.declared.Counts.{Counts}
-use Rattle.figures.specs.declared.Figure.{Figure}
-use Rattle.figures.specs.Figure.{denominator, angleCount, conditionCount}
+use Rattle.figures.specs.{declared.Counts.Counts, declared.Figure.Figure, Figure.denominator, Figure.angleCount, Figure.conditionCount}
 use Rattle.figures.specs.Numerators.{conditionSum, numerator}
 use Rattle.figures.proofs.Figures.{angle-bound, condition-bound}
 use Rattle.pass_steps.specs.Premises.{Within, mostApplied, mostTaken}
-use Rattle.pass_steps.proofs.Fitting.{fits}
-use Rattle.pass_steps.proofs.Held.{sums-are}
+use Rattle.pass_steps.proofs.{Fitting.fits, Held.sums-are, Judged.misclosures-pass, StepLaws.listed-within}
 use Rattle.pass_steps.proofs.Judged as Judged
-use Rattle.pass_steps.proofs.Judged.{misclosures-pass}
 use Rattle.whole.proofs.Lending.{lent-length, part-again, still-few, again-length}
-use Rattle.pass_steps.proofs.StepLaws.{listed-within}
 use Rattle.pass_second.proofs.SineBounds.{denominator-bound, sums-magnitude, taken-magnitude}
 use Rattle.pass_second.proofs.SineSteps.{taken-are, reduced-are, squares-are}
 use Rattle.pass_second.proofs.sines.reduced_into.Statement.{statement}
@@ -117,21 +101,13 @@ returns c =
     let t = c .before .before .before .before in
     let s = summed t in
     let n = counted s .before .pre .0 in (
-      toZ-ofZ w64 _ (record { sfits = c .before .reduced-from .ok }) ∙ c .before .reduced-from .ensures .0 ∙ squares-are (f s) (d s) _ (taken t) (whole t) n (taken-is t),
+      toZ-ofZ-at w64 _ (record { sfits = c .before .reduced-from .ok }) ∙ c .before .reduced-from .ensures .0 ∙ squares-are (f s) (d s) _ (taken t) (whole t) n (taken-is t),
       c .before .reduced-from .ensures .1 ∙ reduced-are (f s) (d s) _ (taken t) (whole t) n (taken-is t),
     )
 
 pub reduced-into-spec : {M : Type 1} → statement M
 reduced-into-spec =
-    tie.close
-    (tie.spec
-    (λ c κs. tt)
-    few-conditions
-    (λ c. lent-length (m (c .before)) (replicate 9 (pos 0)) (few-conditions (c .before)))
+    tie.close (tie.spec (λ c κs. tt) few-conditions (λ c. lent-length (m (c .before)) (replicate 9 (pos 0)) (few-conditions (c .before)))
     (λ c κs. tt)
     (λ c. let s = c .before in still-few (m (counted s)) (replicate 9 (pos 0)) (few-conditions (counted s)) (s .condition-sums .last .1 .1 .0) (s .condition-sums .kept .1 .1 .0))
-    (λ c. sums-length (c .before .before))
-    (λ c κs. tt)
-    reduced-from-requires
-    (λ c. search needs)
-    returns)
+    (λ c. sums-length (c .before .before)) (λ c κs. tt) reduced-from-requires (λ c. search needs) returns)

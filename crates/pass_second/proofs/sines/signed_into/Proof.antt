@@ -1,26 +1,15 @@
 -- `pass_second::sines::signed_into` meets its contract. The invariant: the differences passed are filled in, and the totals are the sums
 -- of what was passed.
-use mathlib.Core.Path.{_≡_, refl, _∙_, ap}
-use mathlib.Core.List.{List}
-use Prim.Native.Nat.{ℕ, _-_, _*_, _≤_}
-use native.Mathlib.Omega.{arith}
-use denote.Ref.{now}
-use lib.Dec.{lit<}
-use lib.IntN.{ℤ, natAbs, _+ℤ_, _*ℤ_}
-use lib.ListN.{length, getD}
-use mir.Syntax.{w8, w32, w64}
-use mir.Val.{toZ, ofZ}
-use mir.Facts.{toZ-pos}
-use mir.ValLaws.{toZ-ofZ}
+use Rattle.vocabulary.specs.{_≡_, refl, _∙_, ap, List, ℕ, _-_, _*_, _≤_, arith, now, lit<, ℤ, natAbs, _+ℤ_, _*ℤ_, length, getD, w8, w32}
+use Rattle.vocabulary.specs.{w64, toZ, ofZ, toZ-pos, toZ-ofZ-at}
 use Rattle.whole.specs.Sums.{sum, dot, vector}
-use Rattle.whole.proofs.Lists.{Filled, filled-none, filled-more, filled-all}
-use Rattle.whole.proofs.Magnitudes.{widened, widens}
+use Rattle.whole.proofs.{Lists.Filled, Lists.filled-none, Lists.filled-more, Lists.filled-all, Magnitudes.widened, Magnitudes.widens}
 use Rattle.refusals.specs.Ranges.{mostLogSine, mostDifference}
 use Rattle.pass_rules.specs.Pass.{given}
 use Rattle.pass_second.specs.Sines.{signedBy}
 use Rattle.pass_second.proofs.Exact.{Exact, product, wide-fits, wide-read, wide-small}
-use Rattle.pass_steps.proofs.Totals.{More, more}
 use Rattle.pass_second.proofs.sines.signed_into.Statement.{statement}
+use Rattle.pass_steps.proofs.Totals.{More, more}
 use Rattle.pass_second.proofs.sines.signed_into.Tie as tie
 
 -- what the two totals add
@@ -67,7 +56,7 @@ module _ (c : tie.After-signed Inv-loop μ-loop) where
 
   signed : Exact w32 (1 * mostDifference) (sign-bits *ℤ toZ w32 (ofZ w32 difference)) (sign *ℤ difference)
   signed =
-      product w32 1 mostDifference _ _ sign difference (lit< tt) sign-read (toZ-ofZ w32 difference (record { sfits = c .signed .given })) sign-small (start .pre .1 .1 .1 .1 .1 i)
+      product w32 1 mostDifference _ _ sign difference (lit< tt) sign-read (toZ-ofZ-at w32 difference (record { sfits = c .signed .given })) sign-small (start .pre .1 .1 .1 .1 .1 i)
 
   abbrev signed-bits : ℤ
   signed-bits = toZ w32 (ofZ w32 (sign-bits *ℤ toZ w32 (ofZ w32 difference)))
@@ -116,29 +105,10 @@ returns c =
 
 pub signed-into-spec : {M : Type 1} → statement M
 signed-into-spec =
-    tie.close
-    (tie.spec
-    Inv-loop
-    μ-loop
-    loop-holds
-    (λ c. omega arith)
+    tie.close (tie.spec Inv-loop μ-loop loop-holds (λ c. omega arith)
     (λ c. widens w8 w32 (vector (c .before .before .before .args .t1) (c .before .before .loop .i)) tt (record { sfits = c .sign .given }))
-    (λ c. omega arith)
-    (λ c. omega arith)
-    (λ c. signed c .fits)
-    (λ c. omega arith)
-    (λ c. omega arith)
-    (λ c. squared c .fits)
-    (λ c. wide-fits _ (squared c))
-    (λ c. more-squares c .fits)
-    (λ c. omega arith)
-    (λ c. omega arith)
-    (λ c. record { sfits = omega (arith, start (c .before) .pre .1 .1 .1 .1 .0 (i (c .before))) })
-    (λ c. weighed (c .before) .fits)
-    (λ c. wide-fits _ (weighed (c .before)))
-    (λ c. more-misclosure (c .before) .fits)
-    (λ c. omega arith)
-    (λ c. omega arith)
-    loop-again
-    (λ c. omega arith)
-    returns)
+    (λ c. omega arith) (λ c. omega arith) (λ c. signed c .fits) (λ c. omega arith) (λ c. omega arith) (λ c. squared c .fits)
+    (λ c. wide-fits _ (squared c)) (λ c. more-squares c .fits) (λ c. omega arith) (λ c. omega arith)
+    (λ c. record { sfits = omega (arith, start (c .before) .pre .1 .1 .1 .1 .0 (i (c .before))) }) (λ c. weighed (c .before) .fits)
+    (λ c. wide-fits _ (weighed (c .before))) (λ c. more-misclosure (c .before) .fits) (λ c. omega arith) (λ c. omega arith) loop-again
+    (λ c. omega arith) returns)

@@ -1,12 +1,7 @@
 -- `pass_second::sines::sine_verdict` meets its contract: numbers 10 and 9, in their order.
-use mathlib.Core.Path.{ap₂, _∙_}
-use borrow.Author.Needs.{needs}
-use lib.IntN.{ℤ, pos}
-use mir.Syntax.{w64}
-use mir.Facts.{toZ-ofZ}
+use Rattle.vocabulary.specs.{ap₂, _∙_, needs, ℤ, pos, w64, toZ-ofZ}
 use Rattle.wide.specs.Wide.{sizeOf, radix}
-use Rattle.refusals.specs.Order.{verdictOf}
-use Rattle.refusals.specs.Table.{sineMisclosureRow, sumOfSquaresRow}
+use Rattle.refusals.specs.{Order.verdictOf, Table.sineMisclosureRow, Table.sumOfSquaresRow}
 use Rattle.refusals.proofs.InSteps.{last-row, next-row}
 use Rattle.pass_rules.specs.SecondPass.{toleranceOf}
 use Rattle.pass_second.proofs.sines.sine_verdict.Statement.{statement}
@@ -38,4 +33,5 @@ returns c =
 
 pub sine-verdict-spec : {M : Type 1} → statement M
 sine-verdict-spec =
-    tie.close (tie.spec (λ c κs. search needs) (λ c κs. search needs) (λ c κs. search needs) (λ c κs. search needs) (λ c κs. search needs) returns)
+    tie.close (tie.spec (λ c κs. search needs) (λ c κs. search needs) (λ c κs. search needs) (λ c κs. search needs) (λ c κs. search needs)
+    returns)

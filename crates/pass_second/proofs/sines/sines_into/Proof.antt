@@ -1,26 +1,14 @@
 -- `pass_second::sines::sines_into` meets its contract: d is what the signs give.
-use mathlib.Core.Path.{_≡_, sym, ap, _∙_, subst}
-use mathlib.Core.List.{List, _++_}
-use Prim.Native.Nat.{ℕ, _≤_, _<_}
-use native.Mathlib.Omega.{arith}
-use borrow.Author.Needs.{needs}
-use denote.Ref.{now}
-use lib.IntN.{ℤ, pos, natAbs}
-use lib.ListN.{length, take, drop, replicate}
-use mir.Syntax.{w64}
-use mir.ValLaws.{toZ-ofZ}
-use Rattle.whole.specs.Lists.{listed}
-use Rattle.whole.specs.Sums.{dot, squares as Sums·squares, vector}
+use Rattle.vocabulary.specs.{_≡_, sym, ap, _∙_, subst, List, _++_, ℕ, _≤_, _<_, arith, needs, now, ℤ, pos, natAbs, length, take, drop}
+use Rattle.vocabulary.specs.{replicate, w64, toZ-ofZ-at}
+use Rattle.whole.specs.{Lists.listed, Sums.dot, Sums.squares as Sums·squares, Sums.vector}
 use Rattle.refusals.specs.Ranges.{mostDifference}
 use Rattle.pass_rules.specs.Pass.{given}
-use Rattle.figures.specs.declared.Figure.{Figure}
-use Rattle.figures.specs.Figure.{angleCount}
+use Rattle.figures.specs.{declared.Figure.Figure, Figure.angleCount}
 use Rattle.figures.proofs.Figures.{angle-bound}
-use Rattle.pass_second.specs.declared.sines.SignedSums.{SignedSums}
+use Rattle.pass_second.specs.{declared.sines.SignedSums.SignedSums, Sines.signedBy}
 use Rattle.whole.proofs.Lending.{lent-length, part-again, still-few, again-length}
-use Rattle.pass_second.specs.Sines.{signedBy}
-use Rattle.pass_second.proofs.SineSteps.{own-reduced, own-squares, own-small}
-use Rattle.pass_second.proofs.Exact.{product-magnitude}
+use Rattle.pass_second.proofs.{SineSteps.own-reduced, SineSteps.own-squares, SineSteps.own-small, Exact.product-magnitude}
 use Rattle.pass_second.proofs.sines.sines_into.Statement.{statement}
 use Rattle.pass_second.proofs.sines.sines_into.Tie as tie
 
@@ -80,11 +68,11 @@ returns c =
     let made = s .signed-into .ensures .0 in
     let signs = start s .args .signs in
     let misclosure =
-    toZ-ofZ w64 _ (record { sfits = c .struct-told .given .0 .1 }) ∙ ap (λ (sums : SignedSums). sums .misclosure) made
+    toZ-ofZ-at w64 _ (record { sfits = c .struct-told .given .0 .1 }) ∙ ap (λ (sums : SignedSums). sums .misclosure) made
     ∙ ap (λ (k : ℕ). dot k (vector signs) (given (now (start s .args .log-sines)))) count in
-    let squares = toZ-ofZ w64 _ (record { sfits = reduced .reduced-into .ok }) ∙ reduced .reduced-into .ensures .0 ∙ own-squares (f s) (d s) (rule s) (d-again s) in
+    let squares = toZ-ofZ-at w64 _ (record { sfits = reduced .reduced-into .ok }) ∙ reduced .reduced-into .ensures .0 ∙ own-squares (f s) (d s) (rule s) (d-again s) in
     let difference-squares =
-    toZ-ofZ w64 _ (record { sfits = c .struct-told .given .1 .0 .1 }) ∙ ap (λ (sums : SignedSums). sums .«difference_squares») made
+    toZ-ofZ-at w64 _ (record { sfits = c .struct-told .given .1 .0 .1 }) ∙ ap (λ (sums : SignedSums). sums .«difference_squares») made
     ∙ ap (λ (k : ℕ). Sums·squares k (rule s)) count in (
       λ k. record { misclosure = misclosure k; squares = squares k; «difference_squares» = difference-squares k },
       reduced .reduced-into .ensures .1 ∙ own-reduced (f s) (d s) (rule s) (d-again s),
@@ -92,13 +80,8 @@ returns c =
 
 pub sines-into-spec : {M : Type 1} → statement M
 sines-into-spec =
-    tie.close
-    (tie.spec
-    (λ c. few (c .before))
+    tie.close (tie.spec (λ c. few (c .before))
     (λ c. lent-length (length (now (c .before .before .args .differences))) (replicate 24 (pos 0)) (few (c .before .before)))
     signed-into-requires
     (λ c. let s = c .before in still-few (length (differences s)) (replicate 24 (pos 0)) (few (start s)) (s .signed-into .last .1 .1 .1 .0) (s .signed-into .kept .1 .1 .1 .0))
-    (λ c. d-length (c .before .before))
-    reduced-into-requires
-    (λ c. search needs)
-    returns)
+    (λ c. d-length (c .before .before)) reduced-into-requires (λ c. search needs) returns)

@@ -1,32 +1,13 @@
 -- `pass_second::sines::tolerance_verdict` meets its contract. W is below 2³², so that its square fits 64 bits; a hundredfold of it is
 -- not taken here.
-use mathlib.Core.Path.{_≡_, sym, ap, _∙_}
-use mathlib.Core.Bool.{Bool}
-use Prim.Native.Nat.{_-_, _*_, _^_, _≤_}
-use native.Mathlib.Nat.{le-of-lt, mul-le-mul}
-use native.Mathlib.Omega.{arith}
-use lib.IntN.{pos, natAbs, _*ℤ_}
-use mir.Facts.{toZ-ofZ}
-use Rattle.refusals.specs.declared.Refusal.{Refusal}
-use Rattle.refusals.specs.Order.{failsIf}
-use Rattle.refusals.specs.Questions.{lessSigned, asked}
-use Rattle.refusals.specs.Ranges.{mostTolerance}
+use Rattle.vocabulary.specs.{_≡_, sym, ap, _∙_, Bool, _-_, _*_, _^_, _≤_, le-of-lt, mul-le-mul, arith, pos, natAbs, _*ℤ_, toZ-ofZ, needs}
+use Rattle.vocabulary.specs.{lit≤}
+use Rattle.refusals.specs.{declared.Refusal.Refusal, Order.failsIf, Questions.lessSigned, Questions.asked, Ranges.mostTolerance}
 use Rattle.pass_rules.specs.SecondPass.{toleranceOf}
 use Rattle.pass_rules.proofs.WithinRange.{in-force-within}
 use Rattle.pass_second.proofs.Tolerance.{exceeds-is}
-use borrow.Author.Needs.{needs}
-use lib.Dec.{lit≤}
 use Rattle.pass_second.proofs.sines.tolerance_verdict.Statement.{statement}
 use Rattle.pass_second.proofs.sines.tolerance_verdict.Tie as tie
-
-tolerance-in-force-requires : tie.Need-tolerance-in-force-requires
-tolerance-in-force-requires c κs = search needs
-
-cast-e : tie.Need-cast-e
-cast-e c = search needs
-
-magnitude-requires : tie.Need-magnitude-requires
-magnitude-requires c κs = search needs
 
 tolerance : (c : tie.After-tolerance-in-force) → c .tolerance-in-force .result ≤ mostTolerance
 tolerance c = rw (c .tolerance-in-force .ensures) (in-force-within _ mostTolerance (c .before .args .tolerance) (lit≤ tt) (c .before .pre .1 .0))
@@ -37,12 +18,6 @@ misclosure c = c .magnitude .ensures ∙ ap natAbs (toZ-ofZ (c .before .before .
 squares : (c : tie.After-magnitude2) → c .magnitude2 .result ≡ natAbs (c .before .before .before .args .difference-squares)
 squares c = c .magnitude2 .ensures ∙ ap natAbs (toZ-ofZ (c .before .before .before .fits .difference-squares))
 
-mul-most : tie.Need-mul-most
-mul-most c = record { fits = omega (arith, mul-le-mul (tolerance (c .before)) (tolerance (c .before))) }
-
-magnitude-requires-2 : tie.Need-magnitude-requires-2
-magnitude-requires-2 c κs = search needs
-
 mul-most-2 : tie.Need-mul-most-2
 mul-most-2 c =
     let size : c .magnitude2 .result ≤ 2 ^ 32 = rw (squares c) (le-of-lt (c .before .before .before .pre .1 .1 .1)) in
@@ -52,9 +27,6 @@ mul-hundredfold-exceeds : tie.Need-mul-hundredfold-exceeds
 mul-hundredfold-exceeds c =
     let size : c .before .magnitude .result ≤ 2 ^ 32 - 1 = rw (misclosure (c .before)) (omega (arith, c .before .before .before .pre .0)) in
     record { fits = omega (arith, mul-le-mul size size) }
-
-hundredfold-exceeds-requires : tie.Need-hundredfold-exceeds-requires
-hundredfold-exceeds-requires c κs = search needs
 
 -- the call has decided number 9
 decided : (c : tie.After-hundredfold-exceeds)
@@ -67,23 +39,10 @@ decided c =
     ∙ rw (← c .before .before .before .tolerance-in-force .ensures, ← misclosure (c .before .before), ← squares (c .before))
     (sym (c .hundredfold-exceeds .ensures))
 
-returns : tie.Need-returns
-returns c = sym (ap (λ (b : Bool). failsIf b Refusal.SineMisclosureBeyondTolerance) (decided (c .before) ∙ c .if1 .taken))
-
-returns-2 : tie.Need-returns-2
-returns-2 c = sym (ap (λ (b : Bool). failsIf b Refusal.SineMisclosureBeyondTolerance) (decided (c .before) ∙ c .if1 .left))
-
 pub tolerance-verdict-spec : {M : Type 1} → statement M
 tolerance-verdict-spec =
-    tie.close
-    (tie.spec
-    tolerance-in-force-requires
-    cast-e
-    magnitude-requires
-    mul-most
-    magnitude-requires-2
-    mul-most-2
-    mul-hundredfold-exceeds
-    hundredfold-exceeds-requires
-    returns
-    returns-2)
+    tie.close (tie.spec (λ c κs. search needs) (λ c. search needs) (λ c κs. search needs)
+    (λ c. record { fits = omega (arith, mul-le-mul (tolerance (c .before)) (tolerance (c .before))) }) (λ c κs. search needs) mul-most-2
+    mul-hundredfold-exceeds (λ c κs. search needs)
+    (λ c. sym (ap (λ (b : Bool). failsIf b Refusal.SineMisclosureBeyondTolerance) (decided (c .before) ∙ c .if1 .taken)))
+    (λ c. sym (ap (λ (b : Bool). failsIf b Refusal.SineMisclosureBeyondTolerance) (decided (c .before) ∙ c .if1 .left))))

@@ -1,14 +1,7 @@
 -- `pass_second::sums::divisor_of` meets its contract: S is its own magnitude, and so is the determinant.
-use mathlib.Core.Bool.{Bool, cond}
-use mathlib.Core.Path.{_≡_, refl, sym, ap, _∙_, subst}
-use borrow.Author.Tests.{eq-eqb, ne-eqb}
-use lib.IntN.{ℤ, pos, natAbs}
-use lib.Signed.{_≤ℤ_}
-use mir.Syntax.{w64}
-use mir.Facts.{toZ-ofZ}
+use Rattle.vocabulary.specs.{Bool, cond, _≡_, refl, sym, ap, _∙_, subst, eq-eqb, ne-eqb, ℤ, pos, natAbs, _≤ℤ_, w64, toZ-ofZ}
 use Rattle.whole.proofs.Order.{natural}
-use Rattle.wide.proofs.Bounds.{value-size}
-use Rattle.wide.proofs.Sizes.{low-word}
+use Rattle.wide.proofs.{Bounds.value-size, Sizes.low-word}
 use Rattle.pass_pair.specs.Pair.{determinant}
 use Rattle.pass_second.specs.Steps.{divisorFrom}
 use Rattle.pass_second.proofs.sums.divisor_of.Statement.{statement}

@@ -1,14 +1,6 @@
 -- `pass_second::sums::products` meets its contract. The invariant: the total is the sum of the products passed.
-use mathlib.Core.Path.{_≡_, refl, _∙_, ap}
-use mathlib.Core.List.{List}
-use Prim.Native.Nat.{ℕ, _-_, _*_, _≤_}
-use native.Mathlib.Omega.{arith}
-use denote.Ref.{now}
-use lib.Dec.{lit<}
-use lib.IntN.{ℤ, natAbs, _+ℤ_, _*ℤ_}
-use lib.ListN.{length}
-use mir.Syntax.{w32, w64}
-use mir.Val.{toZ, ofZ}
+use Rattle.vocabulary.specs.{_≡_, refl, _∙_, ap, List, ℕ, _-_, _*_, _≤_, arith, now, lit<, ℤ, natAbs, _+ℤ_, _*ℤ_, length, w32, w64, toZ}
+use Rattle.vocabulary.specs.{ofZ}
 use Rattle.whole.specs.Sums.{sum, dot, vector}
 use Rattle.whole.proofs.Magnitudes.{widened, widens}
 use Rattle.pass_steps.specs.Premises.{mostReduced}
@@ -61,9 +53,6 @@ module _ (c : tie.After-total2 Inv-loop μ-loop) where
       let inv = c .before .before .before .loop .inv in
       more w64 (mostReduced * mostReduced) _ i _ _ (omega (arith, start .pre .1 .0)) (inv .1) (inv .2) (made .read) (rw (made .read) (made .small))
 
-loop-again : tie.Need-loop-again Inv-loop μ-loop
-loop-again c = (omega arith, more-products c .total-is, more-products c .within)
-
 returns : tie.Need-returns Inv-loop μ-loop
 unfolding dot
 returns c =
@@ -74,20 +63,8 @@ returns c =
 
 pub products-spec : {M : Type 1} → statement M
 products-spec =
-    tie.close
-    (tie.spec
-    Inv-loop
-    μ-loop
-    loop-holds
-    (λ c. omega arith)
-    (λ c. omega arith)
+    tie.close (tie.spec Inv-loop μ-loop loop-holds (λ c. omega arith) (λ c. omega arith)
     (λ c. widens w32 w64 (vector (now (c .before .before .before .args .a)) (c .before .before .loop .i)) tt (record { sfits = c .total .given }))
-    (λ c. omega arith)
-    (λ c. omega arith)
-    (λ c. widens w32 w64 (second c) tt (record { sfits = c .total2 .given }))
-    (λ c. made c .fits)
-    (λ c. more-products c .fits)
-    (λ c. omega arith)
-    (λ c. omega arith)
-    loop-again
-    returns)
+    (λ c. omega arith) (λ c. omega arith) (λ c. widens w32 w64 (second c) tt (record { sfits = c .total2 .given })) (λ c. made c .fits)
+    (λ c. more-products c .fits) (λ c. omega arith) (λ c. omega arith)
+    (λ c. (omega arith, more-products c .total-is, more-products c .within)) returns)

@@ -1,26 +1,13 @@
 -- `pass_second::sums::sums_into` meets its contract: both sine conditions by their signs.
-use mathlib.Core.Bool.{Bool, true, false, cond}
-use mathlib.Core.Path.{_≡_, refl, sym, ap, _∙_}
-use mathlib.Core.List.{List, [], _∷_}
-use Prim.Native.Nat.{ℕ}
-use native.Mathlib.Omega.{arith}
-use borrow.Author.Needs.{needs}
-use denote.Ref.{now}
-use lib.IntN.{ℤ}
-use lib.ListN.{length}
-use mir.Syntax.{w64}
-use mir.Val.{toZ, ofZ}
-use mir.ValLaws.{toZ-ofZ}
-use Rattle.whole.specs.Lists.{listed}
-use Rattle.whole.specs.Sums.{dot, vector}
-use Rattle.figures.specs.declared.Figure.{Figure}
-use Rattle.figures.specs.Figure.{angleCount, pole, side, hasSide}
+use Rattle.vocabulary.specs.{Bool, true, false, cond, _≡_, refl, sym, ap, _∙_, List, [], _∷_, ℕ, arith, needs, now, ℤ, length, w64, toZ}
+use Rattle.vocabulary.specs.{ofZ, toZ-ofZ-at}
+use Rattle.whole.specs.{Lists.listed, Sums.dot, Sums.vector}
+use Rattle.figures.specs.{declared.Figure.Figure, Figure.angleCount, Figure.pole, Figure.side, Figure.hasSide}
 use Rattle.figures.proofs.Figures.{angle-bound, pole-signed, side-signed, side-none, side-some}
 use Rattle.pass_rules.specs.SecondPass.{SineEntries, sineEntries, sideMisclosure, sharedProducts, reducedIn, reducedOf}
 use Rattle.pass_steps.specs.Premises.{Within, mostReduced}
 use Rattle.pass_steps.proofs.StepLaws.{listed-within, length-of}
-use Rattle.pass_second.specs.declared.sines.Sines.{Sines}
-use Rattle.pass_second.specs.Sines.{aloneOf, togetherOf, withSides}
+use Rattle.pass_second.specs.{declared.sines.Sines.Sines, Sines.aloneOf, Sines.togetherOf, Sines.withSides}
 use Rattle.pass_second.proofs.SineBounds.{angles-magnitude, reduced-magnitude}
 use Rattle.pass_second.proofs.SineSteps.{conditionSines, sign-small, sines-are, reduced-by}
 use Rattle.pass_second.proofs.SumSteps.{alone-are, none-reduced, two-sides, both-misclosure, both-reduced, shared-are, together-are}
@@ -128,7 +115,7 @@ with-sides-requires c κs =
     let k = first t in
     let s = start k in
     let made = t .sines-into2 .result .misclosure in
-    let read = toZ-ofZ w64 made (record { sfits = c .struct-told .given .0 .1 }) in
+    let read = toZ-ofZ-at w64 made (record { sfits = c .struct-told .given .0 .1 }) in
     let is = ap (λ (z : Sines). z .misclosure) (side-is t) in (
       rw (read, is) (angles-magnitude (f k) (side (f k) .signs) (λ i h. side-signed (f k) .sign-small i) (now (s .args .log-sines)) (s .pre .1 .1 .1 .1 .1 .0)),
       (s .pre .1 .1 .0 ∙ two-sides (f k) (e k) (both (signed t)), s .pre .1 .1 .1 .1 .1 .1 .0),
@@ -145,14 +132,14 @@ returns-2 c =
     let summed = c .before in
     let multiplied = summed .before .before in
     let angles : toZ w64 (ofZ w64 made) ≡ sideSines t .misclosure =
-    toZ-ofZ w64 made (record { sfits = summed .before .struct-told .given .0 .1 }) ∙ ap (λ (z : Sines). z .misclosure) (side-is t) in
+    toZ-ofZ-at w64 made (record { sfits = summed .before .struct-told .given .0 .1 }) ∙ ap (λ (z : Sines). z .misclosure) (side-is t) in
     let shared : toZ w64 (ofZ w64 (multiplied .products .result)) ≡ sharedProducts g given =
-    toZ-ofZ w64 _ (record { sfits = multiplied .products .ok }) ∙ multiplied .products .ensures
+    toZ-ofZ-at w64 _ (record { sfits = multiplied .products .ok }) ∙ multiplied .products .ensures
     ∙ (λ i. dot (length (a-is k i)) (vector (a-is k i)) (vector (b-is t i)))
     ∙ ap (λ (n : ℕ). dot n (vector (reducedOf g given)) (vector (listed (angleCount g) (reducedIn g (side g) given)))) (length-of _ _ refl)
     ∙ shared-are g given (both (signed t)) in
     let wb : toZ w64 (ofZ w64 (summed .with-sides .result)) ≡ sideMisclosure g given =
-    toZ-ofZ w64 _ (record { sfits = summed .with-sides .ok }) ∙ summed .with-sides .ensures
+    toZ-ofZ-at w64 _ (record { sfits = summed .with-sides .ok }) ∙ summed .with-sides .ensures
     ∙ ap (λ (z : ℤ). withSides z (now (s .args .log-sides))) angles ∙ sym (both-misclosure g given (both (signed t))) in (
       c .together .ensures
           ∙ (λ i. togetherOf (pole-is k i) (side-is t i) (toZ w64 (ofZ w64 (multiplied .products .result))) (toZ w64 (ofZ w64 (summed .with-sides .result))))
@@ -162,18 +149,5 @@ returns-2 c =
 
 pub sums-into-spec : {M : Type 1} → statement M
 sums-into-spec =
-    tie.close
-    (tie.spec
-    (λ c κs. tt)
-    sines-into-requires
-    (λ c κs. tt)
-    (λ c. search needs)
-    returns
-    (λ c κs. tt)
-    sines-into-requires-2
-    products-requires
-    with-sides-requires
-    (λ c κs. tt)
-    (λ c. search needs)
-    (λ c. search needs)
-    returns-2)
+    tie.close (tie.spec (λ c κs. tt) sines-into-requires (λ c κs. tt) (λ c. search needs) returns (λ c κs. tt) sines-into-requires-2
+    products-requires with-sides-requires (λ c κs. tt) (λ c. search needs) (λ c. search needs) returns-2)

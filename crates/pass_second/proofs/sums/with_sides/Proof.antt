@@ -1,14 +1,5 @@
 -- `pass_second::sums::with_sides` meets its contract: every number on the way is small.
-use mathlib.Core.Path.{_≡_, sym, ap₂, _∙_, subst}
-use native.Mathlib.Omega.{arith}
-use borrow.Author.Needs.{needs}
-use denote.Ref.{now}
-use lib.IntN.{ℤ, _+ℤ_, _-ℤ_}
-use lib.ListN.{getD}
-use mir.Syntax.{w64}
-use mir.Val.{SFits, toZ, ofZ}
-use mir.Facts.{toZ-pos}
-use mir.ValLaws.{toZ-ofZ}
+use Rattle.vocabulary.specs.{_≡_, sym, ap₂, _∙_, subst, arith, needs, now, ℤ, _+ℤ_, _-ℤ_, getD, w64, SFits, toZ, ofZ, toZ-pos, toZ-ofZ-at}
 use Rattle.whole.proofs.Magnitudes.{natAbs-add, natAbs-sub, magnitude-fits}
 use Rattle.pass_rules.specs.Pass.{given}
 use Rattle.pass_second.specs.Sines.{withSides}
@@ -34,7 +25,7 @@ module _ (s : tie.Start) where
   made = toZ w64 (ofZ w64 (s .args .of-angles)) +ℤ toZ w64 (ofZ w64 known)
 
   made-is : made ≡ withSides (s .args .of-angles) (now (s .args .log-sides))
-  made-is = ap₂ _+ℤ_ (toZ-ofZ w64 (s .args .of-angles) (s .fits .of-angles)) (toZ-ofZ w64 known known-fits ∙ known-is)
+  made-is = ap₂ _+ℤ_ (toZ-ofZ-at w64 (s .args .of-angles) (s .fits .of-angles)) (toZ-ofZ-at w64 known known-fits ∙ known-is)
 
   made-fits : SFits w64 made
   made-fits =
@@ -48,17 +39,8 @@ module _ (s : tie.Start) where
         s .pre .1 .1 1,
       )))
 
-returns : tie.Need-returns
-returns c = let s = c .before .before in toZ-ofZ w64 (made s) (made-fits s) ∙ made-is s
-
 pub with-sides-spec : {M : Type 1} → statement M
 with-sides-spec =
-    tie.close
-    (tie.spec
-    (λ c. search needs)
-    (λ c. record { sfits = omega (arith, c .before .pre .1 .1 0) })
-    (λ c. search needs)
-    (λ c. record { sfits = omega (arith, c .before .before .pre .1 .1 1) })
-    (λ c. known-fits (c .before .before))
-    (λ c. made-fits (c .before .before))
-    returns)
+    tie.close (tie.spec (λ c. search needs) (λ c. record { sfits = omega (arith, c .before .pre .1 .1 0) }) (λ c. search needs)
+    (λ c. record { sfits = omega (arith, c .before .before .pre .1 .1 1) }) (λ c. known-fits (c .before .before))
+    (λ c. made-fits (c .before .before)) (λ c. let s = c .before .before in toZ-ofZ-at w64 (made s) (made-fits s) ∙ made-is s))

@@ -1,19 +1,8 @@
 -- `pass_steps::conditions::condition_sum` meets its contract: the conditions of each family.
-use mathlib.Core.Path.{_≡_, sym, ap, ap₂, _∙_}
-use Prim.Native.Nat.{ℕ, _+_, _-_, _*_}
-use native.Mathlib.Omega.{arith}
-use borrow.Author.Needs.{needs}
-use denote.Ref.{now}
-use lib.Dec.{lit≤}
-use lib.IntN.{_+ℤ_}
-use lib.ListN.{length}
-use mir.Syntax.{w64}
-use mir.ValLaws.{toZ-ofZ}
+use Rattle.vocabulary.specs.{_≡_, sym, ap, ap₂, _∙_, ℕ, _+_, _-_, _*_, arith, needs, now, lit≤, _+ℤ_, length, w64, toZ-ofZ-at}
 use Rattle.whole.specs.Sums.{sum, vector}
-use Rattle.figures.specs.declared.Figure.{Figure}
-use Rattle.figures.specs.declared.Figure.the-variants.{Quadrilateral}
+use Rattle.figures.specs.{declared.Figure.Figure, declared.Figure.the-variants.Quadrilateral, Numerators.conditionSum}
 use Rattle.figures.specs.Figure.{description, angleCount, conditionCount}
-use Rattle.figures.specs.Numerators.{conditionSum}
 use Rattle.figures.proofs.Figures.{condition-bound}
 use Rattle.figures.proofs.Families.{PointInside, Polygon, lastBefore, point-inside, polygon, quadrilateral-sum, triangle-sum}
 use Rattle.pass_steps.proofs.Polygons.{is-point-inside, is-polygon}
@@ -27,9 +16,6 @@ three f e = ap conditionCount e
 eight : (f : Figure) → f ≡ Quadrilateral → angleCount f ≡ 8
 eight f e = ap angleCount e
 
-mul-run-sum : tie.Need-mul-run-sum
-mul-run-sum c = omega (arith, three _ (c .enum-told .given .1))
-
 run-sum-requires : tie.Need-run-sum-requires
 run-sum-requires c κs =
     let start = c .before .before in
@@ -40,18 +26,6 @@ run-sum-requires c κs =
 inside : (c : tie.At-match-keys2) → PointInside (c .before .args .figure)
 inside c = point-inside (c .before .args .figure) (is-point-inside (c .before .args .figure) (c .match .keys2))
 
-mul-if1 : tie.Need-mul-if1
-mul-if1 c = omega (arith, condition-bound (c .before .args .figure))
-
-run-sum-requires-2 : tie.Need-run-sum-requires-2
-run-sum-requires-2 c κs =
-    let start = c .before .before in
-    let p = inside (c .before) in
-    (λ k h. omega (arith, p .angles, start .pre .0), lit≤ tt)
-
-mul-corner-sum : tie.Need-mul-corner-sum
-mul-corner-sum c = omega (arith, condition-bound (c .before .before .args .figure))
-
 corner-sum-requires : tie.Need-corner-sum-requires
 corner-sum-requires c κs =
     let start = c .before .before in
@@ -61,15 +35,6 @@ corner-sum-requires c κs =
 -- and of a polygon
 told : (c : tie.At-match-keys3) → Polygon (c .before .args .figure)
 told c = polygon (c .before .args .figure) (is-polygon (c .before .args .figure) (c .match .keys3))
-
-mul-if2 : tie.Need-mul-if2
-mul-if2 c = omega (arith, condition-bound (c .before .args .figure))
-
-run-sum-requires-3 : tie.Need-run-sum-requires-3
-run-sum-requires-3 c κs =
-    let start = c .before .before in
-    let p = told (c .before) in
-    (λ k h. omega (arith, p .angles, start .pre .0), lit≤ tt)
 
 run-sum-requires-4 : tie.Need-run-sum-requires-4
 run-sum-requires-4 c κs =
@@ -84,14 +49,14 @@ returns c =
     let start = c .before .before .before in
     let e = c .before .enum-told .given .1 in
     let x = vector (now (start .args .x)) in
-    toZ-ofZ w64 _ (record { sfits = c .run-sum .ok }) ∙ c .run-sum .ensures ∙ sym (quadrilateral-sum x (start .args .j) (omega (arith, three _ e, start .pre .1)))
+    toZ-ofZ-at w64 _ (record { sfits = c .run-sum .ok }) ∙ c .run-sum .ensures ∙ sym (quadrilateral-sum x (start .args .j) (omega (arith, three _ e, start .pre .1)))
     ∙ ap (λ (g : Figure). conditionSum g x (start .args .j)) (sym e)
 
 returns-2 : tie.Need-returns-2
 returns-2 c =
     let start = c .before .before .before in
     let p = inside (c .before .before) in
-    toZ-ofZ w64 _ (record { sfits = c .run-sum2 .ok }) ∙ c .run-sum2 .ensures
+    toZ-ofZ-at w64 _ (record { sfits = c .run-sum2 .ok }) ∙ c .run-sum2 .ensures
     ∙ sym (triangle-sum (start .args .figure) (vector (now (start .args .x))) (start .args .j) (omega (arith, p .angles, start .pre .0)))
 
 returns-3 : tie.Need-returns-3
@@ -105,7 +70,7 @@ returns-3 c =
     let angles : length (now (start .args .x)) ≡ 3 * description f .n = start .pre .0 ∙ p .angles in
     let first : 3 * j - length (now (start .args .x)) ≡ 3 * corner = omega (arith, angles) in
     let own : description f .n + corner ≡ j = omega (arith, angles) in
-    toZ-ofZ w64 _ (record { sfits = c .corner-sum .ok }) ∙ c .corner-sum .ensures
+    toZ-ofZ-at w64 _ (record { sfits = c .corner-sum .ok }) ∙ c .corner-sum .ensures
     ∙ ap₂ (λ (n k : ℕ). x (lastBefore n k) +ℤ x (k + 1)) angles first
     ∙ sym (p .corner-sum x corner (omega (arith, angles, p .conditions, start .pre .1))) ∙ ap (conditionSum f x) own
 
@@ -113,7 +78,7 @@ returns-4 : tie.Need-returns-4
 returns-4 c =
     let start = c .before .before .before in
     let p = told (c .before .before) in
-    toZ-ofZ w64 _ (record { sfits = c .run-sum3 .ok }) ∙ c .run-sum3 .ensures ∙ sym (triangle-sum (start .args .figure) (vector (now (start .args .x))) (start .args .j) (omega (arith, p .angles, start .pre .0)))
+    toZ-ofZ-at w64 _ (record { sfits = c .run-sum3 .ok }) ∙ c .run-sum3 .ensures ∙ sym (triangle-sum (start .args .figure) (vector (now (start .args .x))) (start .args .j) (omega (arith, p .angles, start .pre .0)))
 
 returns-5 : tie.Need-returns-5
 returns-5 c =
@@ -122,27 +87,14 @@ returns-5 c =
     let p = told (c .before .before) in
     let x = vector (now (start .args .x)) in
     let last : start .args .j ≡ description f .n = omega (arith, p .angles, p .conditions, start .pre .0, start .pre .1) in
-    toZ-ofZ w64 _ (record { sfits = c .run-sum4 .ok }) ∙ c .run-sum4 .ensures ∙ ap (λ (n : ℕ). sum n (λ k. x (0 + 3 * k))) last ∙ sym (p .horizon-sum x) ∙ ap (conditionSum f x) (sym last)
+    toZ-ofZ-at w64 _ (record { sfits = c .run-sum4 .ok }) ∙ c .run-sum4 .ensures ∙ ap (λ (n : ℕ). sum n (λ k. x (0 + 3 * k))) last ∙ sym (p .horizon-sum x) ∙ ap (conditionSum f x) (sym last)
 
 pub condition-sum-spec : {M : Type 1} → statement M
 condition-sum-spec =
-    tie.close
-    (tie.spec
-    (λ c. search needs)
-    mul-run-sum
-    run-sum-requires
-    mul-if1
-    (λ c. omega arith)
-    run-sum-requires-2
-    mul-corner-sum
-    (λ c. omega arith)
-    corner-sum-requires
-    mul-if2
-    (λ c. omega arith)
-    run-sum-requires-3
-    run-sum-requires-4
-    returns
-    returns-2
-    returns-3
-    returns-4
-    returns-5)
+    tie.close (tie.spec (λ c. search needs) (λ c. omega (arith, three _ (c .enum-told .given .1))) run-sum-requires
+    (λ c. omega (arith, condition-bound (c .before .args .figure))) (λ c. omega arith)
+    (λ c κs. let start = c .before .before in let p = inside (c .before) in (λ k h. omega (arith, p .angles, start .pre .0), lit≤ tt))
+    (λ c. omega (arith, condition-bound (c .before .before .args .figure))) (λ c. omega arith) corner-sum-requires
+    (λ c. omega (arith, condition-bound (c .before .args .figure))) (λ c. omega arith)
+    (λ c κs. let start = c .before .before in let p = told (c .before) in (λ k h. omega (arith, p .angles, start .pre .0), lit≤ tt))
+    run-sum-requires-4 returns returns-2 returns-3 returns-4 returns-5)

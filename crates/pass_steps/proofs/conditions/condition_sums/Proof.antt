@@ -1,10 +1,6 @@
 -- `pass_steps::conditions::condition_sums` meets its contract: nothing is added where a count is not the figure's own.
-use mathlib.Core.Path.{_≡_, sym, ap, _∙_}
-use borrow.Author.Needs.{needs}
-use denote.Ref.{now}
-use lib.ListN.{length}
-use Rattle.figures.specs.declared.Counts.{Counts}
-use Rattle.figures.specs.Figure.{angleCount, conditionCount}
+use Rattle.vocabulary.specs.{_≡_, sym, ap, _∙_, needs, now, length}
+use Rattle.figures.specs.{declared.Counts.Counts, Figure.angleCount, Figure.conditionCount}
 use Rattle.pass_steps.specs.Steps.{sumsOf}
 use Rattle.pass_steps.proofs.Fitting.{fits, first-unfit, second-unfit}
 use Rattle.pass_steps.proofs.conditions.condition_sums.Statement.{statement}
@@ -46,6 +42,4 @@ returns-3 c =
     (λ e. c .if1 .left (e ∙ sym (angles counted)))
 
 pub condition-sums-spec : {M : Type 1} → statement M
-condition-sums-spec =
-    tie.close
-    (tie.spec (λ c κs. search needs) sums-into-requires (λ c. search needs) returns returns-2 returns-3)
+condition-sums-spec = tie.close (tie.spec (λ c κs. search needs) sums-into-requires (λ c. search needs) returns returns-2 returns-3)

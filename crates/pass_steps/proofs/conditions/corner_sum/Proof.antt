@@ -1,18 +1,6 @@
 -- `pass_steps::conditions::corner_sum` meets its contract: two numbers of 32 bits sum within 64.
-use mathlib.Core.Bool.{Bool, cond}
-use mathlib.Core.List.{List}
-use mathlib.Core.Logic.{⊎-elim}
-use mathlib.Core.Path.{_≡_, sym, ap, ap₂, _∙_}
-use Prim.Native.Nat.{ℕ, _+_, _-_, _≤_, _<_}
-use native.Mathlib.Omega.{arith}
-use borrow.Author.Tests.{eq-eqb, ne-eqb}
-use denote.Ref.{now}
-use lib.Dec.{eqb}
-use lib.IntN.{ℤ, _+ℤ_}
-use lib.ListN.{length}
-use mir.Syntax.{w32, w64}
-use mir.Val.{SFits, toZ, ofZ}
-use mir.ValLaws.{toZ-ofZ}
+use Rattle.vocabulary.specs.{Bool, cond, List, ⊎-elim, _≡_, sym, ap, ap₂, _∙_, ℕ, _+_, _-_, _≤_, _<_, arith, eq-eqb, ne-eqb, now, eqb, ℤ}
+use Rattle.vocabulary.specs.{_+ℤ_, length, w32, w64, SFits, toZ, ofZ, toZ-ofZ-at}
 use Rattle.whole.specs.Sums.{vector}
 use Rattle.whole.proofs.Magnitudes.{natAbs-add, fits-magnitude, magnitude-fits, widened, widens}
 use Rattle.pass_steps.proofs.conditions.corner_sum.Statement.{statement}
@@ -61,25 +49,9 @@ module _ (c : tie.After-result2) where
   fits : SFits w64 (last +ℤ second)
   fits = magnitude-fits w64 (last +ℤ second) (omega (arith, natAbs-add last second, fits-magnitude w32 last last-fits, fits-magnitude w32 second second-fits))
 
-add-result-2 : tie.Need-add-result-2
-add-result-2 c = rw (read c) (fits c)
-
-returns : tie.Need-returns
-returns c =
-    rw (read c) (toZ-ofZ w64 _ (fits c))
-    ∙ ap (λ (n : ℕ). vector (x (joined c)) (n - 1) +ℤ second c) (ends (joined c))
-
 pub corner-sum-spec : {M : Type 1} → statement M
 corner-sum-spec =
-    tie.close
-    (tie.spec
-    (λ c. after-one (c .before))
-    (λ c. omega (arith, within (c .before)))
-    (λ c. within (c .before))
+    tie.close (tie.spec (λ c. after-one (c .before)) (λ c. omega (arith, within (c .before))) (λ c. within (c .before))
     (λ c. widens w32 w64 (vector (x (c .before .before)) (c .before .before .if1 .before - 1)) tt (record { sfits = c .result .given }))
-    (λ c. omega arith)
-    (λ c. omega arith)
-    (λ c. omega arith)
-    (λ c. widens w32 w64 (second c) tt (second-fits c))
-    add-result-2
-    returns)
+    (λ c. omega arith) (λ c. omega arith) (λ c. omega arith) (λ c. widens w32 w64 (second c) tt (second-fits c)) (λ c. rw (read c) (fits c))
+    (λ c. rw (read c) (toZ-ofZ-at w64 _ (fits c)) ∙ ap (λ (n : ℕ). vector (x (joined c)) (n - 1) +ℤ second c) (ends (joined c))))

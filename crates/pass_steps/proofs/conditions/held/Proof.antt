@@ -1,14 +1,5 @@
 -- `pass_steps::conditions::held` meets its contract: a number that is beyond neither bound fits 32 bits.
-use mathlib.Core.Bool.{Bool}
-use mathlib.Core.Path.{_≡_, sym, ap, _∙_}
-use Prim.Native.Nat.{_≤_}
-use native.Mathlib.Omega.{arith}
-use borrow.Author.Needs.{needs}
-use lib.IntN.{ℤ, pos, natAbs}
-use lib.Signed.{ltZ}
-use mir.Syntax.{w32, w64}
-use mir.Val.{SFits, toZ, ofZ}
-use mir.ValLaws.{toZ-ofZ}
+use Rattle.vocabulary.specs.{Bool, _≡_, sym, ap, _∙_, _≤_, arith, needs, ℤ, pos, natAbs, ltZ, w32, w64, SFits, toZ, ofZ, toZ-ofZ-at}
 use Rattle.whole.proofs.Magnitudes.{magnitude-fits}
 use Rattle.pass_steps.specs.Steps.{mostHeld}
 use Rattle.pass_steps.proofs.Held.{leastHeld, below, above, between, not-held, is-held}
@@ -20,7 +11,7 @@ module _ (s : tie.Start) where
   total = s .args .total
 
   read : toZ w64 (ofZ w64 total) ≡ total
-  read = toZ-ofZ w64 total (s .fits .total)
+  read = toZ-ofZ-at w64 total (s .fits .total)
 
   -- a test of the total's bits is one of the total
   told : (test : ℤ → Bool) (t : Bool) → test (toZ w64 (ofZ w64 total)) ≡ t → test total ≡ t
@@ -37,19 +28,9 @@ module _ (c : tie.Else2) where
   fits : SFits w32 (total start)
   fits = magnitude-fits w32 (total start) (omega (arith, small))
 
-cast-result : tie.Need-cast-result
-cast-result c = rw (read (start c)) (fits c)
-
-returns : tie.Need-returns
-returns c = let s = c .before in not-held (total s) (below (total s) (told s (λ z. ltZ z leastHeld) _ (c .if1 .taken)))
-
-returns-2 : tie.Need-returns-2
-returns-2 c = let s = c .before .before in not-held (total s) (above (total s) (told s (ltZ (pos mostHeld)) _ (c .if2 .taken)))
-
-returns-3 : tie.Need-returns-3
-returns-3 c =
-    let s = start c in
-    ap (λ (z : ℤ). toZ w32 (ofZ w32 z)) (read s) ∙ toZ-ofZ w32 (total s) (fits c) ∙ is-held (total s) (small c)
-
 pub held-spec : {M : Type 1} → statement M
-held-spec = tie.close (tie.spec (λ c. search needs) cast-result returns returns-2 returns-3)
+held-spec =
+    tie.close (tie.spec (λ c. search needs) (λ c. rw (read (start c)) (fits c))
+    (λ c. let s = c .before in not-held (total s) (below (total s) (told s (λ z. ltZ z leastHeld) _ (c .if1 .taken))))
+    (λ c. let s = c .before .before in not-held (total s) (above (total s) (told s (ltZ (pos mostHeld)) _ (c .if2 .taken))))
+    (λ c. let s = start c in ap (λ (z : ℤ). toZ w32 (ofZ w32 z)) (read s) ∙ toZ-ofZ-at w32 (total s) (fits c) ∙ is-held (total s) (small c)))

@@ -1,12 +1,6 @@
 -- `pass_steps::conditions::run_sum` meets its contract. The invariant: the total is the sum of the numbers passed.
-use mathlib.Core.Path.{_≡_, refl, ap, _∙_}
-use Prim.Native.Nat.{ℕ, _+_, _-_, _*_, _^_, _≤_, _<_}
-use native.Mathlib.Omega.{arith}
-use denote.Ref.{now}
-use lib.IntN.{natAbs, _+ℤ_}
-use lib.ListN.{length}
-use mir.Syntax.{w32, w64}
-use mir.Val.{SFits, toZ, ofZ}
+use Rattle.vocabulary.specs.{_≡_, refl, ap, _∙_, ℕ, _+_, _-_, _*_, _^_, _≤_, _<_, arith, now, natAbs, _+ℤ_, length, w32, w64, SFits, toZ}
+use Rattle.vocabulary.specs.{ofZ}
 use Rattle.whole.specs.Sums.{sum, vector}
 use Rattle.whole.proofs.Magnitudes.{fits-magnitude, widened, widens}
 use Rattle.pass_steps.proofs.Totals.{More, more}
@@ -28,15 +22,6 @@ inside : (c : tie.In-loop Inv-loop μ-loop)
     → (let args = c .before .before .args in args .first + args .step * c .before .loop .k < length (now (args .x)))
 inside c = c .before .before .pre .0 (c .before .loop .k) (omega arith)
 
-mul-total : tie.Need-mul-total Inv-loop μ-loop
-mul-total c = omega (arith, inside c)
-
-add-total : tie.Need-add-total Inv-loop μ-loop
-add-total c = omega (arith, inside c)
-
-mul-total-2 : tie.Need-mul-total-2 Inv-loop μ-loop
-mul-total-2 c = omega (arith, inside c)
-
 cast-total : tie.Need-cast-total Inv-loop μ-loop
 cast-total c =
     let start = c .before .before .before in
@@ -53,9 +38,6 @@ turn c =
     let read = widened w32 w64 value tt fits in
     more w64 (2 ^ 31) _ (at .k) _ _ (omega (arith, start .pre .1)) (at .inv .1) (at .inv .2) read (rw read (fits-magnitude w32 value fits))
 
-loop-again : tie.Need-loop-again Inv-loop μ-loop
-loop-again c = (omega arith, turn c .total-is, turn c .within)
-
 returns : tie.Need-returns Inv-loop μ-loop
 returns c =
     let args = c .before .before .args in
@@ -63,18 +45,6 @@ returns c =
 
 pub run-sum-spec : {M : Type 1} → statement M
 run-sum-spec =
-    tie.close
-    (tie.spec
-    Inv-loop
-    μ-loop
-    loop-holds
-    mul-total
-    add-total
-    mul-total-2
-    inside
-    cast-total
-    (λ c. turn c .fits)
-    (λ c. omega arith)
-    (λ c. omega arith)
-    loop-again
-    returns)
+    tie.close (tie.spec Inv-loop μ-loop loop-holds (λ c. omega (arith, inside c)) (λ c. omega (arith, inside c))
+    (λ c. omega (arith, inside c)) inside cast-total (λ c. turn c .fits) (λ c. omega arith) (λ c. omega arith)
+    (λ c. (omega arith, turn c .total-is, turn c .within)) returns)

@@ -1,11 +1,5 @@
 -- `pass_steps::numerators::nine_applied` meets its contract. The invariant: the numerators passed are filled in.
-use mathlib.Core.Logic.{⊎-elim}
-use mathlib.Core.Path.{_≡_, sym, ap, _∙_}
-use Prim.Native.Nat.{ℕ, _+_, _-_, _≤_}
-use native.Mathlib.Omega.{arith}
-use lib.ListN.{length, take}
-use mir.Syntax.{w32}
-use mir.ValLaws.{toZ-ofZ}
+use Rattle.vocabulary.specs.{⊎-elim, _≡_, sym, ap, _∙_, ℕ, _+_, _-_, _≤_, arith, length, take, w32, toZ-ofZ-at}
 use Rattle.whole.specs.Sums.{applied, table, vector}
 use Rattle.whole.proofs.Lists.{filled-more}
 use Rattle.pass_steps.specs.Steps.{AppliedTo}
@@ -23,9 +17,6 @@ abbrev μ-loop : tie.MeasureT-loop
 to-within : (c : tie.Joined1 Inv-loop μ-loop) → c .if1 .to ≤ c .before .args .angles
 to-within c = ⊎-elim (λ w. omega arith) (λ w. omega arith) (c .if1 .came)
 
-row-applied-requires : tie.Need-row-applied-requires Inv-loop μ-loop
-row-applied-requires c κs = let pre = c .before .before .before .before .pre in (pre .1 .1 .1 .0, (pre .1 .1 .1 .1 .0, pre .1 .1 .1 .1 .1 .0))
-
 loop-again : tie.Need-loop-again Inv-loop μ-loop
 unfolding applied
 loop-again c =
@@ -33,7 +24,7 @@ loop-again c =
     let few = to-within (c .before .before .before .before) in
     let more =
     filled-more {i = at .i} {l = at .numerators} (record { within = omega (arith, few); size = at .inv .0; done = at .inv .1 }) (omega (arith, few))
-    (toZ-ofZ w32 _ (record { sfits = c .row-applied .ok }) ∙ c .row-applied .ensures) in (more .size, more .done)
+    (toZ-ofZ-at w32 _ (record { sfits = c .row-applied .ok }) ∙ c .row-applied .ensures) in (more .size, more .done)
 
 -- those passed are all that there are, or the nine and those before them
 returns : tie.Need-returns Inv-loop μ-loop
@@ -47,20 +38,10 @@ returns c =
 
 pub nine-applied-spec : {M : Type 1} → statement M
 nine-applied-spec =
-    tie.close
-    (tie.spec
-    Inv-loop
-    μ-loop
-    (λ c. omega arith)
-    (λ c. omega arith)
-    (λ c. (c .before .pre .1 .0, c .before .pre .1 .1 .1 .1 .1 .1))
+    tie.close (tie.spec Inv-loop μ-loop (λ c. omega arith) (λ c. omega arith)
+    (λ c. (c .before .pre .1 .0, c .before .pre .1 .1 .1 .1 .1 .1)) (λ c. omega (arith, to-within (c .before .before)))
     (λ c. omega (arith, to-within (c .before .before)))
-    (λ c. omega (arith, to-within (c .before .before)))
-    row-applied-requires
-    (λ c. omega (arith, to-within (c .before .before .before .before)))
-    (λ c. omega (arith, to-within (c .before .before .before .before)))
-    (λ c. omega (arith, to-within (c .before .before .before .before)))
-    (λ c. omega arith)
-    loop-again
-    (λ c. c .before .loop .inv .0 ∙ sym (c .before .before .before .pre .1 .0))
-    returns)
+    (λ c κs. let pre = c .before .before .before .before .pre in (pre .1 .1 .1 .0, (pre .1 .1 .1 .1 .0, pre .1 .1 .1 .1 .1 .0)))
+    (λ c. omega (arith, to-within (c .before .before .before .before))) (λ c. omega (arith, to-within (c .before .before .before .before)))
+    (λ c. omega (arith, to-within (c .before .before .before .before))) (λ c. omega arith) loop-again
+    (λ c. c .before .loop .inv .0 ∙ sym (c .before .before .before .pre .1 .0)) returns)

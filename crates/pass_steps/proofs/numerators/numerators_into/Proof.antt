@@ -1,16 +1,9 @@
 -- `pass_steps::numerators::numerators_into` meets its contract: no product is taken where a count is not the figure's own or a misclosure
 -- is too great.
-use mathlib.Core.Path.{_≡_, sym, ap, _∙_}
-use borrow.Author.Needs.{needs}
-use denote.Ref.{now}
-use lib.ListN.{length}
-use Rattle.refusals.specs.Order.{verdictOf}
-use Rattle.refusals.specs.Promise.{stored}
-use Rattle.refusals.specs.Table.{misclosuresRow}
-use Rattle.figures.specs.declared.Counts.{Counts}
-use Rattle.figures.specs.Figure.{angleCount, conditionCount}
-use Rattle.pass_steps.specs.Premises.{mostApplied}
-use Rattle.pass_steps.specs.Steps.{numeratorsFrom}
+use Rattle.vocabulary.specs.{_≡_, sym, ap, _∙_, needs, now, length}
+use Rattle.refusals.specs.{Order.verdictOf, Promise.stored, Table.misclosuresRow}
+use Rattle.figures.specs.{declared.Counts.Counts, Figure.angleCount, Figure.conditionCount}
+use Rattle.pass_steps.specs.{Premises.mostApplied, Steps.numeratorsFrom}
 use Rattle.pass_steps.proofs.Fitting.{fits, first-unfit, second-unfit}
 use Rattle.pass_steps.proofs.Judged.{misclosures-small, kept, written}
 use Rattle.pass_steps.proofs.numerators.numerators_into.Statement.{statement}
@@ -74,15 +67,5 @@ returns-4 c =
 
 pub numerators-into-spec : {M : Type 1} → statement M
 numerators-into-spec =
-    tie.close
-    (tie.spec
-    (λ c κs. search needs)
-    (λ c κs. search needs)
-    (λ c. search needs)
-    table-applied-requires
-    (λ c. search needs)
-    (λ c. search needs)
-    returns
-    returns-2
-    returns-3
-    returns-4)
+    tie.close (tie.spec (λ c κs. search needs) (λ c κs. search needs) (λ c. search needs) table-applied-requires (λ c. search needs)
+    (λ c. search needs) returns returns-2 returns-3 returns-4)

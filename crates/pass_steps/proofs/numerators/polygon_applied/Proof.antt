@@ -1,10 +1,7 @@
 -- `pass_steps::numerators::polygon_applied` meets its contract: each figure's table, counts and conditions are its type's.
-use borrow.Author.Needs.{needs}
-use denote.Ref.{now}
-use mathlib.Core.Path.{_≡_}
+use Rattle.vocabulary.specs.{needs, now, _≡_}
 use Rattle.figures.specs.declared.Figure.{Figure}
-use Rattle.pass_steps.proofs.Polygons.{is-octagon}
-use Rattle.pass_steps.proofs.Tables.{told-numerators, told-lengths}
+use Rattle.pass_steps.proofs.{Polygons.is-octagon, Tables.told-numerators, Tables.told-lengths}
 use Rattle.pass_steps.proofs.numerators.polygon_applied.Statement.{statement}
 use Rattle.pass_steps.proofs.numerators.polygon_applied.Tie as tie
 
@@ -14,16 +11,11 @@ octagon c = is-octagon (c .before .args .figure) (c .match .keys4) (c .before .p
 
 pub polygon-applied-spec : {M : Type 1} → statement M
 polygon-applied-spec =
-    tie.close
-    (tie.spec
-    (λ c. search needs)
-    (λ c κs. search needs)
+    tie.close (tie.spec (λ c. search needs) (λ c κs. search needs)
     (λ c κs. let pre = c .before .before .before .before .pre in told-lengths _ Figure.CentralPentagon (c .before .before .enum-told .given .1) (pre .0) (pre .1 .0) (pre .1 .1 .0))
-    (λ c. search needs)
-    (λ c κs. search needs)
+    (λ c. search needs) (λ c κs. search needs)
     (λ c κs. let pre = c .before .before .before .before .pre in told-lengths _ Figure.CentralHexagon (c .before .before .enum-told2 .given .1) (pre .0) (pre .1 .0) (pre .1 .1 .0))
-    (λ c. search needs)
-    (λ c κs. search needs)
+    (λ c. search needs) (λ c κs. search needs)
     (λ c κs. let pre = c .before .before .before .before .pre in told-lengths _ Figure.CentralHeptagon (c .before .before .enum-told3 .given .1) (pre .0) (pre .1 .0) (pre .1 .1 .0))
     (λ c κs. search needs)
     (λ c κs. let m = c .before .before in let pre = m .before .pre in told-lengths _ Figure.CentralOctagon (octagon m) (pre .0) (pre .1 .0) (pre .1 .1 .0))

@@ -1,19 +1,9 @@
 -- `pass_steps::numerators::product` meets its contract: a byte times a number of 20 bits fits 32, with bits to spare for the sum of a row.
-use Prim.Native.Nat.{_*_, _^_, _≤_}
-use mir.Syntax.{w8, w32}
-use mir.Val.{SFits, toZ, ofZ}
-use mir.Facts.{toZ-ofZ}
-use mathlib.Core.Path.{_≡_, ap₂, _∙_}
-use native.Mathlib.Nat.{mul-le-mul}
-use native.Mathlib.Omega.{arith}
-use lib.IntN.{ℤ, natAbs, _*ℤ_}
+use Rattle.vocabulary.specs.{_*_, _^_, _≤_, w8, w32, SFits, toZ, ofZ, toZ-ofZ, _≡_, ap₂, _∙_, mul-le-mul, arith, ℤ, natAbs, _*ℤ_}
 use Rattle.whole.proofs.Magnitudes.{widened, widens, natAbs-mul, fits-magnitude, magnitude-fits}
 use Rattle.pass_steps.specs.Premises.{mostApplied}
 use Rattle.pass_steps.proofs.numerators.product.Statement.{statement}
 use Rattle.pass_steps.proofs.numerators.product.Tie as tie
-
-cast-result : tie.Need-cast-result
-cast-result c = widens w8 w32 (c .args .coefficient) tt (c .fits .coefficient)
 
 bound : (a b : ℤ) → SFits w8 a → natAbs b ≤ mostApplied → natAbs (a *ℤ b) ≤ 2 ^ 7 * mostApplied
 bound a b f g = rw (natAbs-mul a b) (mul-le-mul (fits-magnitude w8 a f) g)
@@ -32,4 +22,4 @@ returns c =
     (exact, rw exact (bound (c .args .coefficient) (c .args .misclosure) (c .fits .coefficient) (c .pre)))
 
 pub product-spec : {M : Type 1} → statement M
-product-spec = tie.close (tie.spec cast-result mul-result returns)
+product-spec = tie.close (tie.spec (λ c. widens w8 w32 (c .args .coefficient) tt (c .fits .coefficient)) mul-result returns)

@@ -1,12 +1,5 @@
 -- `pass_steps::numerators::row_applied` meets its contract. The invariant: the total is the sum of the products passed.
-use mathlib.Core.Path.{_≡_, refl, ap, ap₂, _∙_}
-use Prim.Native.Nat.{ℕ, _-_, _*_, _^_, _≤_}
-use native.Mathlib.Omega.{arith}
-use denote.Ref.{now}
-use lib.IntN.{natAbs, _+ℤ_, _*ℤ_}
-use mir.Syntax.{w8, w32}
-use mir.Val.{toZ, ofZ}
-use mir.ValLaws.{toZ-ofZ}
+use Rattle.vocabulary.specs.{_≡_, refl, ap, ap₂, _∙_, ℕ, _-_, _*_, _^_, _≤_, arith, now, natAbs, _+ℤ_, _*ℤ_, w8, w32, toZ, ofZ, toZ-ofZ-at}
 use Rattle.whole.specs.Sums.{sum, dot, vector}
 use Rattle.pass_steps.specs.Premises.{mostApplied}
 use Rattle.pass_steps.proofs.Totals.{More, more}
@@ -28,7 +21,7 @@ product-requires : tie.Need-product-requires Inv-loop μ-loop
 product-requires c κs =
     let start = c .before .before .before .before in
     let j = c .before .before .before .loop .j in
-    rw (toZ-ofZ w32 (vector (now (start .args .w)) j) (record { sfits = c .product-arg2 .given })) (start .pre .1 .1 j)
+    rw (toZ-ofZ-at w32 (vector (now (start .args .w)) j) (record { sfits = c .product-arg2 .given })) (start .pre .1 .1 j)
 
 -- what a turn adds
 turn : (c : tie.After-product Inv-loop μ-loop) → (let start = c .before .before .before .before .before in let at = c .before .before .before .before .loop in
@@ -37,14 +30,11 @@ turn : (c : tie.After-product Inv-loop μ-loop) → (let start = c .before .befo
 turn c =
     let start = c .before .before .before .before .before in
     let at = c .before .before .before .before .loop in
-    let read = toZ-ofZ w32 (c .product .result) (record { sfits = c .product .ok }) in
-    let coefficient = toZ-ofZ w8 (vector (start .args .t1) (at .j)) (record { sfits = c .before .before .product-arg .given }) in
-    let misclosure = toZ-ofZ w32 (vector (now (start .args .w)) (at .j)) (record { sfits = c .before .product-arg2 .given }) in
+    let read = toZ-ofZ-at w32 (c .product .result) (record { sfits = c .product .ok }) in
+    let coefficient = toZ-ofZ-at w8 (vector (start .args .t1) (at .j)) (record { sfits = c .before .before .product-arg .given }) in
+    let misclosure = toZ-ofZ-at w32 (vector (now (start .args .w)) (at .j)) (record { sfits = c .before .product-arg2 .given }) in
     more w32 (2 ^ 7 * mostApplied) _ (at .j) _ _ (omega (arith, start .pre .1 .0)) (at .inv .1) (at .inv .2)
     (read ∙ c .product .ensures .0 ∙ ap₂ _*ℤ_ coefficient misclosure) (rw read (c .product .ensures .1))
-
-loop-again : tie.Need-loop-again Inv-loop μ-loop
-loop-again c = (omega arith, turn c .total-is, turn c .within)
 
 returns : tie.Need-returns Inv-loop μ-loop
 unfolding dot
@@ -54,17 +44,5 @@ returns c =
 
 pub row-applied-spec : {M : Type 1} → statement M
 row-applied-spec =
-    tie.close
-    (tie.spec
-    Inv-loop
-    μ-loop
-    loop-holds
-    (λ c. omega arith)
-    (λ c. omega arith)
-    (λ c. omega arith)
-    product-requires
-    (λ c. turn c .fits)
-    (λ c. omega arith)
-    (λ c. omega arith)
-    loop-again
-    returns)
+    tie.close (tie.spec Inv-loop μ-loop loop-holds (λ c. omega arith) (λ c. omega arith) (λ c. omega arith) product-requires
+    (λ c. turn c .fits) (λ c. omega arith) (λ c. omega arith) (λ c. (omega arith, turn c .total-is, turn c .within)) returns)

@@ -1,18 +1,10 @@
 -- `pass_steps::numerators::rows_applied` meets its contract: three times nine rows are all that a figure has.
-use mathlib.Core.List.{List, _++_}
-use mathlib.Core.Path.{_≡_, refl, sym, ap, _∙_}
-use borrow.Author.Needs.{needs}
-use native.Mathlib.Omega.{arith}
-use denote.Ref.{now}
-use lib.IntN.{ℤ, pos}
-use lib.ListN.{length, take, drop, replicate}
-use Rattle.whole.specs.Lists.{listed}
-use Rattle.whole.specs.Sums.{applied, table, vector}
+use Rattle.vocabulary.specs.{List, _++_, _≡_, refl, sym, ap, _∙_, needs, arith, now, ℤ, pos, length, take, drop, replicate}
+use Rattle.whole.specs.{Lists.listed, Sums.applied, Sums.table, Sums.vector}
 use Rattle.pass_steps.specs.Premises.{Within, mostApplied}
-use Rattle.pass_steps.proofs.Again.{Again, again}
-use Rattle.pass_steps.proofs.AppliedRows.{all-applied}
-use Rattle.whole.proofs.Lending.{lent-length}
+use Rattle.pass_steps.proofs.{Again.Again, Again.again, AppliedRows.all-applied}
 use Rattle.pass_steps.proofs.numerators.rows_applied.Statement.{statement}
+use Rattle.whole.proofs.Lending.{lent-length}
 use Rattle.pass_steps.proofs.numerators.rows_applied.Tie as tie
 
 lent : (c : tie.Start) → c .args .conditions ≡ length (take (c .args .conditions) (replicate 9 (pos 0)))
@@ -84,15 +76,6 @@ returns c =
 
 pub rows-applied-spec : {M : Type 1} → statement M
 rows-applied-spec =
-    tie.close
-    (tie.spec
-    (λ c. search needs)
-    (λ c. lent (c .before))
-    (λ c κs. sym (lent (c .before)) ∙ sym (c .before .pre .1 .1 .0))
-    (λ c. stands (c .before) .few)
-    (λ c. stands (c .before .before) .size)
-    nine-applied-requires
-    nine-applied-requires-2
-    nine-applied-requires-3
-    (λ c. search needs)
-    returns)
+    tie.close (tie.spec (λ c. search needs) (λ c. lent (c .before)) (λ c κs. sym (lent (c .before)) ∙ sym (c .before .pre .1 .1 .0))
+    (λ c. stands (c .before) .few) (λ c. stands (c .before .before) .size) nine-applied-requires nine-applied-requires-2
+    nine-applied-requires-3 (λ c. search needs) returns)

@@ -1,16 +1,9 @@
 -- `pass_steps::results::results_into` meets its contract: numbers 2 and 7, and the results where both pass.
-use mathlib.Core.Path.{_≡_, refl, sym, ap, _∙_, subst}
-use mathlib.Core.List.{List, [], _∷_}
-use Prim.Native.Nat.{ℕ, _<_}
-use borrow.Author.Needs.{needs}
-use denote.Ref.{now}
-use lib.ListN.{length, getD}
+use Rattle.vocabulary.specs.{_≡_, refl, sym, ap, _∙_, subst, List, [], _∷_, ℕ, _<_, needs, now, length, getD}
 use Rattle.whole.proofs.Lists.{length-listed}
-use Rattle.refusals.specs.declared.Verdict.the-variants.{Passed}
-use Rattle.refusals.specs.Order.{Row, verdictOf, judged}
+use Rattle.refusals.specs.{declared.Verdict.the-variants.Passed, Order.Row, Order.verdictOf, Order.judged}
 use Rattle.refusals.specs.Table.{lengthsRow, resultsRow}
-use Rattle.refusals.proofs.Nowhere.{same-lengths}
-use Rattle.refusals.proofs.Rows.{row-passes}
+use Rattle.refusals.proofs.{Nowhere.same-lengths, Rows.row-passes}
 use Rattle.judging.specs.Searches.{resultsOf}
 use Rattle.pass_steps.proofs.Judged.{results-in-range, first-fails, first-passes, kept, written}
 use Rattle.pass_steps.proofs.results.results_into.Statement.{statement}
@@ -76,18 +69,5 @@ returns-3 c =
 
 pub results-into-spec : {M : Type 1} → statement M
 results-into-spec =
-    tie.close
-    (tie.spec
-    (λ c. refl)
-    (λ c. refl)
-    (λ c κs. tt)
-    (λ c. search needs)
-    returns
-    (λ c. search needs)
-    (λ c κs. tt)
-    (λ c. search needs)
-    store-results-requires
-    (λ c. search needs)
-    (λ c. search needs)
-    returns-2
-    returns-3)
+    tie.close (tie.spec (λ c. refl) (λ c. refl) (λ c κs. tt) (λ c. search needs) returns (λ c. search needs) (λ c κs. tt)
+    (λ c. search needs) store-results-requires (λ c. search needs) (λ c. search needs) returns-2 returns-3)

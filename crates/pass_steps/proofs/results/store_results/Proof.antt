@@ -1,24 +1,12 @@
 -- `pass_steps::results::store_results` meets its contract. The invariant: the results passed are filled in.
-use mathlib.Core.Path.{_≡_, ap, ap₂, _∙_, sym}
-use mathlib.Core.List.{List}
-use Prim.Native.Nat.{ℕ, _-_, _<_}
-use native.Mathlib.Omega.{arith}
-use denote.Ref.{now}
-use lib.IntN.{ℤ, pos, natAbs, _+ℤ_}
-use lib.ListN.{length, getD}
-use lib.Signed.{_≤ℤ_, yes-nonNeg}
-use mir.Syntax.{w32, w64}
-use mir.Val.{SFits, toZ, ofZ}
-use mir.Facts.{toZ-pos}
-use mir.ValLaws.{toZ-ofZ}
+use Rattle.vocabulary.specs.{_≡_, ap, ap₂, _∙_, sym, List, ℕ, _-_, _<_, arith, now, ℤ, pos, natAbs, _+ℤ_, length, getD, _≤ℤ_, yes-nonNeg}
+use Rattle.vocabulary.specs.{w32, w64, SFits, toZ, ofZ, toZ-pos, toZ-ofZ-at}
 use Rattle.whole.specs.Sums.{vector}
-use Rattle.whole.proofs.Lists.{Filled, filled-none, filled-more, filled-all}
+use Rattle.whole.proofs.{Lists.Filled, Lists.filled-none, Lists.filled-more, Lists.filled-all, Order.zero-≤ℤ-pos, Order.≤ℤ-trans}
 use Rattle.whole.proofs.Magnitudes.{natAbs-add, fits-magnitude, magnitude-fits, widened, widens}
-use Rattle.whole.proofs.Order.{zero-≤ℤ-pos, ≤ℤ-trans}
 use Rattle.refusals.specs.Ranges.{leastAngle, mostAngle}
 use Rattle.judging.specs.Searches.{resultsOf}
-use Rattle.pass_steps.proofs.Judged.{result-most}
-use Rattle.pass_steps.proofs.StepLaws.{listed-at}
+use Rattle.pass_steps.proofs.{Judged.result-most, StepLaws.listed-at}
 use Rattle.pass_steps.proofs.results.store_results.Statement.{statement}
 use Rattle.pass_steps.proofs.results.store_results.Tie as tie
 
@@ -27,9 +15,6 @@ Inv-loop angles rounded results₀ i₀ results i = Filled (length angles) (λ k
 
 abbrev μ-loop : tie.MeasureT-loop
 μ-loop angles rounded results₀ i₀ results i = length angles - i
-
-loop-holds : tie.Need-loop-holds Inv-loop μ-loop
-loop-holds c = filled-none _ _ _ (c .pre .1 .0)
 
 module _ (c : tie.After-results Inv-loop μ-loop) where
   abbrev i : ℕ
@@ -59,50 +44,21 @@ module _ (c : tie.After-results Inv-loop μ-loop) where
   result = listed-at (length angles) (λ k. pos (getD angles k 0) +ℤ vector rounded k) i (omega arith)
 
   sum-is : toZ w64 (ofZ w64 (toZ w64 (getD angles i 0) +ℤ toZ w64 (ofZ w64 (toZ w32 (ofZ w32 (vector rounded i)))))) ≡ vector (resultsOf angles rounded) i
-  sum-is = ap (λ (z : ℤ). toZ w64 (ofZ w64 z)) both ∙ toZ-ofZ w64 _ small ∙ sym result
+  sum-is = ap (λ (z : ℤ). toZ w64 (ofZ w64 z)) both ∙ toZ-ofZ-at w64 _ small ∙ sym result
 
   in-range : (pos leastAngle ≤ℤ vector (resultsOf angles rounded) i) × (vector (resultsOf angles rounded) i ≤ℤ pos mostAngle)
   in-range = c .before .before .before .before .pre .1 .1 i (omega arith)
-
-cast-results : tie.Need-cast-results Inv-loop μ-loop
-cast-results c = record { sfits = omega (arith, c .shared-slice-known .given (c .before .before .loop .i)) }
-
-cast-results-2 : tie.Need-cast-results-2 Inv-loop μ-loop
-cast-results-2 c = widens w32 w64 (vector (rounded c) (i c)) tt (correction-fits c)
-
-add-results : tie.Need-add-results Inv-loop μ-loop
-add-results c = rw (both c) (small c)
 
 cast-results-3 : tie.Need-cast-results-3 Inv-loop μ-loop
 cast-results-3 c =
     let low = in-range c .0 in
     rw (sum-is c) (yes-nonNeg (≤ℤ-trans (zero-≤ℤ-pos leastAngle) low), record { fits = omega (arith, result-most _ low (in-range c .1)) })
 
-loop-again : tie.Need-loop-again Inv-loop μ-loop
-loop-again c = filled-more (c .before .before .before .loop .inv) (omega arith) (ap natAbs (sum-is c))
-
-returns : tie.Need-returns Inv-loop μ-loop
-returns c = filled-all (c .before .loop .inv) (omega arith)
-
 pub store-results-spec : {M : Type 1} → statement M
 store-results-spec =
-    tie.close
-    (tie.spec
-    Inv-loop
-    μ-loop
-    loop-holds
-    (λ c. omega arith)
-    (λ c. omega arith)
-    cast-results
-    (λ c. omega arith)
-    (λ c. omega arith)
-    cast-results-2
-    add-results
-    cast-results-3
-    (λ c. omega arith)
-    (λ c. omega arith)
-    (λ c. omega arith)
-    (λ c. omega arith)
-    loop-again
-    (λ c. omega arith)
-    returns)
+    tie.close (tie.spec Inv-loop μ-loop (λ c. filled-none _ _ _ (c .pre .1 .0)) (λ c. omega arith) (λ c. omega arith)
+    (λ c. record { sfits = omega (arith, c .shared-slice-known .given (c .before .before .loop .i)) }) (λ c. omega arith) (λ c. omega arith)
+    (λ c. widens w32 w64 (vector (rounded c) (i c)) tt (correction-fits c)) (λ c. rw (both c) (small c)) cast-results-3 (λ c. omega arith)
+    (λ c. omega arith) (λ c. omega arith) (λ c. omega arith)
+    (λ c. filled-more (c .before .before .before .loop .inv) (omega arith) (ap natAbs (sum-is c))) (λ c. omega arith)
+    (λ c. filled-all (c .before .loop .inv) (omega arith)))

@@ -1,10 +1,7 @@
 -- `pass_steps::rounds::store_rounds` meets its contract: nothing is copied where a test failed, nor where the lengths differ.
-use mathlib.Core.Path.{sym, _∙_}
-use borrow.Author.Needs.{needs}
-use denote.Ref.{now}
+use Rattle.vocabulary.specs.{sym, _∙_, needs, now}
 use Rattle.pass_steps.specs.Steps.{sameLength}
-use Rattle.pass_steps.proofs.Fitting.{copied, not-copied}
-use Rattle.pass_steps.proofs.Judged.{written}
+use Rattle.pass_steps.proofs.{Fitting.copied, Fitting.not-copied, Judged.written}
 use Rattle.pass_steps.proofs.rounds.store_rounds.Statement.{statement}
 use Rattle.pass_steps.proofs.rounds.store_rounds.Tie as tie
 
@@ -26,5 +23,5 @@ returns-2 c =
 
 pub store-rounds-spec : {M : Type 1} → statement M
 store-rounds-spec =
-    tie.close
-    (tie.spec (λ c. search needs) (λ c κs. search needs) (λ c. search needs) (λ c. search needs) returns returns-2 (λ c. search needs))
+    tie.close (tie.spec (λ c. search needs) (λ c κs. search needs) (λ c. search needs) (λ c. search needs) returns returns-2
+    (λ c. search needs))

@@ -1,16 +1,8 @@
 -- `report::reporting::report` meets its contract: the text laid by itself, and then where it has room.
-use mathlib.Core.Path.{sym, ap, _∙_}
-use mathlib.Core.Bool.{Bool}
-use mathlib.Core.List.{List}
-use Prim.Native.Nat.{ℕ, _≤_}
-use borrow.Author.Needs.{needs}
-use denote.Ref.{now}
-use lib.ListN.{length, replicate}
-use lib.Seq.{length-take-le}
+use Rattle.vocabulary.specs.{sym, ap, _∙_, Bool, List, ℕ, _≤_, needs, now, length, replicate, length-take-le}
 use Rattle.text.specs.Holds.{Holds}
-use Rattle.report.specs.declared.reporting.Reported.the-variants.{Written}
+use Rattle.report.specs.{declared.reporting.Reported.the-variants.Written, Report.reportText, Report.reportedOf, Report.afterReport}
 use Rattle.lines.specs.Lines.{longestText}
-use Rattle.report.specs.Report.{reportText, reportedOf, afterReport}
 use Rattle.report.proofs.Longest.{text-fits}
 use Rattle.report.proofs.Reports.{length-told, end-within, past-lent, room-there, laid-there}
 use Rattle.report.proofs.reporting.report.Statement.{statement}
@@ -47,11 +39,6 @@ returns c =
       leaves = sym (ap (λ (b : Bool). afterReport b (text j) (lent j)) none);
     }
 
-array-share-prefix-buffer : tie.Need-array-share-prefix-buffer
-array-share-prefix-buffer c =
-    let j = c .before .before .before in
-    end-within (text j) (buffer j) (end j) (held j) (fits j)
-
 slice-aggregate-put-word : tie.Need-slice-aggregate-put-word
 slice-aggregate-put-word c =
     let j = c .before .before .before .before in
@@ -72,13 +59,6 @@ returns-2 c =
 
 pub report-spec : {M : Type 1} → statement M
 report-spec =
-    tie.close
-    (tie.spec
-    (λ c. search needs)
-    (λ c κs. search needs)
-    returns
-    array-share-prefix-buffer
-    slice-aggregate-put-word
-    (λ c κs. search needs)
-    (λ c. search needs)
-    returns-2)
+    tie.close (tie.spec (λ c. search needs) (λ c κs. search needs) returns
+    (λ c. let j = c .before .before .before in end-within (text j) (buffer j) (end j) (held j) (fits j)) slice-aggregate-put-word
+    (λ c κs. search needs) (λ c. search needs) returns-2)

@@ -1,24 +1,8 @@
 -- `sheet_layout::head::look_at` meets its contract: under two bytes the first test fails, and else the three fields of the head decide.
-use mathlib.Core.Path.{sym, _∙_}
-use borrow.Author.Needs.{needs}
+use Rattle.vocabulary.specs.{sym, _∙_, needs}
 use Rattle.sheet_layout.proofs.Naming.{short, long-enough, fields-decide}
 use Rattle.sheet_layout.proofs.head.look_at.Statement.{statement}
 use Rattle.sheet_layout.proofs.head.look_at.Tie as tie
-
-returns : tie.Need-returns
-returns c = sym (short (c .before .before .args .sheet .now) (c .if1 .taken))
-
-field-requires : tie.Need-field-requires
-field-requires c κs = search needs
-
-field-requires-2 : tie.Need-field-requires-2
-field-requires-2 c κs = search needs
-
-field-requires-3 : tie.Need-field-requires-3
-field-requires-3 c κs = search needs
-
-named-head-requires : tie.Need-named-head-requires
-named-head-requires c κs = search needs
 
 returns-2 : tie.Need-returns-2
 returns-2 c =
@@ -30,11 +14,5 @@ returns-2 c =
 
 pub look-at-spec : {M : Type 1} → statement M
 look-at-spec =
-    tie.close
-    (tie.spec
-    returns
-    field-requires
-    field-requires-2
-    field-requires-3
-    named-head-requires
-    returns-2)
+    tie.close (tie.spec (λ c. sym (short (c .before .before .args .sheet .now) (c .if1 .taken))) (λ c κs. search needs)
+    (λ c κs. search needs) (λ c κs. search needs) (λ c κs. search needs) returns-2)

@@ -1,15 +1,8 @@
 -- `sheet_layout::head::named_head` meets its contract: the arms are the cases of what the kind's number names and what code and n name.
-use mathlib.Core.Path.{sym, _∙_}
-use borrow.Author.Needs.{needs}
+use Rattle.vocabulary.specs.{sym, _∙_, needs}
 use Rattle.sheet_layout.proofs.Naming.{no-kind, no-figure, named}
 use Rattle.sheet_layout.proofs.head.named_head.Statement.{statement}
 use Rattle.sheet_layout.proofs.head.named_head.Tie as tie
-
-kind-of-requires : tie.Need-kind-of-requires
-kind-of-requires c κs = search needs
-
-enum-known-named : tie.Need-enum-known-named
-enum-known-named c = search needs
 
 enum-told : tie.Need-enum-told
 enum-told c = search needs
@@ -18,15 +11,6 @@ returns : tie.Need-returns
 returns c =
     let a = c .before .before .before .args in
     sym (no-kind (a .kind) (a .code) (a .n) (sym (c .before .before .kind-of .ensures) ∙ c .enum-told .given .1))
-
-figure-of-requires : tie.Need-figure-of-requires
-figure-of-requires c κs = search needs
-
-enum-known-figure : tie.Need-enum-known-figure
-enum-known-figure c = search needs
-
-enum-told-2 : tie.Need-enum-told-2
-enum-told-2 c = search needs
 
 returns-2 : tie.Need-returns-2
 returns-2 c =
@@ -46,14 +30,5 @@ returns-3 c =
 
 pub named-head-spec : {M : Type 1} → statement M
 named-head-spec =
-    tie.close
-    (tie.spec
-    kind-of-requires
-    enum-known-named
-    enum-told
-    returns
-    figure-of-requires
-    enum-known-figure
-    enum-told-2
-    returns-2
-    returns-3)
+    tie.close (tie.spec (λ c κs. search needs) (λ c. search needs) enum-told returns (λ c κs. search needs) (λ c. search needs)
+    (λ c. search needs) returns-2 returns-3)

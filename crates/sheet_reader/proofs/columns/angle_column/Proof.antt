@@ -1,16 +1,9 @@
 -- `sheet_reader::columns::angle_column` meets its contract: the arms are the clauses of `angleColumn`.
-use Prim.Native.Nat.{ℕ, _+_}
-use mathlib.Core.Path.{_≡_, refl, sym, ap, ap₂, _∙_}
-use native.Mathlib.Omega.{arith}
-use borrow.Author.Needs.{needs}
+use Rattle.vocabulary.specs.{ℕ, _+_, _≡_, refl, sym, ap, ap₂, _∙_, arith, needs}
 use Rattle.figures.specs.declared.Figure.{Figure}
-use Rattle.sheet_layout.specs.declared.Kind.{Kind}
-use Rattle.sheet_layout.specs.declared.Pass.{Pass}
-use Rattle.sheet_layout.specs.Kinds.{passOf, carriesRounds, ofPass}
-use Rattle.sheet_layout.specs.Layout.{roundsBits}
+use Rattle.sheet_layout.specs.{declared.Kind.Kind, declared.Pass.Pass, Kinds.passOf, Kinds.carriesRounds, Kinds.ofPass, Layout.roundsBits}
 use Rattle.sheet_layout.proofs.Sizes.{rounds-small}
-use Rattle.sheet_reader.specs.declared.columns.Column.{Column}
-use Rattle.sheet_reader.specs.Columns.{rowsStart, columnFrom, angleColumn}
+use Rattle.sheet_reader.specs.{declared.columns.Column.Column, Columns.rowsStart, Columns.columnFrom, Columns.angleColumn}
 use Rattle.sheet_reader.proofs.columns.angle_column.Statement.{statement}
 use Rattle.sheet_reader.proofs.columns.angle_column.Tie as tie
 
@@ -27,9 +20,6 @@ of-pass kind f told starts steps own e =
     clause : (pass : Pass) → columnFor (rowsStart f) (roundsBits (carriesRounds kind)) pass ≡ angleColumn pass (carriesRounds kind) f
     clause Pass.First = refl
     clause Pass.Second = refl
-
-add-t6 : tie.Need-add-t6
-add-t6 c = let step = c .before .before .before in omega (arith, rounds-small (step .before .args .kind) (step .rounds-step .ensures))
 
 add-t8 : tie.Need-add-t8
 add-t8 c = let step = c .before .before .before .before in omega (arith, rounds-small (step .before .args .kind) (step .rounds-step .ensures))
@@ -50,14 +40,6 @@ returns-2 c =
 
 pub angle-column-spec : {M : Type 1} → statement M
 angle-column-spec =
-    tie.close
-    (tie.spec
-    (λ c κs. search needs)
-    (λ c κs. search needs)
-    (λ c. search needs)
-    add-t6
-    (λ c. search needs)
-    (λ c κs. search needs)
-    add-t8
-    returns
-    returns-2)
+    tie.close (tie.spec (λ c κs. search needs) (λ c κs. search needs) (λ c. search needs)
+    (λ c. let step = c .before .before .before in omega (arith, rounds-small (step .before .args .kind) (step .rounds-step .ensures)))
+    (λ c. search needs) (λ c κs. search needs) add-t8 returns returns-2)

@@ -1,33 +1,19 @@
 -- `sheet_reader::columns::log_sine_column` meets its contract: a log-sine stands 23 bits after the start of its row, and the bits of the
 -- rounds.
-use Prim.Native.Nat.{ℕ, _+_}
-use mathlib.Core.Path.{ap₂}
-use native.Mathlib.Omega.{arith}
-use borrow.Author.Needs.{needs}
+use Rattle.vocabulary.specs.{ℕ, _+_, ap₂, arith, needs}
 use Rattle.sheet_layout.proofs.Sizes.{side-bound, rounds-small}
 use Rattle.sheet_reader.specs.Columns.{columnFrom}
 use Rattle.sheet_reader.proofs.columns.log_sine_column.Statement.{statement}
 use Rattle.sheet_reader.proofs.columns.log_sine_column.Tie as tie
-
-rounds-step-requires : tie.Need-rounds-step-requires
-rounds-step-requires c κs = search needs
-
-rows-at-requires : tie.Need-rows-at-requires
-rows-at-requires c κs = search needs
-
-add-t5 : tie.Need-add-t5
-add-t5 c = omega (arith, c .rows-at .ensures, side-bound (c .before .before .args .figure))
 
 add-t6 : tie.Need-add-t6
 add-t6 c =
     let a = c .before .before .args in
     omega (arith, c .rows-at .ensures, side-bound (a .figure), rounds-small (a .kind) (c .before .rounds-step .ensures))
 
-add-t7 : tie.Need-add-t7
-add-t7 c = omega (arith, rounds-small (c .before .before .args .kind) (c .before .rounds-step .ensures))
-
-returns : tie.Need-returns
-returns c = ap₂ (λ (start step : ℕ). columnFrom (start + 23 + step) (65 + step) 27) (c .rows-at .ensures) (c .before .rounds-step .ensures)
-
 pub log-sine-column-spec : {M : Type 1} → statement M
-log-sine-column-spec = tie.close (tie.spec rounds-step-requires rows-at-requires add-t5 add-t6 add-t7 returns)
+log-sine-column-spec =
+    tie.close (tie.spec (λ c κs. search needs) (λ c κs. search needs)
+    (λ c. omega (arith, c .rows-at .ensures, side-bound (c .before .before .args .figure))) add-t6
+    (λ c. omega (arith, rounds-small (c .before .before .args .kind) (c .before .rounds-step .ensures)))
+    (λ c. ap₂ (λ (start step : ℕ). columnFrom (start + 23 + step) (65 + step) 27) (c .rows-at .ensures) (c .before .rounds-step .ensures)))

@@ -1,19 +1,9 @@
 -- `sheet_reader::read::filling_verdict` meets its contract: the filling begins where the fields end, and is less than a byte wide.
-use borrow.Author.Needs.{needs}
-use Prim.Native.Nat.{ℕ, _-_, _*_}
-use mathlib.Core.Bool.{Bool, true, false, not}
-use mathlib.Core.List.{List}
-use mathlib.Core.Path.{_≡_, sym, ap, _∙_}
-use native.Mathlib.Omega.{arith}
-use borrow.Author.Tests.{eq-eqb, ne-eqb}
-use lib.Dec.{eqb}
-use Rattle.refusals.specs.declared.Refusal.{Refusal}
-use Rattle.refusals.specs.Order.{failsIf, verdictOf}
-use Rattle.refusals.specs.Table.{fillingRow}
+use Rattle.vocabulary.specs.{needs, ℕ, _-_, _*_, Bool, true, false, not, List, _≡_, sym, ap, _∙_, arith, eq-eqb, ne-eqb, eqb}
+use Rattle.refusals.specs.{declared.Refusal.Refusal, Order.failsIf, Order.verdictOf, Table.fillingRow}
 use Rattle.bits.specs.Bits.{fieldAt, fillingWidth}
 use Rattle.figures.specs.declared.Figure.{Figure}
-use Rattle.sheet_layout.specs.declared.Kind.{Kind}
-use Rattle.sheet_layout.specs.Layout.{bitCount, sheetSize}
+use Rattle.sheet_layout.specs.{declared.Kind.Kind, Layout.bitCount, Layout.sheetSize}
 use Rattle.sheet_layout.proofs.Sizes.{few-bits, bits-within, bits-nearly}
 use Rattle.sheet_rules.specs.Judging.{fillingBits}
 use Rattle.sheet_rules.proofs.Filling.{filling-asked}
@@ -34,9 +24,6 @@ found c =
     let a = start .args in
     c .field .ensures ∙ rest (a .kind) (a .figure) (a .sheet .now) (c .before .bit-count .ensures) (start .pre)
 
-bit-count-requires : tie.Need-bit-count-requires
-bit-count-requires c κs = search needs
-
 mul-left : tie.Need-mul-left
 mul-left c =
     let start = c .before .before in
@@ -55,9 +42,6 @@ cast-field c =
     let a = start .args in
     omega (arith, bits-nearly (a .kind) (a .figure), start .pre, c .bit-count .ensures)
 
-field-requires : tie.Need-field-requires
-field-requires c κs = search needs
-
 -- the row's question is whether the filling is not 0
 asked-so : (c : tie.After-field) (t : Bool) → not (eqb (c .field .result) 0) ≡ t
     → (let a = c .before .before .before .args in failsIf t Refusal.FillingBitSet ≡ verdictOf (fillingRow (fillingBits (a .kind) (a .figure) (a .sheet .now))))
@@ -67,20 +51,8 @@ asked-so c t e =
     sym (ap (λ (b : Bool). failsIf b Refusal.FillingBitSet)
     (filling-asked (a .kind) (a .figure) (a .sheet .now) (start .pre) ∙ ap (λ (n : ℕ). not (eqb n 0)) (sym (found c)) ∙ e))
 
-returns : tie.Need-returns
-returns c = asked-so (c .before) true (ap not (ne-eqb _ 0 (c .if1 .taken)))
-
-returns-2 : tie.Need-returns-2
-returns-2 c = asked-so (c .before) false (ap not (eq-eqb _ 0 (c .if1 .left)))
-
 pub filling-verdict-spec : {M : Type 1} → statement M
 filling-verdict-spec =
-    tie.close
-    (tie.spec
-    bit-count-requires
-    mul-left
-    sub-left
-    cast-field
-    field-requires
-    returns
-    returns-2)
+    tie.close (tie.spec (λ c κs. search needs) mul-left sub-left cast-field (λ c κs. search needs)
+    (λ c. asked-so (c .before) true (ap not (ne-eqb _ 0 (c .if1 .taken))))
+    (λ c. asked-so (c .before) false (ap not (eq-eqb _ 0 (c .if1 .left)))))

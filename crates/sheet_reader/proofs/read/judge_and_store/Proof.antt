@@ -1,5 +1,5 @@
 -- `sheet_reader::read::judge_and_store` meets its contract: only what passed is stored.
-use borrow.Author.Needs.{needs}
+use Rattle.vocabulary.specs.{needs}
 use Rattle.sheet_rules.specs.Promises.{Slices, slices}
 use Rattle.sheet_reader.proofs.BodyLaws.{judged-stored, judged-refused}
 use Rattle.sheet_reader.proofs.read.judge_and_store.Statement.{statement}
@@ -34,18 +34,6 @@ returns-2 c =
 
 pub judge-and-store-spec : {M : Type 1} → statement M
 judge-and-store-spec =
-    tie.close
-    (tie.spec
-    (λ c κs. search needs)
-    (λ c κs. search needs)
-    (λ c. search needs)
-    (λ c κs. search needs)
-    (λ c. search needs)
-    (λ c. search needs)
-    (λ c. search needs)
-    (λ c. search needs)
-    (λ c. search needs)
-    (λ c. search needs)
-    (λ c. search needs)
-    returns
+    tie.close (tie.spec (λ c κs. search needs) (λ c κs. search needs) (λ c. search needs) (λ c κs. search needs) (λ c. search needs)
+    (λ c. search needs) (λ c. search needs) (λ c. search needs) (λ c. search needs) (λ c. search needs) (λ c. search needs) returns
     returns-2)

@@ -1,5 +1,5 @@
 -- `sheet_reader::read::read_body` meets its contract: the shape is judged first, and only where it passes are the values read.
-use mathlib.Core.Path.{refl}
+use Rattle.vocabulary.specs.{refl}
 use Rattle.sheet_rules.specs.Promises.{Slices, slices}
 use Rattle.sheet_reader.proofs.BodyLaws.{shape-refused, right-lengths, values-decide}
 use Rattle.sheet_reader.proofs.read.read_body.Statement.{statement}
@@ -35,14 +35,7 @@ returns-2 c =
 
 pub read-body-spec : {M : Type 1} → statement M
 read-body-spec =
-    tie.close
-    (tie.spec
-    (λ c. refl)
-    (λ c κs. tt)
-    (λ c. c .match .keys1)
-    returns
-    (λ c. c .match .keys2)
-    read-values-requires
+    tie.close (tie.spec (λ c. refl) (λ c κs. tt) (λ c. c .match .keys1) returns (λ c. c .match .keys2) read-values-requires
     (λ c. c .before .before .before .before .before .before .before .before .before .before .before .read-values .kept .1 .1 .1 .0)
     (λ c. c .before .before .before .before .before .before .before .before .before .before .before .read-values .kept .1 .1 .1 .1 .0)
     (λ c. c .before .before .before .before .before .before .before .before .before .before .before .read-values .kept .1 .1 .1 .1 .1 .0)

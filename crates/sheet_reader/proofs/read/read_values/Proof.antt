@@ -1,17 +1,10 @@
 -- `sheet_reader::read::read_values` meets its contract: what is judged and stored is what was taken, where it was lent.
-use Prim.Native.Nat.{ℕ, _≤_}
-use mathlib.Core.List.{List, _++_}
-use mathlib.Core.Path.{_≡_, sym, ap, _∙_}
-use lib.IntN.{ℤ, pos}
-use lib.ListN.{length, take, drop, replicate}
-use lib.Seq.{length-take-le}
+use Rattle.vocabulary.specs.{ℕ, _≤_, List, _++_, _≡_, sym, ap, _∙_, ℤ, pos, length, take, drop, replicate, length-take-le}
 use Rattle.figures.specs.Numerators.{mostAngles, mostFixed, mostSides}
-use Rattle.sheet_rules.specs.Sheet.{valuesRead}
-use Rattle.sheet_rules.specs.Promises.{Slices, slices, slicesOf}
-use Rattle.sheet_reader.proofs.BodyLaws.{as-many, have-room, values-are}
-use Rattle.sheet_reader.proofs.Taking.{same-slices, same-counts}
-use Rattle.whole.proofs.Lending.{part-again, still-few, again-length}
+use Rattle.sheet_rules.specs.{Sheet.valuesRead, Promises.Slices, Promises.slices, Promises.slicesOf}
+use Rattle.sheet_reader.proofs.{BodyLaws.as-many, BodyLaws.have-room, BodyLaws.values-are, Taking.same-slices, Taking.same-counts}
 use Rattle.sheet_reader.proofs.read.read_values.Statement.{statement}
+use Rattle.whole.proofs.Lending.{part-again, still-few, again-length}
 use Rattle.sheet_reader.proofs.read.read_values.Tie as tie
 
 -- the slices that were lent
@@ -185,22 +178,13 @@ returns c =
 
 pub read-values-spec : {M : Type 1} → statement M
 read-values-spec =
-    tie.close
-    (tie.spec
-    (λ c κs. tt)
-    (λ c. room c .0)
-    (λ c. sym (length-take-le _ _ (room (c .before) .0)))
-    (λ c. room (c .before) .1)
-    (λ c. sym (length-take-le _ _ (room (c .before .before) .1)))
-    (λ c. room (c .before .before) .2)
-    (λ c. sym (length-take-le _ _ (room (c .before .before .before) .2)))
-    (λ c. room (c .before .before .before) .3)
-    (λ c. sym (length-take-le _ _ (room (c .before .before .before .before) .3)))
-    (λ c. room (c .before .before .before .before) .4)
+    tie.close (tie.spec (λ c κs. tt) (λ c. room c .0) (λ c. sym (length-take-le _ _ (room (c .before) .0))) (λ c. room (c .before) .1)
+    (λ c. sym (length-take-le _ _ (room (c .before .before) .1))) (λ c. room (c .before .before) .2)
+    (λ c. sym (length-take-le _ _ (room (c .before .before .before) .2))) (λ c. room (c .before .before .before) .3)
+    (λ c. sym (length-take-le _ _ (room (c .before .before .before .before) .3))) (λ c. room (c .before .before .before .before) .4)
     (λ c. sym (length-take-le _ _ (room (c .before .before .before .before .before) .4)))
     (λ c. room (c .before .before .before .before .before) .5)
-    (λ c. sym (length-take-le _ _ (room (c .before .before .before .before .before .before) .5)))
-    take-values-requires
+    (λ c. sym (length-take-le _ _ (room (c .before .before .before .before .before .before) .5))) take-values-requires
     (λ c. angles-few (c .before .before .before .before .before .before))
     (λ c. angles-again (c .before .before .before .before .before .before .before))
     (λ c. rounds-few (c .before .before .before .before .before .before .before))

@@ -1,13 +1,9 @@
 -- `sheet_reader::read::reading_after` meets its contract: the arms are the clauses of `answered`.
-use mathlib.Core.Path.{sym, ap}
-use borrow.Author.Needs.{needs}
+use Rattle.vocabulary.specs.{sym, ap, needs}
 use Rattle.refusals.specs.declared.Verdict.{Verdict}
 use Rattle.sheet_reader.specs.Parts.{answered}
 use Rattle.sheet_reader.proofs.read.reading_after.Statement.{statement}
 use Rattle.sheet_reader.proofs.read.reading_after.Tie as tie
-
-enum-known-verdict : tie.Need-enum-known-verdict
-enum-known-verdict c = search needs
 
 enum-told : tie.Need-enum-told
 enum-told c = search needs
@@ -23,4 +19,4 @@ returns-2 c =
     sym (ap (λ (v : Verdict). answered v (a .kind) (a .figure) (a .limit-or-tolerance)) (c .enum-told .given .1))
 
 pub reading-after-spec : {M : Type 1} → statement M
-reading-after-spec = tie.close (tie.spec enum-known-verdict enum-told returns returns-2)
+reading-after-spec = tie.close (tie.spec (λ c. search needs) enum-told returns returns-2)

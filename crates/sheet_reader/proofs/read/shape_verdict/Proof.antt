@@ -1,20 +1,10 @@
 -- `sheet_reader::read::shape_verdict` meets its contract: the branches are the tests in their order.
-use Prim.Native.Nat.{ℕ}
-use mathlib.Core.List.{List, [], _∷_}
-use mathlib.Core.Path.{_≡_, sym, ap, ap₂, _∙_}
-use borrow.Author.Needs.{needs}
-use borrow.Author.Tests.{eq-eqb, ne-eqb}
-use lib.ListN.{length}
-use Rattle.refusals.specs.declared.Refusal.{Refusal}
-use Rattle.refusals.specs.declared.Verdict.{Verdict}
-use Rattle.refusals.specs.declared.Verdict.the-variants.{Passed, Failed}
-use Rattle.refusals.specs.Order.{answerOf, verdictOf, judged}
-use Rattle.refusals.specs.Table.{lengthsRow, fillingRow}
+use Rattle.vocabulary.specs.{ℕ, List, [], _∷_, _≡_, sym, ap, ap₂, _∙_, needs, eq-eqb, ne-eqb, length}
+use Rattle.refusals.specs.{declared.Refusal.Refusal, declared.Verdict.Verdict, Order.answerOf, Order.verdictOf, Order.judged}
+use Rattle.refusals.specs.{declared.Verdict.the-variants.Passed, declared.Verdict.the-variants.Failed, Table.lengthsRow, Table.fillingRow}
 use Rattle.refusals.proofs.Answers.{answer-of-one}
 use Rattle.figures.specs.declared.Figure.{Figure}
-use Rattle.sheet_layout.specs.declared.Kind.{Kind}
-use Rattle.sheet_layout.specs.declared.Lengths.{Lengths}
-use Rattle.sheet_layout.specs.Layout.{lengthsOf, sheetSize}
+use Rattle.sheet_layout.specs.{declared.Kind.Kind, declared.Lengths.Lengths, Layout.lengthsOf, Layout.sheetSize}
 use Rattle.sheet_rules.specs.Judging.{fillingBits}
 use Rattle.sheet_reader.specs.Parts.{shapeRows}
 use Rattle.sheet_reader.proofs.read.shape_verdict.Statement.{statement}
@@ -45,29 +35,14 @@ module _ {lengths : Verdict} (filling : Verdict) where
   unfolding answerOf
   passes e = sym (ap (λ (v : Verdict). answerOf (v ∷ filling ∷ [])) e ∙ answer-of-one filling)
 
-sheet-size-requires : tie.Need-sheet-size-requires
-sheet-size-requires c κs = search needs
-
 returns : tie.Need-returns
 returns c =
     let a = c .before .before .before .before .args in
     wrong-size (a .kind) (a .figure) (a .sheet .now) (a .lent .now) (λ e. c .if1 .taken (e ∙ sym (c .before .sheet-size .ensures)))
 
-lengths-of-requires : tie.Need-lengths-of-requires
-lengths-of-requires c κs = search needs
-
-slice-aggregate-lengths-verdict : tie.Need-slice-aggregate-lengths-verdict
-slice-aggregate-lengths-verdict c = search needs
-
-lengths-verdict-requires : tie.Need-lengths-verdict-requires
-lengths-verdict-requires c κs = search needs
-
 -- the first test has left the right size
 sized : (c : tie.Else1) → (let a = c .before .before .before .before .args in length (a .sheet .now) ≡ sheetSize (a .kind) (a .figure))
 sized c = c .if1 .left ∙ c .before .sheet-size .ensures
-
-filling-verdict-requires : tie.Need-filling-verdict-requires
-filling-verdict-requires c κs = sized (c .before .before .before)
 
 enum-told : tie.Need-enum-told
 enum-told c = search needs
@@ -82,26 +57,8 @@ told c e =
     right-size (a .kind) (a .figure) (a .sheet .now) (a .lent .now) (sized left) (c .before .before .before .lengths-of .ensures)
     (c .before .lengths-verdict .ensures) (c .filling-verdict .ensures) e
 
-returns-2 : tie.Need-returns-2
-returns-2 c = told (c .before .before) (fails _ (c .enum-told .given .1))
-
-enum-told-2 : tie.Need-enum-told-2
-enum-told-2 c = search needs
-
-returns-3 : tie.Need-returns-3
-returns-3 c = told (c .before .before) (passes _ (c .enum-told2 .given .1))
-
 pub shape-verdict-spec : {M : Type 1} → statement M
 shape-verdict-spec =
-    tie.close
-    (tie.spec
-    sheet-size-requires
-    returns
-    lengths-of-requires
-    slice-aggregate-lengths-verdict
-    lengths-verdict-requires
-    filling-verdict-requires
-    enum-told
-    returns-2
-    enum-told-2
-    returns-3)
+    tie.close (tie.spec (λ c κs. search needs) returns (λ c κs. search needs) (λ c. search needs) (λ c κs. search needs)
+    (λ c κs. sized (c .before .before .before)) enum-told (λ c. told (c .before .before) (fails _ (c .enum-told .given .1)))
+    (λ c. search needs) (λ c. told (c .before .before) (passes _ (c .enum-told2 .given .1))))

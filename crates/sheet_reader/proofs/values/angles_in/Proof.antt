@@ -1,5 +1,5 @@
 -- `sheet_reader::values::angles_in` meets its contract: the column of angles holds them.
-use borrow.Author.Needs.{needs}
+use Rattle.vocabulary.specs.{needs}
 use Rattle.sheet_reader.proofs.ColumnLaws.{angles-fit, angles-held}
 use Rattle.sheet_reader.proofs.values.angles_in.Statement.{statement}
 use Rattle.sheet_reader.proofs.values.angles_in.Tie as tie

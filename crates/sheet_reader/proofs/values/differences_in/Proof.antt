@@ -1,5 +1,5 @@
 -- `sheet_reader::values::differences_in` meets its contract: the column of differences holds them.
-use borrow.Author.Needs.{needs}
+use Rattle.vocabulary.specs.{needs}
 use Rattle.sheet_reader.proofs.ColumnLaws.{differences-fit, differences-held}
 use Rattle.sheet_reader.proofs.values.differences_in.Statement.{statement}
 use Rattle.sheet_reader.proofs.values.differences_in.Tie as tie

@@ -1,5 +1,5 @@
 -- `sheet_reader::values::fixed_in` meets its contract: the column of fixed angles holds them.
-use borrow.Author.Needs.{needs}
+use Rattle.vocabulary.specs.{needs}
 use Rattle.sheet_reader.proofs.ColumnLaws.{fixed-fit, fixed-held}
 use Rattle.sheet_reader.proofs.values.fixed_in.Statement.{statement}
 use Rattle.sheet_reader.proofs.values.fixed_in.Tie as tie

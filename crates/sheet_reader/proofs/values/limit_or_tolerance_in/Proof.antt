@@ -1,13 +1,8 @@
 -- `sheet_reader::values::limit_or_tolerance_in` meets its contract: the arms have the widths of L and of e.
-use Prim.Native.Nat.{ℕ}
-use mathlib.Core.List.{List}
-use mathlib.Core.Path.{_≡_, sym, ap, _∙_}
-use borrow.Author.Needs.{needs}
+use Rattle.vocabulary.specs.{ℕ, List, _≡_, sym, ap, _∙_, needs}
 use Rattle.bits.specs.Bits.{fieldAt}
 use Rattle.figures.specs.declared.Figure.{Figure}
-use Rattle.sheet_layout.specs.declared.Kind.{Kind}
-use Rattle.sheet_layout.specs.declared.Pass.{Pass}
-use Rattle.sheet_layout.specs.Kinds.{passOf, ofPass}
+use Rattle.sheet_layout.specs.{declared.Kind.Kind, declared.Pass.Pass, Kinds.passOf, Kinds.ofPass}
 use Rattle.sheet_layout.specs.Layout.{limit, tolerance, widthOf}
 use Rattle.sheet_rules.specs.Sheet.{valuesRead}
 use Rattle.sheet_reader.proofs.ColumnLaws.{limit-or-tolerance-read}
@@ -20,20 +15,8 @@ of-pass : {pass : Pass} (kind : Kind) (told : Pass) (f : Figure) (s : List ℕ) 
 of-pass kind told f s own e is =
     is ∙ ap (λ (p : Pass). fieldAt s 12 (widthOf (ofPass p limit tolerance))) (sym e ∙ own) ∙ sym (limit-or-tolerance-read kind f s)
 
-pass-of-requires : tie.Need-pass-of-requires
-pass-of-requires c κs = search needs
-
 enum-told : tie.Need-enum-told
 enum-told c = search needs
-
-field-requires : tie.Need-field-requires
-field-requires c κs = search needs
-
-enum-told-2 : tie.Need-enum-told-2
-enum-told-2 c = search needs
-
-field-requires-2 : tie.Need-field-requires-2
-field-requires-2 c κs = search needs
 
 returns : tie.Need-returns
 returns c =
@@ -49,4 +32,4 @@ returns-2 c =
 
 pub limit-or-tolerance-in-spec : {M : Type 1} → statement M
 limit-or-tolerance-in-spec =
-    tie.close (tie.spec pass-of-requires enum-told field-requires enum-told-2 field-requires-2 returns returns-2)
+    tie.close (tie.spec (λ c κs. search needs) enum-told (λ c κs. search needs) (λ c. search needs) (λ c κs. search needs) returns returns-2)

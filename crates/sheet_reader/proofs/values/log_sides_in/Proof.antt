@@ -1,5 +1,5 @@
 -- `sheet_reader::values::log_sides_in` meets its contract: the column of known log sides holds them.
-use borrow.Author.Needs.{needs}
+use Rattle.vocabulary.specs.{needs}
 use Rattle.sheet_reader.proofs.ColumnLaws.{log-sides-fit, log-sides-held}
 use Rattle.sheet_reader.proofs.values.log_sides_in.Statement.{statement}
 use Rattle.sheet_reader.proofs.values.log_sides_in.Tie as tie

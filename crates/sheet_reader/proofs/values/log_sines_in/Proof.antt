@@ -1,5 +1,5 @@
 -- `sheet_reader::values::log_sines_in` meets its contract: the column of log-sines holds them.
-use borrow.Author.Needs.{needs}
+use Rattle.vocabulary.specs.{needs}
 use Rattle.sheet_reader.proofs.ColumnLaws.{log-sines-fit, log-sines-held}
 use Rattle.sheet_reader.proofs.values.log_sines_in.Statement.{statement}
 use Rattle.sheet_reader.proofs.values.log_sines_in.Tie as tie

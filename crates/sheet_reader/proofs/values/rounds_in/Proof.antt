@@ -1,6 +1,5 @@
 -- `sheet_reader::values::rounds_in` meets its contract: the column of rounds holds them, or there is one for each angle.
-use borrow.Author.Needs.{needs}
-use mathlib.Core.Path.{sym, _∙_}
+use Rattle.vocabulary.specs.{needs, sym, _∙_}
 use Rattle.sheet_reader.proofs.ColumnLaws.{rounds-fit, rounds-wide, rounds-held, ones-many, ones-read}
 use Rattle.sheet_reader.proofs.values.rounds_in.Statement.{statement}
 use Rattle.sheet_reader.proofs.values.rounds_in.Tie as tie
@@ -29,11 +28,4 @@ returns-2 c =
 
 pub rounds-in-spec : {M : Type 1} → statement M
 rounds-in-spec =
-    tie.close
-    (tie.spec
-    (λ c κs. search needs)
-    (λ c κs. search needs)
-    take-byte-column-requires
-    (λ c. search needs)
-    returns
-    returns-2)
+    tie.close (tie.spec (λ c κs. search needs) (λ c κs. search needs) take-byte-column-requires (λ c. search needs) returns returns-2)

@@ -1,9 +1,5 @@
 -- `sheet_reader::values::store` meets its contract: each sort is copied into its slice.
-use borrow.Author.Needs.{needs}
-use Prim.Native.Nat.{ℕ}
-use mathlib.Core.List.{List}
-use mathlib.Core.Path.{_≡_, ap}
-use lib.ListN.{getD}
+use Rattle.vocabulary.specs.{needs, ℕ, List, _≡_, ap, getD}
 use Rattle.sheet_rules.specs.Promises.{slices, lengthsLent}
 use Rattle.sheet_reader.proofs.Taking.{same-slices}
 use Rattle.sheet_reader.proofs.values.store.Statement.{statement}
@@ -46,18 +42,6 @@ returns c =
 
 pub store-spec : {M : Type 1} → statement M
 store-spec =
-    tie.close
-    (tie.spec
-    (λ c κs. as-long (from-angles c) 0)
-    (λ c κs. as-long (from-rounds c) 1)
-    (λ c κs. as-long (from-fixed c) 2)
-    (λ c κs. as-long (from-log-sines c) 3)
-    (λ c κs. as-long (from-differences c) 4)
-    (λ c κs. as-long (from-log-sides c) 5)
-    (λ c. search needs)
-    (λ c. search needs)
-    (λ c. search needs)
-    (λ c. search needs)
-    (λ c. search needs)
-    (λ c. search needs)
-    returns)
+    tie.close (tie.spec (λ c κs. as-long (from-angles c) 0) (λ c κs. as-long (from-rounds c) 1) (λ c κs. as-long (from-fixed c) 2)
+    (λ c κs. as-long (from-log-sines c) 3) (λ c κs. as-long (from-differences c) 4) (λ c κs. as-long (from-log-sides c) 5)
+    (λ c. search needs) (λ c. search needs) (λ c. search needs) (λ c. search needs) (λ c. search needs) (λ c. search needs) returns)

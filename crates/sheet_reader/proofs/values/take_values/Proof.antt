@@ -1,11 +1,6 @@
 -- `sheet_reader::values::take_values` meets its contract: each sort is taken into its slice.
-use borrow.Author.Needs.{needs}
-use Prim.Native.Nat.{ℕ}
-use mathlib.Core.List.{List}
-use mathlib.Core.Path.{_≡_, ap}
-use lib.ListN.{getD}
-use Rattle.sheet_rules.specs.Judging.{ownLengths}
-use Rattle.sheet_rules.specs.Promises.{slices, lengthsLent}
+use Rattle.vocabulary.specs.{needs, ℕ, List, _≡_, ap, getD}
+use Rattle.sheet_rules.specs.{Judging.ownLengths, Promises.slices, Promises.lengthsLent}
 use Rattle.sheet_reader.proofs.Taking.{same-slices}
 use Rattle.sheet_reader.proofs.values.take_values.Statement.{statement}
 use Rattle.sheet_reader.proofs.values.take_values.Tie as tie
@@ -47,18 +42,6 @@ returns c =
 
 pub take-values-spec : {M : Type 1} → statement M
 take-values-spec =
-    tie.close
-    (tie.spec
-    (λ c κs. as-long (from-angles c) 0)
-    (λ c κs. search needs)
-    (λ c κs. as-long (from-fixed c) 2)
-    (λ c κs. as-long (from-log-sines c) 3)
-    (λ c κs. as-long (from-differences c) 4)
-    (λ c κs. as-long (from-log-sides c) 5)
-    (λ c. search needs)
-    (λ c. search needs)
-    (λ c. search needs)
-    (λ c. search needs)
-    (λ c. search needs)
-    (λ c. search needs)
-    returns)
+    tie.close (tie.spec (λ c κs. as-long (from-angles c) 0) (λ c κs. search needs) (λ c κs. as-long (from-fixed c) 2)
+    (λ c κs. as-long (from-log-sines c) 3) (λ c κs. as-long (from-differences c) 4) (λ c κs. as-long (from-log-sides c) 5)
+    (λ c. search needs) (λ c. search needs) (λ c. search needs) (λ c. search needs) (λ c. search needs) (λ c. search needs) returns)

@@ -1,16 +1,9 @@
 -- `sheet_writer::packer::finish` meets its contract. The loop's invariant: the bytes that are out and the bits of `rest` are what was
 -- packed, with zero bits after it. The measure is how many bytes are left.
-use mathlib.Core.List.{List}
-use mathlib.Core.Path.{_≡_, ap₂, subst}
-use Prim.Native.Nat.{ℕ, _-_, _*_, _%_, _^_, _≤_, _<_}
-use native.Mathlib.Omega.{arith}
-use denote.Ref.{now}
-use lib.ListN.{length}
-use lib.Pow.{pow-pos}
+use Rattle.vocabulary.specs.{List, _≡_, ap₂, subst, ℕ, _-_, _*_, _%_, _^_, _≤_, _<_, arith, now, length, pow-pos}
 use Rattle.bits.specs.Bits.{bytesOf}
 use Rattle.bits.proofs.Bytes.{AreBytes}
-use Rattle.sheet_writer.specs.declared.packer.Packer.{Packer}
-use Rattle.sheet_writer.specs.Packer.{packedSoFar}
+use Rattle.sheet_writer.specs.{declared.packer.Packer.Packer, Packer.packedSoFar}
 use Rattle.sheet_writer.proofs.PackerLaws.{Emptied, emptied-none, emptied-more, emptied-all, first-small, starts-within}
 use Rattle.sheet_writer.proofs.packer.finish.Statement.{statement}
 use Rattle.sheet_writer.proofs.packer.finish.Tie as tie
@@ -51,35 +44,10 @@ module _ (c : tie.After-power-of-two2 Inv-loop μ-loop) where
   ends {exit} {last} {at} h past =
       emptied-all sheet p (start .pre .0) (start .pre .1) (subst (λ (n : ℕ). Emptied sheet n (p .at) exit last at) is h) past
 
-loop-holds : tie.Need-loop-holds Inv-loop μ-loop
-loop-holds c = begins c
-
-loop-again : tie.Need-loop-again Inv-loop μ-loop
-loop-again c = emptied-more _ _ _ (c .before .loop .inv) (omega arith)
-
-same-length : tie.Need-same-length Inv-loop μ-loop
-same-length c = c .before .loop .inv .long
-
-returns : tie.Need-returns Inv-loop μ-loop
-returns c = ends (c .before .before) (c .before .loop .inv) (omega arith)
-
 pub finish-spec : {M : Type 1} → statement M
 finish-spec =
-    tie.close
-    (tie.spec
-    Inv-loop
-    μ-loop
-    (λ c κs. omega (arith, c .before .pre .0))
-    (λ c. rw (c .before .power-of-two .ensures) (pow-pos _))
-    (λ c. omega arith)
-    (λ c κs. omega arith)
-    (λ c. record { fits = omega (arith, small c) })
-    loop-holds
-    (λ c. omega (arith, c .before .loop .inv .small))
-    (λ c. omega arith)
-    (λ c. omega (arith, c .before .loop .inv .small))
-    (λ c. omega arith)
-    (λ c. omega (arith, c .before .loop .inv .long))
-    loop-again
-    same-length
-    returns)
+    tie.close (tie.spec Inv-loop μ-loop (λ c κs. omega (arith, c .before .pre .0)) (λ c. rw (c .before .power-of-two .ensures) (pow-pos _))
+    (λ c. omega arith) (λ c κs. omega arith) (λ c. record { fits = omega (arith, small c) }) (λ c. begins c)
+    (λ c. omega (arith, c .before .loop .inv .small)) (λ c. omega arith) (λ c. omega (arith, c .before .loop .inv .small))
+    (λ c. omega arith) (λ c. omega (arith, c .before .loop .inv .long)) (λ c. emptied-more _ _ _ (c .before .loop .inv) (omega arith))
+    (λ c. c .before .loop .inv .long) (λ c. ends (c .before .before) (c .before .loop .inv) (omega arith)))

@@ -1,15 +1,7 @@
 -- `sheet_writer::packer::put` meets its contract: the field's bits are held after those that were, or fill four bytes with them.
-use mathlib.Core.List.{[], _∷_, _++_}
-use mathlib.Core.Path.{_≡_, sym, ap, ap₂, subst, _∙_}
-use Prim.Native.Nat.{ℕ, _+_, _-_, _*_, _/_, _%_, _^_, _≤_, _<_}
-use native.Mathlib.Omega.{arith}
-use borrow.Author.Needs.{needs}
-use denote.Ref.{now}
-use lib.ListN.{take}
-use lib.Pow.{pow-pos}
-use Rattle.sheet_writer.specs.declared.packer.Packer.{Packer}
-use Rattle.sheet_writer.specs.Packer.{packerFrom, Packs, wordBytes}
-use Rattle.sheet_writer.specs.Parts.{fieldFrom}
+use Rattle.vocabulary.specs.{[], _∷_, _++_, _≡_, sym, ap, ap₂, subst, _∙_, ℕ, _+_, _-_, _*_, _/_, _%_, _^_, _≤_, _<_, arith, needs, now}
+use Rattle.vocabulary.specs.{take, pow-pos}
+use Rattle.sheet_writer.specs.{declared.packer.Packer.Packer, Packer.packerFrom, Packer.Packs, Packer.wordBytes, Parts.fieldFrom}
 use Rattle.sheet_writer.proofs.PackerLaws.{together, together-fits, packs-held, packs-out}
 use Rattle.sheet_writer.proofs.packer.put.Statement.{statement}
 use Rattle.sheet_writer.proofs.packer.put.Tie as tie
@@ -40,9 +32,6 @@ module _ (c : tie.After-power-of-two) where
   sum : p .held * 2 ^ width % 2 ^ 64 + value % c .power-of-two .result ≡ all
   sum = ap (λ (n : ℕ). p .held * 2 ^ width % 2 ^ 64 + value % n) (c .power-of-two .ensures)
 
-rem-field : tie.Need-rem-field
-rem-field c = rw (c .power-of-two .ensures) (pow-pos (width c))
-
 add-held : tie.Need-add-held
 add-held c =
     let m = c .before in
@@ -69,14 +58,6 @@ module _ (c : tie.After-power-of-two2) where
   word : (p m .held * 2 ^ width m % 2 ^ 64 + value m % m .power-of-two .result) / c .power-of-two2 .result ≡ all m / 2 ^ left
   word = ap₂ _/_ (sum m) (c .power-of-two2 .ensures)
 
-div-put-word : tie.Need-div-put-word
-div-put-word c = rw (c .before .power-of-two2 .ensures) (pow-pos _)
-
-put-word-requires : tie.Need-put-word-requires
-put-word-requires c κs =
-    let w = c .before in
-    omega (arith, start (m w) .pre .0 .enough, w .before .if1 .left)
-
 returns-2 : tie.Need-returns-2
 returns-2 c =
     let w = c .before .before .before .before in
@@ -89,18 +70,7 @@ returns-2 c =
 
 pub put-spec : {M : Type 1} → statement M
 put-spec =
-    tie.close
-    (tie.spec
-    (λ c κs. search needs)
-    rem-field
-    (λ c. search needs)
-    add-held
-    (λ c. search needs)
-    returns
-    (λ c κs. omega arith)
-    div-put-word
-    (λ c. search needs)
-    put-word-requires
-    (λ c. omega arith)
-    (λ c. search needs)
+    tie.close (tie.spec (λ c κs. search needs) (λ c. rw (c .power-of-two .ensures) (pow-pos (width c))) (λ c. search needs) add-held
+    (λ c. search needs) returns (λ c κs. omega arith) (λ c. rw (c .before .power-of-two2 .ensures) (pow-pos _)) (λ c. search needs)
+    (λ c κs. let w = c .before in omega (arith, start (m w) .pre .0 .enough, w .before .if1 .left)) (λ c. omega arith) (λ c. search needs)
     returns-2)

@@ -1,12 +1,6 @@
 -- `sheet_writer::packer::put_word` meets its contract: each byte is stored after those before it.
-use mathlib.Core.List.{List, [], _∷_, _++_, append-assoc}
-use mathlib.Core.Path.{_≡_, refl, ap, _∙_}
-use Prim.Native.Nat.{ℕ, _+_, _≤_, _<_}
-use native.Mathlib.Omega.{arith}
-use native.Mathlib.Numerals.{add-one}
-use borrow.Author.Needs.{needs}
-use lib.ListN.{length, length-set, take, set}
-use lib.Seq.{take-suc-set}
+use Rattle.vocabulary.specs.{List, [], _∷_, _++_, append-assoc, _≡_, refl, ap, _∙_, ℕ, _+_, _≤_, _<_, arith, add-one, needs, length}
+use Rattle.vocabulary.specs.{length-set, take, set, take-suc-set}
 use Rattle.sheet_writer.proofs.packer.put_word.Statement.{statement}
 use Rattle.sheet_writer.proofs.packer.put_word.Tie as tie
 
@@ -26,23 +20,9 @@ four s at a b c d h =
     ∙ append-assoc (take at s ++ (a ∷ [])) (b ∷ []) (c ∷ d ∷ [])
     ∙ append-assoc (take at s) (a ∷ []) (b ∷ c ∷ d ∷ [])
 
-returns : tie.Need-returns
-returns c = let a = c .args in four (a .sheet .now) (a .at) _ _ _ _ (c .pre)
-
 pub put-word-spec : {M : Type 1} → statement M
 put-word-spec =
-    tie.close
-    (tie.spec
-    (λ c. search needs)
-    (λ c. omega arith)
-    (λ c. search needs)
-    (λ c. omega arith)
-    (λ c. rw length-set (omega arith))
-    (λ c. search needs)
-    (λ c. omega arith)
-    (λ c. rw (length-set, length-set) (omega arith))
-    (λ c. search needs)
-    (λ c. omega arith)
-    (λ c. rw (length-set, length-set, length-set) (omega arith))
-    (λ c. search needs)
-    returns)
+    tie.close (tie.spec (λ c. search needs) (λ c. omega arith) (λ c. search needs) (λ c. omega arith) (λ c. rw length-set (omega arith))
+    (λ c. search needs) (λ c. omega arith) (λ c. rw (length-set, length-set) (omega arith)) (λ c. search needs) (λ c. omega arith)
+    (λ c. rw (length-set, length-set, length-set) (omega arith)) (λ c. search needs)
+    (λ c. let a = c .args in four (a .sheet .now) (a .at) _ _ _ _ (c .pre)))

@@ -1,14 +1,7 @@
 -- `sheet_writer::write::pack` meets its contract: the parts that are packed one after the other are the fields of the layout.
-use mathlib.Core.List.{List}
-use mathlib.Core.Path.{_≡_, sym, _∙_}
-use Prim.Native.Nat.{ℕ}
-use borrow.Author.Needs.{needs}
-use denote.Ref.{now}
-use lib.ListN.{length}
-use Rattle.sheet_layout.specs.declared.Kind.{Kind}
+use Rattle.vocabulary.specs.{List, _≡_, sym, _∙_, ℕ, needs, now, length}
+use Rattle.sheet_layout.specs.{declared.Kind.Kind, Kinds.passOf, Kinds.carriesRounds, Layout.sheetSize}
 use Rattle.figures.specs.declared.Figure.{Figure}
-use Rattle.sheet_layout.specs.Kinds.{passOf, carriesRounds}
-use Rattle.sheet_layout.specs.Layout.{sheetSize}
 use Rattle.sheet_rules.specs.Sheet.{Values, valuesFrom}
 use Rattle.sheet_rules.proofs.Accepted.{AsMany, as-many}
 use Rattle.sheet_writer.proofs.PartLaws.{head-fits, limit-fits, body-fits, count-after-head, count-after-bound, all-counted, sheet-packed}
@@ -45,9 +38,6 @@ module _ (c : tie.After-carries-rounds) where
 
   size : length sheet ≡ sheetSize kind figure
   size = start .pre .1
-
-put-head-requires : tie.Need-put-head-requires
-put-head-requires c κs = let m = c .before in head-fits (kind m) (figure m) (values m 0) (many m 0) (sheet m) (size m)
 
 put-limit-or-tolerance-requires : tie.Need-put-limit-or-tolerance-requires
 put-limit-or-tolerance-requires c κs =
@@ -94,13 +84,6 @@ returns c =
 
 pub pack-spec : {M : Type 1} → statement M
 pack-spec =
-    tie.close
-    (tie.spec
-    (λ c κs. search needs)
-    (λ c κs. search needs)
-    put-head-requires
-    put-limit-or-tolerance-requires
-    put-body-requires
-    finish-requires
-    (λ c. search needs)
-    returns)
+    tie.close (tie.spec (λ c κs. search needs) (λ c κs. search needs)
+    (λ c κs. let m = c .before in head-fits (kind m) (figure m) (values m 0) (many m 0) (sheet m) (size m)) put-limit-or-tolerance-requires
+    put-body-requires finish-requires (λ c. search needs) returns)

@@ -1,15 +1,7 @@
 -- `sheet_writer::write::put_angle` meets its contract: the rounds are packed after the angle, where they are carried.
-use Prim.Native.Nat.{ℕ, _+_}
-use mathlib.Core.Bool.{Bool}
-use mathlib.Core.List.{List, [], _∷_}
-use mathlib.Core.Path.{_≡_, sym, subst}
-use native.Mathlib.Omega.{arith}
-use borrow.Author.Needs.{needs}
-use denote.Ref.{now}
+use Rattle.vocabulary.specs.{ℕ, _+_, Bool, List, [], _∷_, _≡_, sym, subst, arith, needs, now}
 use Rattle.sheet_layout.specs.Layout.{roundsBits}
-use Rattle.sheet_writer.specs.declared.packer.Packer.{Packer}
-use Rattle.sheet_writer.specs.Packer.{HasRoom, Packs}
-use Rattle.sheet_writer.specs.Parts.{fieldFrom, angleFields}
+use Rattle.sheet_writer.specs.{declared.packer.Packer.Packer, Packer.HasRoom, Packer.Packs, Parts.fieldFrom, Parts.angleFields}
 use Rattle.sheet_writer.proofs.PackerLaws.{packs-then, room-after-one}
 use Rattle.sheet_writer.proofs.write.put_angle.Statement.{statement}
 use Rattle.sheet_writer.proofs.write.put_angle.Tie as tie
@@ -44,5 +36,4 @@ returns-2 c =
     packs-of (c .if1 .left) (a .angle) (a .rounds) (first .put .ensures)
 
 pub put-angle-spec : {M : Type 1} → statement M
-put-angle-spec =
-    tie.close (tie.spec (λ c κs. search needs) put-requires-2 (λ c. search needs) returns (λ c. search needs) returns-2)
+put-angle-spec = tie.close (tie.spec (λ c κs. search needs) put-requires-2 (λ c. search needs) returns (λ c. search needs) returns-2)

@@ -1,10 +1,6 @@
 -- `sheet_writer::write::put_angles` meets its contract. As of `put_column`, the loop's invariant: the fields of the angles passed so far,
 -- with their rounds, are packed. The measure is how many are left.
-use Prim.Native.Nat.{ℕ, _+_, _-_}
-use mathlib.Core.Bool.{Bool}
-use mathlib.Core.List.{List}
-use native.Mathlib.Omega.{arith}
-use lib.ListN.{length}
+use Rattle.vocabulary.specs.{ℕ, _+_, _-_, Bool, List, arith, length}
 use Rattle.refusals.specs.Numbers.{numbered}
 use Rattle.bits.specs.Bits.{Field}
 use Rattle.sheet_layout.specs.Layout.{roundsBits}
@@ -38,22 +34,8 @@ loop-again c =
     rows-more (a .sheet .now) (a .start) (row (a .carried) (a .angles .now) (a .rounds .now)) (length (a .angles .now)) (at .loop .inv)
     (omega arith) (put .put-angle .kept .0) (put .put-angle .ensures)
 
-returns : tie.Need-returns Inv-loop μ-loop
-returns c = rows-all _ _ _ _ (c .before .loop .inv) (omega arith)
-
 pub put-angles-spec : {M : Type 1} → statement M
 put-angles-spec =
-    tie.close
-    (tie.spec
-    Inv-loop
-    μ-loop
-    (λ c. rows-none _ _ _ _ (c .before .before .before .pre .0 .well))
-    (λ c. omega arith)
-    (λ c. omega arith)
-    (λ c. omega arith)
-    put-angle-requires
-    (λ c. omega arith)
-    (λ c. omega arith)
-    loop-again
-    (λ c. c .before .loop .inv .long)
-    returns)
+    tie.close (tie.spec Inv-loop μ-loop (λ c. rows-none _ _ _ _ (c .before .before .before .pre .0 .well)) (λ c. omega arith)
+    (λ c. omega arith) (λ c. omega arith) put-angle-requires (λ c. omega arith) (λ c. omega arith) loop-again
+    (λ c. c .before .loop .inv .long) (λ c. rows-all _ _ _ _ (c .before .loop .inv) (omega arith)))

@@ -1,17 +1,9 @@
 -- `sheet_writer::write::put_body` meets its contract: the arms are the bodies for the two passes.
-use Prim.Native.Nat.{_+_, _*_}
-use mathlib.Core.Bool.{Bool}
-use mathlib.Core.List.{List, [], _∷_}
-use mathlib.Core.Path.{_≡_, sym, subst}
-use native.Mathlib.Omega.{arith}
-use borrow.Author.Needs.{needs}
-use lib.ListN.{length}
+use Rattle.vocabulary.specs.{_+_, _*_, Bool, List, [], _∷_, _≡_, sym, subst, arith, needs, length}
 use Rattle.refusals.specs.Numbers.{numbered}
-use Rattle.sheet_layout.specs.declared.Pass.{Pass}
-use Rattle.sheet_layout.specs.Layout.{roundsBits}
+use Rattle.sheet_layout.specs.{declared.Pass.Pass, Layout.roundsBits}
 use Rattle.sheet_rules.specs.Sheet.{Values, valuesFrom}
-use Rattle.sheet_writer.specs.declared.packer.Packer.{Packer}
-use Rattle.sheet_writer.specs.Packer.{Packs}
+use Rattle.sheet_writer.specs.{declared.packer.Packer.Packer, Packer.Packs}
 use Rattle.sheet_writer.specs.Parts.{fieldFrom, columnFields, angleFields, anglesFields, rowFields, bodyFields, BodyFits}
 use Rattle.sheet_writer.proofs.Packing.{one-width, angle-width, room-after-rows}
 use Rattle.sheet_writer.proofs.PackerLaws.{packs-then, room-less}
@@ -38,9 +30,6 @@ packs-of : {pass told : Pass} (carried : Bool) (v : Values) {a b : List _} {p q 
     → Packs a p (bodyFields told carried v) b q → Packs a p (bodyFields pass carried v) b q
 packs-of carried v {a} {b} {p} {q} e packs = subst (λ (r : Pass). Packs a p (bodyFields r carried v) b q) (sym e) packs
 
-put-angles-requires : tie.Need-put-angles-requires
-put-angles-requires c κs = let fits = first (c .before) in (room-less _ (fits .0) (omega arith), fits .1)
-
 put-column-requires : tie.Need-put-column-requires
 put-column-requires c κs =
     let put = c .before .before .before in
@@ -51,9 +40,6 @@ put-column-requires c κs =
           (put .put-angles .ensures) (put .put-angles .kept .0) (first told .0),
       omega arith,
     )
-
-put-column-requires-2 : tie.Need-put-column-requires-2
-put-column-requires-2 c κs = (room-less _ (second (c .before) .0) (omega arith), omega arith)
 
 put-rows-requires : tie.Need-put-rows-requires
 put-rows-requires c κs =
@@ -90,15 +76,6 @@ returns-2 c =
 
 pub put-body-spec : {M : Type 1} → statement M
 put-body-spec =
-    tie.close
-    (tie.spec
-    (λ c. search needs)
-    put-angles-requires
-    put-column-requires
-    (λ c. search needs)
-    put-column-requires-2
-    put-rows-requires
-    (λ c. search needs)
-    returns
-    (λ c. search needs)
-    returns-2)
+    tie.close (tie.spec (λ c. search needs) (λ c κs. let fits = first (c .before) in (room-less _ (fits .0) (omega arith), fits .1))
+    put-column-requires (λ c. search needs) (λ c κs. (room-less _ (second (c .before) .0) (omega arith), omega arith)) put-rows-requires
+    (λ c. search needs) returns (λ c. search needs) returns-2)

@@ -1,9 +1,6 @@
 -- `sheet_writer::write::put_column` meets its contract. The loop's invariant: the fields of the values passed so far are packed. The
 -- measure is how many are left.
-use Prim.Native.Nat.{ℕ, _-_}
-use mathlib.Core.List.{List, [], _∷_}
-use native.Mathlib.Omega.{arith}
-use lib.ListN.{length}
+use Rattle.vocabulary.specs.{ℕ, _-_, List, [], _∷_, arith, length}
 use Rattle.refusals.specs.Numbers.{numbered}
 use Rattle.bits.specs.Bits.{Field}
 use Rattle.sheet_writer.specs.Parts.{fieldFrom}
@@ -38,21 +35,8 @@ loop-again c =
     rows-more (a .sheet .now) (a .start) (row (a .width) (a .values .now)) (length (a .values .now)) (at .loop .inv) (omega arith)
     (put .put .kept .0) (put .put .ensures)
 
-returns : tie.Need-returns Inv-loop μ-loop
-returns c = rows-all _ _ _ _ (c .before .loop .inv) (omega arith)
-
 pub put-column-spec : {M : Type 1} → statement M
 put-column-spec =
-    tie.close
-    (tie.spec
-    Inv-loop
-    μ-loop
-    (λ c. rows-none _ _ _ _ (c .before .before .pre .0 .well))
-    (λ c. omega arith)
-    (λ c. omega arith)
-    put-requires
-    (λ c. omega arith)
-    (λ c. omega arith)
-    loop-again
-    (λ c. c .before .loop .inv .long)
-    returns)
+    tie.close (tie.spec Inv-loop μ-loop (λ c. rows-none _ _ _ _ (c .before .before .pre .0 .well)) (λ c. omega arith) (λ c. omega arith)
+    put-requires (λ c. omega arith) (λ c. omega arith) loop-again (λ c. c .before .loop .inv .long)
+    (λ c. rows-all _ _ _ _ (c .before .loop .inv) (omega arith)))

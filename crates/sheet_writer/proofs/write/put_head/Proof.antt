@@ -1,14 +1,8 @@
 -- `sheet_writer::write::put_head` meets its contract: each field is packed after the one before it.
-use mathlib.Core.List.{[], _∷_}
-use mathlib.Core.Path.{ap}
-use native.Mathlib.Omega.{arith}
-use borrow.Author.Needs.{needs}
-use denote.Ref.{now}
-use Rattle.figures.specs.declared.Name.{Name}
-use Rattle.figures.specs.Figure.{description}
+use Rattle.vocabulary.specs.{[], _∷_, ap, arith, needs, now}
+use Rattle.figures.specs.{declared.Name.Name, Figure.description}
 use Rattle.sheet_layout.specs.Kinds.{numberOfKind}
-use Rattle.sheet_writer.specs.Packer.{nonePacked, HasRoom}
-use Rattle.sheet_writer.specs.Parts.{fieldFrom}
+use Rattle.sheet_writer.specs.{Packer.nonePacked, Packer.HasRoom, Parts.fieldFrom}
 use Rattle.sheet_writer.proofs.PackerLaws.{packs-then, room-less, room-after-one, holding}
 use Rattle.sheet_writer.proofs.write.put_head.Statement.{statement}
 use Rattle.sheet_writer.proofs.write.put_head.Tie as tie
@@ -37,12 +31,6 @@ returns c =
 
 pub put-head-spec : {M : Type 1} → statement M
 put-head-spec =
-    tie.close
-    (tie.spec
-    (λ c κs. search needs)
-    (λ c κs. search needs)
-    (λ c κs. search needs)
+    tie.close (tie.spec (λ c κs. search needs) (λ c κs. search needs) (λ c κs. search needs)
     (λ c κs. (room-less 4 (after-kind (c .before .before .before)) (omega arith), omega arith))
-    (λ c κs. (after-code (c .before .before .before), omega arith))
-    (λ c. search needs)
-    returns)
+    (λ c κs. (after-code (c .before .before .before), omega arith)) (λ c. search needs) returns)

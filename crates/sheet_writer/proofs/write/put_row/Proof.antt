@@ -1,14 +1,7 @@
 -- `sheet_writer::write::put_row` meets its contract: each field is packed after the one before it.
-use mathlib.Core.List.{[], _∷_}
-use mathlib.Core.Path.{ap, _∙_}
-use mir.Syntax.{w32}
-use mir.ValLaws.{toZ-ofZ}
-use native.Mathlib.Omega.{arith}
-use borrow.Author.Needs.{needs}
-use denote.Ref.{now}
+use Rattle.vocabulary.specs.{[], _∷_, ap, _∙_, w32, toZ-ofZ-at, arith, needs, now}
 use Rattle.bits.specs.Complement.{twosComplement}
-use Rattle.sheet_writer.specs.Packer.{HasRoom}
-use Rattle.sheet_writer.specs.Parts.{fieldFrom, angleFields}
+use Rattle.sheet_writer.specs.{Packer.HasRoom, Parts.fieldFrom, Parts.angleFields}
 use Rattle.sheet_writer.proofs.Packing.{angle-width}
 use Rattle.sheet_writer.proofs.PackerLaws.{packs-then, room-less, room-after, room-after-one, holding}
 use Rattle.sheet_writer.proofs.write.put_row.Statement.{statement}
@@ -36,15 +29,10 @@ returns c =
     packs-then (now (a .sheet)) (a .start) (angleFields (a .carried) (a .angle) (a .rounds)) (fieldFrom 27 (a .log-sine) ∷ fieldFrom 15 (twosComplement 15 (a .difference)) ∷ [])
     (first .put-angle .ensures)
     (packs-then _ _ (fieldFrom 27 (a .log-sine) ∷ []) (fieldFrom 15 (twosComplement 15 (a .difference)) ∷ [])
-    (second .put .ensures) (holding 15 (complement .twos-complement .ensures ∙ ap (twosComplement 15) (toZ-ofZ w32 _ (start .fits .difference))) (third .put2 .ensures)))
+    (second .put .ensures) (holding 15 (complement .twos-complement .ensures ∙ ap (twosComplement 15) (toZ-ofZ-at w32 _ (start .fits .difference))) (third .put2 .ensures)))
 
 pub put-row-spec : {M : Type 1} → statement M
 put-row-spec =
-    tie.close
-    (tie.spec
-    (λ c κs. room-less _ (c .before .before .pre) (omega arith))
-    (λ c κs. (room-less 27 (after-angle (c .before .before .before)) (omega arith), omega arith))
-    (λ c κs. search needs)
-    (λ c κs. (after-log-sine (c .before .before .before .before), omega arith))
-    (λ c. search needs)
-    returns)
+    tie.close (tie.spec (λ c κs. room-less _ (c .before .before .pre) (omega arith))
+    (λ c κs. (room-less 27 (after-angle (c .before .before .before)) (omega arith), omega arith)) (λ c κs. search needs)
+    (λ c κs. (after-log-sine (c .before .before .before .before), omega arith)) (λ c. search needs) returns)

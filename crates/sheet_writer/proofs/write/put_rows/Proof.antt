@@ -1,21 +1,10 @@
 -- `sheet_writer::write::put_rows` meets its contract. As of `put_column`, the loop's invariant: the fields of the angles passed so far,
 -- with their rounds, log-sines and differences, are packed. The measure is how many are left.
-use Prim.Native.Nat.{ℕ, _+_, _-_}
-use mathlib.Core.Bool.{Bool}
-use mathlib.Core.List.{List}
-use mathlib.Core.Path.{subst}
-use native.Mathlib.Omega.{arith}
-use lib.IntN.{ℤ, pos}
-use lib.ListN.{length, getD}
-use mir.Syntax.{w32}
-use mir.Val.{toZ, ofZ, SFits}
-use mir.ValLaws.{toZ-ofZ}
+use Rattle.vocabulary.specs.{ℕ, _+_, _-_, Bool, List, subst, arith, ℤ, pos, length, getD, w32, toZ, ofZ, SFits, toZ-ofZ-at}
 use Rattle.refusals.specs.Numbers.{numbered}
 use Rattle.bits.specs.Bits.{Field}
 use Rattle.sheet_layout.specs.Layout.{roundsBits}
-use Rattle.sheet_writer.specs.declared.packer.Packer.{Packer}
-use Rattle.sheet_writer.specs.Packer.{Packs}
-use Rattle.sheet_writer.specs.Parts.{rowOf}
+use Rattle.sheet_writer.specs.{declared.packer.Packer.Packer, Packer.Packs, Parts.rowOf}
 use Rattle.sheet_writer.proofs.Packing.{PackedRows, rows-none, rows-more, rows-room, rows-all, row-width}
 use Rattle.sheet_writer.proofs.write.put_rows.Statement.{statement}
 use Rattle.sheet_writer.proofs.write.put_rows.Tie as tie
@@ -28,7 +17,7 @@ row carried angles rounds log-sines differences i =
 read-back : {a b : List ℕ} {p q : Packer} (carried : Bool) (angle rounds log-sine : ℕ) {difference : ℤ} → SFits w32 difference
     → Packs a p (rowOf carried angle rounds log-sine (toZ w32 (ofZ w32 difference))) b q → Packs a p (rowOf carried angle rounds log-sine difference) b q
 read-back {a} {b} {p} {q} carried angle rounds log-sine {difference} fits packs =
-    subst (λ (d : ℤ). Packs a p (rowOf carried angle rounds log-sine d) b q) (toZ-ofZ w32 difference fits) packs
+    subst (λ (d : ℤ). Packs a p (rowOf carried angle rounds log-sine d) b q) (toZ-ofZ-at w32 difference fits) packs
 
 abbrev Inv-loop : tie.InvT-loop
 Inv-loop sheet₀ carried angles rounds log-sines differences packer₀ done₀ sheet packer done =
@@ -58,26 +47,9 @@ loop-again c =
     (read-back (a .carried) (getD (a .angles .now) done 0) (getD (a .rounds .now) done 0) (getD (a .log-sines .now) done 0)
     {difference = getD (a .differences .now) done (pos 0)} (record { sfits = put .before .put-row-arg2 .given }) (put .put-row .ensures))
 
-returns : tie.Need-returns Inv-loop μ-loop
-returns c = rows-all _ _ _ _ (c .before .loop .inv) (omega arith)
-
 pub put-rows-spec : {M : Type 1} → statement M
 put-rows-spec =
-    tie.close
-    (tie.spec
-    Inv-loop
-    μ-loop
-    (λ c. rows-none _ _ _ _ (c .before .before .before .before .pre .0 .well))
-    (λ c. omega arith)
-    (λ c. omega arith)
-    (λ c. omega arith)
-    (λ c. omega arith)
-    (λ c. omega arith)
-    (λ c. omega arith)
-    (λ c. omega arith)
-    put-row-requires
-    (λ c. omega arith)
-    (λ c. omega arith)
-    loop-again
-    (λ c. c .before .loop .inv .long)
-    returns)
+    tie.close (tie.spec Inv-loop μ-loop (λ c. rows-none _ _ _ _ (c .before .before .before .before .pre .0 .well)) (λ c. omega arith)
+    (λ c. omega arith) (λ c. omega arith) (λ c. omega arith) (λ c. omega arith) (λ c. omega arith) (λ c. omega arith) put-row-requires
+    (λ c. omega arith) (λ c. omega arith) loop-again (λ c. c .before .loop .inv .long)
+    (λ c. rows-all _ _ _ _ (c .before .loop .inv) (omega arith)))

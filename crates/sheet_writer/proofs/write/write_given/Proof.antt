@@ -1,18 +1,9 @@
 -- `sheet_writer::write::write_given` meets its contract: the lengths are judged first, and only what passed is packed.
-use borrow.Author.Needs.{needs}
+use Rattle.vocabulary.specs.{needs}
 use Rattle.sheet_rules.specs.Sheet.{valuesFrom}
 use Rattle.sheet_writer.proofs.GivenLaws.{lengths-refused, right, values-refused, values-written}
 use Rattle.sheet_writer.proofs.write.write_given.Statement.{statement}
 use Rattle.sheet_writer.proofs.write.write_given.Tie as tie
-
-slice-aggregate-given-lengths-verdict : tie.Need-slice-aggregate-given-lengths-verdict
-slice-aggregate-given-lengths-verdict c = search needs
-
-given-lengths-verdict-requires : tie.Need-given-lengths-verdict-requires
-given-lengths-verdict-requires c κs = search needs
-
-values-verdict-requires : tie.Need-values-verdict-requires
-values-verdict-requires c κs = search needs
 
 enum-told : tie.Need-enum-told
 enum-told c = search needs
@@ -23,24 +14,12 @@ returns c =
     let a = judged .before .before .before .before .before .before .before .before .before .args in
     lengths-refused (a .kind) (a .figure) (valuesFrom (a .bound) (a .angles .now) (a .rounds .now) (a .fixed .now) (a .log-sines .now) (a .differences .now) (a .log-sides .now)) (a .sheet .now) (judged .before .given-lengths-verdict .ensures) _ (c .enum-told .given .1)
 
-enum-told-2 : tie.Need-enum-told-2
-enum-told-2 c = search needs
-
-enum-told-3 : tie.Need-enum-told-3
-enum-told-3 c = search needs
-
 pack-requires : tie.Need-pack-requires
 pack-requires c κs =
     let told = c .before .before .before in
     let judged = told .before .before in
     let a = judged .before .before .before .before .before .before .before .before .before .args in
     right (a .kind) (a .figure) (valuesFrom (a .bound) (a .angles .now) (a .rounds .now) (a .fixed .now) (a .log-sines .now) (a .differences .now) (a .log-sides .now)) (a .sheet .now) (judged .before .given-lengths-verdict .ensures) (told .enum-told2 .given .1)
-
-enum-told-4 : tie.Need-enum-told-4
-enum-told-4 c = search needs
-
-same-length : tie.Need-same-length
-same-length c = search needs
 
 returns-2 : tie.Need-returns-2
 returns-2 c =
@@ -62,17 +41,5 @@ returns-3 c =
 
 pub write-given-spec : {M : Type 1} → statement M
 write-given-spec =
-    tie.close
-    (tie.spec
-    slice-aggregate-given-lengths-verdict
-    given-lengths-verdict-requires
-    values-verdict-requires
-    enum-told
-    returns
-    enum-told-2
-    enum-told-3
-    pack-requires
-    enum-told-4
-    same-length
-    returns-2
-    returns-3)
+    tie.close (tie.spec (λ c. search needs) (λ c κs. search needs) (λ c κs. search needs) enum-told returns (λ c. search needs)
+    (λ c. search needs) pack-requires (λ c. search needs) (λ c. search needs) returns-2 returns-3)

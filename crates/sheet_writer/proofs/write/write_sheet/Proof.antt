@@ -1,30 +1,15 @@
 -- `sheet_writer::write::write_sheet` meets its contract: the refusal of the numbers, or what follows once kind and figure are known.
-use borrow.Author.Needs.{needs}
+use Rattle.vocabulary.specs.{needs}
 use Rattle.sheet_rules.specs.Sheet.{valuesFrom}
 use Rattle.sheet_writer.proofs.GivenLaws.{head-refuses, given-writes}
 use Rattle.sheet_writer.proofs.write.write_sheet.Statement.{statement}
 use Rattle.sheet_writer.proofs.write.write_sheet.Tie as tie
-
-named-head-requires : tie.Need-named-head-requires
-named-head-requires c κs = search needs
-
-enum-known-refusal : tie.Need-enum-known-refusal
-enum-known-refusal c = search needs
-
-enum-known-named : tie.Need-enum-known-named
-enum-known-named c = search needs
-
-write-given-requires : tie.Need-write-given-requires
-write-given-requires c κs = search needs
 
 returns : tie.Need-returns
 returns c =
     let found = c .before .before .before in
     let a = found .before .before .before .before .before .before .before .args in
     head-refuses (a .kind) (a .code) (a .n) (valuesFrom (a .limit-or-tolerance) (a .angles .now) (a .rounds .now) (a .fixed .now) (a .log-sines .now) (a .differences .now) (a .log-sides .now)) (a .sheet .now) (found .named-head .ensures) _ (c .before .refusal .given .1)
-
-same-length : tie.Need-same-length
-same-length c = search needs
 
 returns-2 : tie.Need-returns-2
 returns-2 c =
@@ -36,12 +21,5 @@ returns-2 c =
 
 pub write-sheet-spec : {M : Type 1} → statement M
 write-sheet-spec =
-    tie.close
-    (tie.spec
-    named-head-requires
-    enum-known-refusal
-    enum-known-named
-    write-given-requires
-    returns
-    same-length
+    tie.close (tie.spec (λ c κs. search needs) (λ c. search needs) (λ c. search needs) (λ c κs. search needs) returns (λ c. search needs)
     returns-2)

@@ -1,28 +1,12 @@
 -- `text::numerals::put_cut` meets its contract: the part of the room that is laid is the number's text, which has at most 20 digits.
-use mathlib.Core.Path.{_≡_, sym, ap, ap₂, _∙_}
-use Prim.Native.Nat.{_≤_}
-use native.Mathlib.Omega.{arith}
-use borrow.Author.Needs.{needs}
-use lib.Dec.{lit<}
-use lib.ListN.{length, take}
-use lib.Seq.{length-take-le}
+use Rattle.vocabulary.specs.{_≡_, sym, ap, ap₂, _∙_, _≤_, arith, needs, lit<, length, take, length-take-le}
 use Rattle.text.specs.Text.{natural, laid, after}
-use Rattle.text.proofs.Laying.{laid-taken}
-use Rattle.text.proofs.Numbers.{length-natural}
+use Rattle.text.proofs.{Laying.laid-taken, Numbers.length-natural}
 use Rattle.text.proofs.numerals.put_cut.Statement.{statement}
 use Rattle.text.proofs.numerals.put_cut.Tie as tie
 
 most : (c : tie.Start) → length (natural (c .args .value)) ≤ 20
 most c = length-natural 20 (c .args .value) (lit< tt) (omega arith)
-
-put-digits-requires : tie.Need-put-digits-requires
-put-digits-requires c κs = omega (arith, most (c .before .before))
-
-array-share-prefix-room : tie.Need-array-share-prefix-room
-array-share-prefix-room c = omega (arith, most (c .before .before .before .before .before))
-
-slice-aggregate-put-word : tie.Need-slice-aggregate-put-word
-slice-aggregate-put-word c = sym (length-take-le _ _ (omega (arith, most (c .before .before .before .before .before .before))))
 
 returns : tie.Need-returns
 returns c =
@@ -36,5 +20,7 @@ returns c =
 
 pub put-cut-spec : {M : Type 1} → statement M
 put-cut-spec =
-    tie.close
-    (tie.spec (λ c. search needs) put-digits-requires array-share-prefix-room slice-aggregate-put-word (λ c κs. search needs) (λ c. search needs) returns)
+    tie.close (tie.spec (λ c. search needs) (λ c κs. omega (arith, most (c .before .before)))
+    (λ c. omega (arith, most (c .before .before .before .before .before)))
+    (λ c. sym (length-take-le _ _ (omega (arith, most (c .before .before .before .before .before .before))))) (λ c κs. search needs)
+    (λ c. search needs) returns)

@@ -1,8 +1,5 @@
 -- `text::numerals::put_natural` meets its contract: the digits are laid in place where all of them have room, and else cut short.
-use mathlib.Core.Path.{sym, ap, _∙_}
-use Prim.Native.Nat.{_+_}
-use native.Mathlib.Omega.{arith}
-use borrow.Author.Needs.{needs}
+use Rattle.vocabulary.specs.{sym, ap, _∙_, _+_, arith, needs}
 use Rattle.text.specs.Text.{decimal, natural}
 use Rattle.text.proofs.Laying.{after-room}
 use Rattle.text.proofs.numerals.put_natural.Statement.{statement}
@@ -22,5 +19,5 @@ returns-2 c = c .before .before .put-cut .ensures
 
 pub put-natural-spec : {M : Type 1} → statement M
 put-natural-spec =
-    tie.close
-    (tie.spec (λ c κs. search needs) (λ c κs. search needs) (λ c. search needs) (λ c. search needs) returns (λ c κs. search needs) (λ c. search needs) returns-2)
+    tie.close (tie.spec (λ c κs. search needs) (λ c κs. search needs) (λ c. search needs) (λ c. search needs) returns (λ c κs. search needs)
+    (λ c. search needs) returns-2)

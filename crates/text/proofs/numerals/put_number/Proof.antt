@@ -1,14 +1,8 @@
 -- `text::numerals::put_number` meets its contract: the digits of the magnitude, and below zero a minus sign before them.
-use mathlib.Core.Path.{_≡_, sym, ap, _∙_}
-use mathlib.Core.List.{[], _∷_}
-use borrow.Author.Needs.{needs}
-use lib.IntN.{natAbs}
-use mir.Syntax.{w64}
-use mir.Facts.{toZ-ofZ}
+use Rattle.vocabulary.specs.{_≡_, sym, ap, _∙_, [], _∷_, needs, natAbs, w64, toZ-ofZ}
 use Rattle.whole.proofs.Magnitudes.{below-zero, not-below-zero}
 use Rattle.text.specs.Text.{minus, decimal, natural}
-use Rattle.text.proofs.Laying.{laid-more}
-use Rattle.text.proofs.Numbers.{decimal-negative, decimal-other}
+use Rattle.text.proofs.{Laying.laid-more, Numbers.decimal-negative, Numbers.decimal-other}
 use Rattle.text.proofs.numerals.put_number.Statement.{statement}
 use Rattle.text.proofs.numerals.put_number.Tie as tie
 
@@ -38,5 +32,5 @@ returns-2 c = rw (← other (c .before .before .before .before)) (c .before .bef
 
 pub put-number-spec : {M : Type 1} → statement M
 put-number-spec =
-    tie.close
-    (tie.spec (λ c κs. search needs) (λ c κs. search needs) (λ c κs. search needs) (λ c κs. search needs) (λ c. search needs) returns (λ c. search needs) returns-2)
+    tie.close (tie.spec (λ c κs. search needs) (λ c κs. search needs) (λ c κs. search needs) (λ c κs. search needs) (λ c. search needs)
+    returns (λ c. search needs) returns-2)

@@ -1,7 +1,6 @@
 -- `wide::division::divided` meets its contract: by a divisor of one word the high word is divided first, and by any other the quotient
 -- has no high word.
-use mathlib.Core.Logic.{⊎-elim}
-use native.Mathlib.Omega.{arith}
+use Rattle.vocabulary.specs.{⊎-elim, arith}
 use Rattle.wide.specs.Wide.{sizeOf}
 use Rattle.wide.proofs.Sizes.{InWords, in-words}
 use Rattle.wide.proofs.Divisions.{Split, low-some, split-none, split-word, split-joined}
@@ -22,18 +21,10 @@ split c =
     (λ w. rw (w .1, w .2) (split-none n d (words start) (w .0 .left)))
     (c .if1 .came)
 
-div-high : tie.Need-div-high
-div-high c =
-    let start = c .before .before .before .before in
-    low-some (start .args .d) (c .before .before .if1 .taken) (start .pre)
-
 rem-left : tie.Need-rem-left
 rem-left c =
     let start = c .before .before .before .before .before .before in
     low-some (start .args .d) (c .before .before .before .before .if1 .taken) (start .pre)
-
-word-divided-requires : tie.Need-word-divided-requires
-word-divided-requires c κs = split c .short
 
 returns : tie.Need-returns
 returns c =
@@ -45,4 +36,7 @@ returns c =
     )
 
 pub divided-spec : {M : Type 1} → statement M
-divided-spec = tie.close (tie.spec div-high rem-left word-divided-requires returns)
+divided-spec =
+    tie.close (tie.spec
+    (λ c. let start = c .before .before .before .before in low-some (start .args .d) (c .before .before .if1 .taken) (start .pre)) rem-left
+    (λ c κs. split c .short) returns)

@@ -1,6 +1,5 @@
 -- `wide::division::leading_zeros` meets its contract: a word that is not 0 has a highest bit, and the zeros before it are fewer than 64.
-use native.Mathlib.Omega.{arith}
-use lib.Count.{leadingZeros, leading-top}
+use Rattle.vocabulary.specs.{arith, leadingZeros, leading-top}
 use Rattle.wide.specs.Wide.{radix}
 use Rattle.wide.proofs.Divisions.{moved-up}
 use Rattle.wide.proofs.division.leading_zeros.Statement.{statement}

@@ -1,13 +1,7 @@
 -- `wide::division::nearest` meets its contract: what is left tells on which side of the half n / d lies, the quotient which way a half
 -- goes, and rounding up never passes n.
-use mathlib.Core.Bool.{true, false}
-use mathlib.Core.Path.{_≡_, sym, ap, ap₂, _∙_}
-use Prim.Native.Nat.{ℕ, _+_, _-_, _%_, _≤_, _<_}
-use native.Mathlib.Nat.{lt-of-le-of-lt}
-use native.Mathlib.Omega.{arith}
-use borrow.Author.Needs.{needs}
-use borrow.Author.Tests.{eqb-true, eqb-false, ltb-true, ltb-false}
-use lib.Dec.{ltb}
+use Rattle.vocabulary.specs.{true, false, _≡_, sym, ap, ap₂, _∙_, ℕ, _+_, _-_, _%_, _≤_, _<_, lt-of-le-of-lt, arith, needs, eqb-true}
+use Rattle.vocabulary.specs.{eqb-false, ltb-true, ltb-false, ltb}
 use Rattle.whole.specs.Quotient.{nearest}
 use Rattle.whole.proofs.Quotient.{nearest-none, nearest-within}
 use Rattle.wide.specs.Wide.{limit, sizeOf, heldSize}
@@ -34,9 +28,6 @@ returns c =
     low-alone 0
     ∙ sym
     (rw (eqb-true (sizeOf (c .before .before .args .d)) 0 (sym (test .ensures) ∙ c .if1 .taken)) (nearest-none (sizeOf (c .before .before .args .n))))
-
-divided-requires : tie.Need-divided-requires
-divided-requires c κs = some c
 
 module _ (c : tie.After-sizes-less) where
   abbrev lacking : tie.After-sizes-difference
@@ -91,11 +82,7 @@ returns-2 c =
     c .sizes-sum2 .ensures ∙ ap (λ (k : ℕ). heldSize (size test + k)) (low-alone 1) ∙ ap heldSize (up test (c .before .if2 .taken))
     ∙ held-size (nearest (n test) (d test)) (within-words test)
 
-returns-3 : tie.Need-returns-3
-returns-3 c = down (c .before) (c .if2 .left)
-
 pub nearest-spec : {M : Type 1} → statement M
 nearest-spec =
-    tie.close
-    (tie.spec (λ c κs. search needs) returns divided-requires (λ c κs. search needs) (λ c κs. search needs) (λ c κs. search needs) (λ c κs. search needs)
-    returns-2 returns-3)
+    tie.close (tie.spec (λ c κs. search needs) returns (λ c κs. some c) (λ c κs. search needs) (λ c κs. search needs) (λ c κs. search needs)
+    (λ c κs. search needs) returns-2 (λ c. down (c .before) (c .if2 .left)))

@@ -1,11 +1,6 @@
 -- `wide::division::times_at_least` meets its contract: a size without a high word is divided as a word, and of any other the leading bits
 -- are, by one more than those of the divisor, which is never too much.
-use mathlib.Core.Path.{_≡_}
-use Prim.Native.Nat.{_-_, _^_, _≤_}
-use native.Mathlib.Nat.{mul-le-mul-right, lt-of-le-of-lt}
-use native.Mathlib.Omega.{arith}
-use borrow.Author.Needs.{needs}
-use lib.Pow.{pow-pos}
+use Rattle.vocabulary.specs.{_≡_, _-_, _^_, _≤_, mul-le-mul-right, lt-of-le-of-lt, arith, needs, pow-pos}
 use Rattle.wide.specs.Wide.{sizeOf}
 use Rattle.wide.proofs.Sizes.{in-words, high-within}
 use Rattle.wide.proofs.Divisions.{times-within, times-some, times-low, low-some}
@@ -18,11 +13,6 @@ high c = high-within (c .args .n) (c .args .d) (in-words (c .args .n) (omega ari
 -- so a divisor of what has no high word has none
 none : (c : tie.Then1) → c .before .before .args .d .high ≡ 0
 none c = omega (arith, high (c .before .before), c .if1 .taken)
-
-div-result : tie.Need-div-result
-div-result c =
-    let start = c .before .before .before .before in
-    low-some (start .args .d) (none (c .before .before)) (start .pre .0)
 
 returns : tie.Need-returns
 returns c =
@@ -49,5 +39,6 @@ returns-2 c =
 
 pub times-at-least-spec : {M : Type 1} → statement M
 times-at-least-spec =
-    tie.close
-    (tie.spec div-result returns (λ c κs. search needs) (λ c κs. search needs) raised-requires-2 (λ c. search needs) (λ c. search needs) returns-2 (λ c. search needs))
+    tie.close (tie.spec
+    (λ c. let start = c .before .before .before .before in low-some (start .args .d) (none (c .before .before)) (start .pre .0)) returns
+    (λ c κs. search needs) (λ c κs. search needs) raised-requires-2 (λ c. search needs) (λ c. search needs) returns-2 (λ c. search needs))

@@ -1,14 +1,8 @@
 -- `wide::division::word_divided` meets its contract: the divisor times what has been counted, and what is left, are the size that is
 -- divided. A turn counts one or more, so that what is left gets less.
-use mathlib.Core.Path.{_≡_, sym, _∙_}
-use Prim.Native.Nat.{_+_, _*_, _≤_, _<_}
-use native.Mathlib.Nat.{mul-le-mul-left}
-use native.Mathlib.Omega.{arith}
-use borrow.Author.Needs.{needs}
-use borrow.Author.Tests.{ltb-true, ltb-false, not-true, not-false}
+use Rattle.vocabulary.specs.{_≡_, sym, _∙_, _+_, _*_, _≤_, _<_, mul-le-mul-left, arith, needs, ltb-true, ltb-false, not-true, not-false}
 use Rattle.wide.specs.Wide.{radix, limit, sizeOf}
-use Rattle.wide.proofs.Sizes.{in-words, size-within, held-size}
-use Rattle.wide.proofs.Divisions.{divisor-some, word-stays}
+use Rattle.wide.proofs.{Sizes.in-words, Sizes.size-within, Sizes.held-size, Divisions.divisor-some, Divisions.word-stays}
 use Rattle.wide.proofs.division.word_divided.Statement.{statement}
 use Rattle.wide.proofs.division.word_divided.Tie as tie
 
@@ -24,23 +18,11 @@ some c = divisor-some (sizeOf (c .args .n)) (sizeOf (c .args .d)) (c .pre)
 whole : (c : tie.Start Inv-loop μ-loop) → sizeOf (c .args .n) < limit
 whole c = size-within (c .args .n) (in-words (c .args .n) (omega arith) (omega arith))
 
-loop-holds : tie.Need-loop-holds Inv-loop μ-loop
-loop-holds c = (c .pre, omega arith)
-
-sizes-less-requires : tie.Need-sizes-less-requires Inv-loop μ-loop
-sizes-less-requires c κs = search needs
-
 -- the divisor goes into what is left
 goes : (c : tie.Then1 Inv-loop μ-loop) → sizeOf (c .before .before .before .args .d) ≤ sizeOf (c .before .before .loop .rest)
 goes c =
     let test = c .before .sizes-less in
     ltb-false _ _ (sym (test .ensures) ∙ not-true (test .result) (c .if1 .taken))
-
-times-at-least-requires : tie.Need-times-at-least-requires Inv-loop μ-loop
-times-at-least-requires c κs = (some (c .before .before .before), goes c)
-
-size-scaled-requires : tie.Need-size-scaled-requires Inv-loop μ-loop
-size-scaled-requires c κs = search needs
 
 -- what is taken off is no more than what is left, so that two words hold it
 taken : (c : tie.After-size-scaled Inv-loop μ-loop)
@@ -52,9 +34,6 @@ taken c =
     c .size-scaled .ensures
     ∙ held-size (sizeOf (start .args .d) * times .times-at-least .result)
     (omega (arith, whole start, times .times-at-least .ensures .1, loop .loop .inv .1))
-
-sizes-difference-requires : tie.Need-sizes-difference-requires Inv-loop μ-loop
-sizes-difference-requires c κs = omega (arith, taken c, c .before .times-at-least .ensures .1)
 
 again : (c : tie.After-sizes-difference Inv-loop μ-loop)
     → (c .before .before .before .before .before .loop .word + c .before .before .times-at-least .result) * sizeOf (c .before .before .before .before .before .before .args .d) + sizeOf (c .sizes-difference .result) ≡ sizeOf (c .before .before .before .before .before .before .args .n)
@@ -82,9 +61,6 @@ loop-less c =
       some (loop .before),
     )
 
-loop-again : tie.Need-loop-again Inv-loop μ-loop
-loop-again c = (c .before .before .before .before .before .loop .inv .0, again c)
-
 returns : tie.Need-returns Inv-loop μ-loop
 returns c =
     let test = c .before .sizes-less in
@@ -92,5 +68,7 @@ returns c =
 
 pub word-divided-spec : {M : Type 1} → statement M
 word-divided-spec =
-    tie.close
-    (tie.spec Inv-loop μ-loop loop-holds sizes-less-requires times-at-least-requires size-scaled-requires sizes-difference-requires add-word loop-less loop-again returns)
+    tie.close (tie.spec Inv-loop μ-loop (λ c. (c .pre, omega arith)) (λ c κs. search needs)
+    (λ c κs. (some (c .before .before .before), goes c)) (λ c κs. search needs)
+    (λ c κs. omega (arith, taken c, c .before .times-at-least .ensures .1)) add-word loop-less
+    (λ c. (c .before .before .before .before .before .loop .inv .0, again c)) returns)

@@ -3,11 +3,7 @@ use Rattle.wide.proofs.Sizes.{nothing-low, nothing-high}
 use Rattle.wide.proofs.words.is_nothing.Statement.{statement}
 use Rattle.wide.proofs.words.is_nothing.Tie as tie
 
-returns : tie.Need-returns
-returns c = nothing-low (c .before .before .before .args .a) (c .before .if1 .taken)
-
-returns-2 : tie.Need-returns-2
-returns-2 c = nothing-high (c .before .before .args .a) (c .if1 .left)
-
 pub is-nothing-spec : {M : Type 1} → statement M
-is-nothing-spec = tie.close (tie.spec returns returns-2)
+is-nothing-spec =
+    tie.close (tie.spec (λ c. nothing-low (c .before .before .before .args .a) (c .before .if1 .taken))
+    (λ c. nothing-high (c .before .before .args .a) (c .if1 .left)))

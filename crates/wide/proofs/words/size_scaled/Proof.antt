@@ -1,8 +1,6 @@
 -- `wide::words::size_scaled` meets its contract: the products of the words, the high one moved up by a word; where that one passes a
 -- word, two words cannot hold the product.
-use mathlib.Core.Path.{sym, ap, _∙_}
-use native.Mathlib.Omega.{arith}
-use borrow.Author.Needs.{needs}
+use Rattle.vocabulary.specs.{sym, ap, _∙_, arith, needs}
 use Rattle.wide.specs.Wide.{heldSize}
 use Rattle.wide.proofs.Sizes.{low-alone, scaled-sum, scaled-lost}
 use Rattle.wide.proofs.words.size_scaled.Statement.{statement}
@@ -29,5 +27,4 @@ returns-2 c =
     (high .words-product2 .ensures) (omega (arith, c .if1 .left)))
 
 pub size-scaled-spec : {M : Type 1} → statement M
-size-scaled-spec =
-    tie.close (tie.spec (λ c κs. search needs) (λ c κs. search needs) (λ c κs. search needs) returns returns-2)
+size-scaled-spec = tie.close (tie.spec (λ c κs. search needs) (λ c κs. search needs) (λ c κs. search needs) returns returns-2)

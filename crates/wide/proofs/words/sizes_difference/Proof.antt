@@ -1,7 +1,5 @@
 -- `wide::words::sizes_difference` meets its contract: word by word, with one borrowed from the high word where the low words need it.
-use Prim.Native.Nat.{_-_, _≤_, _<_}
-use native.Mathlib.Omega.{arith}
-use borrow.Author.Needs.{needs}
+use Rattle.vocabulary.specs.{_-_, _≤_, _<_, arith, needs}
 use Rattle.wide.proofs.Sizes.{InWords, in-words, radix-is, high-within, high-more, difference-plain, difference-borrowed}
 use Rattle.wide.proofs.words.sizes_difference.Statement.{statement}
 use Rattle.wide.proofs.words.sizes_difference.Tie as tie
@@ -14,12 +12,6 @@ plain c = high-within (c .args .a) (c .args .b) (larger c) (c .pre)
 
 borrowed : (c : tie.Start) → c .args .a .low < c .args .b .low → c .args .b .high < c .args .a .high
 borrowed c l = high-more (c .args .a) (c .args .b) (larger c) (c .pre) l
-
-sub-t5 : tie.Need-sub-t5
-sub-t5 c = plain (c .before .before .before .before .before)
-
-sub-t7 : tie.Need-sub-t7
-sub-t7 c = plain (c .before .before .before .before .before)
 
 sub-t8 : tie.Need-sub-t8
 sub-t8 c =
@@ -40,4 +32,5 @@ returns-2 c =
 
 pub sizes-difference-spec : {M : Type 1} → statement M
 sizes-difference-spec =
-    tie.close (tie.spec sub-t5 sub-t7 sub-t8 (λ c. search needs) (λ c. search needs) (λ c. search needs) returns returns-2)
+    tie.close (tie.spec (λ c. plain (c .before .before .before .before .before)) (λ c. plain (c .before .before .before .before .before))
+    sub-t8 (λ c. search needs) (λ c. search needs) (λ c. search needs) returns returns-2)

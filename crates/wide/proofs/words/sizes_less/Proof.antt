@@ -1,5 +1,5 @@
 -- `wide::words::sizes_less` meets its contract: the high words decide, and where they are the same the low words.
-use native.Mathlib.Omega.{arith}
+use Rattle.vocabulary.specs.{arith}
 use Rattle.wide.proofs.Sizes.{InWords, in-words, less-low, less-words}
 use Rattle.wide.proofs.words.sizes_less.Statement.{statement}
 use Rattle.wide.proofs.words.sizes_less.Tie as tie

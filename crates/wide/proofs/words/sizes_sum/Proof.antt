@@ -1,8 +1,6 @@
 -- `wide::words::sizes_sum` meets its contract: the sums of the words, with the carry of the low ones, are the sum where nothing is
 -- carried past the high word; where something is, two words cannot hold it.
-use mathlib.Core.Path.{sym, _∙_}
-use native.Mathlib.Omega.{arith}
-use borrow.Author.Needs.{needs}
+use Rattle.vocabulary.specs.{sym, _∙_, arith, needs}
 use Rattle.wide.proofs.Sizes.{InWords, in-words, low-alone, sum-exact, sum-lost}
 use Rattle.wide.proofs.words.sizes_sum.Statement.{statement}
 use Rattle.wide.proofs.words.sizes_sum.Tie as tie
@@ -46,5 +44,4 @@ returns-3 c =
     (low .words-sum .ensures) (high .words-sum2 .ensures) (top .words-sum3 .ensures) (omega (arith, c .if1 .left)))
 
 pub sizes-sum-spec : {M : Type 1} → statement M
-sizes-sum-spec =
-    tie.close (tie.spec (λ c κs. search needs) (λ c κs. search needs) (λ c κs. search needs) returns returns-2 returns-3)
+sizes-sum-spec = tie.close (tie.spec (λ c κs. search needs) (λ c κs. search needs) (λ c κs. search needs) returns returns-2 returns-3)

@@ -1,6 +1,5 @@
 -- `wide::words::words_sum` meets its contract: the carry is 1 where the sum passes a word, and the low word is what is left.
-use native.Mathlib.Omega.{arith}
-use borrow.Author.Needs.{needs}
+use Rattle.vocabulary.specs.{arith, needs}
 use Rattle.wide.specs.Wide.{radix, sizeOf}
 use Rattle.wide.proofs.words.words_sum.Statement.{statement}
 use Rattle.wide.proofs.words.words_sum.Tie as tie
@@ -14,5 +13,4 @@ unfolding sizeOf radix
 returns-2 c = omega arith
 
 pub words-sum-spec : {M : Type 1} → statement M
-words-sum-spec =
-    tie.close (tie.spec (λ c. search needs) (λ c. search needs) (λ c. search needs) (λ c. search needs) returns returns-2)
+words-sum-spec = tie.close (tie.spec (λ c. search needs) (λ c. search needs) (λ c. search needs) (λ c. search needs) returns returns-2)

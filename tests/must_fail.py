@@ -7,8 +7,8 @@ The crates must have been proved. `rt must-fail` answers the same, and proves a 
 not reach are taken as the crate's own proof left them in target/rlib, and edits in the bodies of different functions of a crate are tried together:
 a function is proved from its own body and the contracts of those that it calls, and the checker says of each whether it is proved, or not only for a
 call of one that is not. Such an edit is refused where its function is not proved for an error in its own proof; every function without an edit must be
-proved, or not for a call alone. What is left unsaid so is tried alone, and so is an edit of a definition or of a constant. A crate that has only edits
-of this second kind is first checked without one, and must be proved.
+proved, or not for a call alone. What is left unsaid so is tried again without those that are refused. An edit of a definition or of a constant is tried
+alone. A crate that has only such edits is first checked without one, and must be proved.
 What the checker says is kept in target/must-fail/NAME, of an edit in LABEL.log. RT_JOBS is how many checks run at once.
 """
 
@@ -266,7 +266,8 @@ def main():
                 refused, faults = tell(tried)
                 passed, failed = passed + refused, failed + faults
                 left += tried.left
-            groups = [[edit] for edit in left]
+            # Of edited functions that call each other the one that is called is judged first.
+            groups = in_groups(left) if len(left) < sum(map(len, groups)) else [[edit] for edit in left]
     print(f"{passed} passed, {failed} failed")
     return 1 if failed or not passed else 0
 

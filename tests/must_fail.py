@@ -31,7 +31,7 @@ PARTS = ("src", "specs", "proofs")
 LINE_OF_EDIT = re.compile(r"(file|old|new):(?: |$)(.*)")
 HEAD_OF_FUNCTION = re.compile(r'^( *)(?:pub(?:\(crate\))? )?(?:extern "C" )?fn (\w+)', re.M)
 HEAD_OF_METHODS = re.compile(r"^impl (\w+)", re.M)
-SAID_OF_FUNCTION = re.compile(r"^fn (\S+): (?:(proved)|not proved(; it calls .*)?|no proof: .*)$", re.M)
+SAID_OF_FUNCTION = re.compile(r"^fn (\S+): (?:(proved)|(?:not proved|no proof: .*?)(; it calls .*)?)$", re.M)
 # What rests on a thing that was refused is "not admitted", which is no error of its own.
 ERROR_OF_ITS_OWN = re.compile(r"^\S+: error: (?!.* was not admitted \()", re.M)
 PROVED, NOT_PROVED = 0, 1  # statuses of the checker

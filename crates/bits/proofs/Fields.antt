@@ -1,7 +1,7 @@
 -- A field read and written, by the bits that it is. Assumes nothing.
-use Rattle.vocabulary.specs.{Bool, true, false, cond, and-eq-true-iff, and-false, List, _++_, _≡_, refl, sym, ap, ap₂, _∙_, subst, ℕ, _+_}
-use Rattle.vocabulary.specs.{_*_, _^_, _≤_, _<_, arith, leb-true, le-leb, lt-leb, leb, length, take, drop, length-append, length-drop}
-use Rattle.vocabulary.specs.{pow-pos, take-at, drop-at, take-add, length-take-le}
+use Rattle.vocabulary.specs.{Bool, true, false, cond, and-eq-true-iff, and-false, List, _++_, _≡_, refl, sym, ap, _∙_, subst, ℕ, _+_, _*_}
+use Rattle.vocabulary.specs.{_^_, _≤_, _<_, arith, leb-true, le-leb, lt-leb, leb, length, take, drop, length-append, length-drop, pow-pos}
+use Rattle.vocabulary.specs.{take-at, drop-at, length-take-le}
 use Rattle.bits.specs.Bits.{bits, value, bitsOf, bytesOf, byteCount, inside, fieldAt, withField}
 use Rattle.bits.proofs.Bytes.{AreBytes, length-bitsOf, bitsOf-bytesOf-whole, bytesOf-bytes, length-bytesOf}
 use Rattle.bits.proofs.Numbers.{length-bits, bits-value, value-lt}
@@ -49,17 +49,11 @@ module _ (b : List Bool) (at w v : ℕ) (fits : at + w ≤ length b) where
         start-length,
       )
 
-  pub laid-before : take at (laid b at w v) ≡ take at b
-  laid-before = take-at (take at b) (bits w v ++ drop (at + w) b) at start-length
-
   laid-from : drop at (laid b at w v) ≡ bits w v ++ drop (at + w) b
   laid-from = drop-at (take at b) (bits w v ++ drop (at + w) b) at start-length
 
   pub laid-there : take w (drop at (laid b at w v)) ≡ bits w v
   laid-there = ap (take w) laid-from ∙ take-at (bits w v) (drop (at + w) b) w (length-bits w v)
-
-  pub laid-start : take (at + w) (laid b at w v) ≡ take at b ++ bits w v
-  laid-start = take-add at w (laid b at w v) ∙ ap₂ (λ (x y : List Bool). x ++ y) laid-before laid-there
 
 -- the two ways a test can come out
 by-test {ℓ} : {X : Type ℓ} (t : Bool) → (t ≡ true → X) → (t ≡ false → X) → X

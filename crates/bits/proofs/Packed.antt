@@ -4,9 +4,9 @@ use Rattle.vocabulary.specs.{Bool, true, false, List, [], _∷_, _++_, append-a
 use Rattle.vocabulary.specs.{_+_, _*_, _≤_, _<_, zero-add, add-assoc, le-of-suc-le-suc, arith, length, take, drop, getD, length-append}
 use Rattle.vocabulary.specs.{length-drop, length-map, length-replicate, replicate, take-append-drop, pow-pos, take-at, drop-at, take-add}
 use Rattle.vocabulary.specs.{drop-drop, length-take-le, take-all}
-use Rattle.bits.specs.Bits.{bits, value, bitsOf, bytesOf, byteCount, fillingWidth, inside, fieldAt, withField, Field, widths, totalWidth, packedBits, readFields, AllFit}
+use Rattle.bits.specs.Bits.{bits, value, bitsOf, bytesOf, byteCount, fillingWidth, inside, fieldAt, Field, widths, totalWidth, packedBits, readFields, AllFit}
 use Rattle.bits.proofs.Bytes.{AreBytes, length-bitsOf, bitsOf-injective, bytesOf-bytes, length-bytesOf, bitsOf-bytesOf}
-use Rattle.bits.proofs.Fields.{is-inside, fieldAt-is, bits-fieldAt, bitsOf-withField, laid-start, room}
+use Rattle.bits.proofs.Fields.{is-inside, fieldAt-is, bits-fieldAt}
 use Rattle.bits.proofs.Numbers.{length-bits, bits-zero, bits-value, value-bits}
 
 -- ---- how long, and runs joined
@@ -105,14 +105,6 @@ fieldAt-packed s fs rest k none e fit l n =
 
 -- ---- a writer by positions
 
--- a field that is written behind packed fields is one more of them
-pub packed-more : (s : List ℕ) (fs : List Field) (at w v : ℕ) → take at (bitsOf s) ≡ packedBits fs → inside s at w ≡ true
-    → take (at + w) (bitsOf (withField s at w v)) ≡ packedBits (fs ++ (record { width = w; holds = v } ∷ []))
-unfolding packedBits
-packed-more s fs at w v e h =
-    ap (take (at + w)) (bitsOf-withField s at w v h) ∙ laid-start (bitsOf s) at w v (room s at w v h)
-    ∙ ap₂ (λ (x y : List Bool). x ++ y) e (sym (append-nil (bits w v))) ∙ sym (packedBits-append fs (record { width = w; holds = v } ∷ []))
-
 -- ---- packed fields as bytes, the last byte filled
 
 -- packed fields and the filling as a field of its own
@@ -123,11 +115,6 @@ filled fs =
     packedBits-append fs (record { width = filling; holds = 0 } ∷ [])
     ∙ ap (λ (b : List Bool). packedBits fs ++ b) (append-nil (bits filling 0) ∙ bits-zero filling)
     ∙ ap (λ (n : ℕ). packedBits fs ++ replicate (fillingWidth n) false) (sym (length-packedBits fs)) ∙ sym (bitsOf-bytesOf (packedBits fs))
-
--- bytes whose bits are packed fields and a filling of zero bits are those of the packed fields
-pub packed-filled : (s : List ℕ) (fs : List Field) → AreBytes s
-    → bitsOf s ≡ packedBits (fs ++ (record { width = fillingWidth (totalWidth (widths fs)); holds = 0 } ∷ [])) → s ≡ bytesOf (packedBits fs)
-packed-filled s fs h e = bitsOf-injective s (bytesOf (packedBits fs)) h (bytesOf-bytes (packedBits fs)) (e ∙ filled fs)
 
 -- fields that are written are read back
 pub read-back : (fs : List Field) → AllFit fs → readFields (widths fs) (bitsOf (bytesOf (packedBits fs))) ≡ fs

@@ -1,8 +1,8 @@
 -- The choice is the whole tenth just below or just above the exact correction, a whole value stays, and every rest is 0: once over the
 -- figure. In each condition every angle ends where the next begins, up to a multiple of D: one test over the rows, which antt computes
 -- for all figures. Assumes nothing.
-use Rattle.vocabulary.specs.{ℕ, zero, suc, _+_, _-_, _<_, Bool, true, false, _&&_, List, [], _∷_, _≡_, refl, sym, ap, ap₂, _∙_, T, eqb}
-use Rattle.vocabulary.specs.{eqb→eq, ℤ, pos, negℤ, _+ℤ_, _-ℤ_, _*ℤ_, +ℤ-idr, _≤ℤ_}
+use Rattle.vocabulary.specs.{ℕ, zero, suc, _<_, Bool, true, false, _&&_, List, [], _∷_, _≡_, refl, sym, ap, ap₂, _∙_, T, eqb, eqb→eq, ℤ}
+use Rattle.vocabulary.specs.{pos, negℤ, _+ℤ_, _-ℤ_, _*ℤ_, +ℤ-idr, _≤ℤ_}
 use Rattle.whole.specs.{Lists.every, Lists.everyBelow, Sums.dot, Sums.applied, Sums.table}
 use Rattle.whole.proofs.Computed.{and-left, and-right, every-at, every-below}
 use Rattle.whole.proofs.Ring.{constant, _⊕_, _⊖_, _⊗_, ⊝_, _≐_, ring}

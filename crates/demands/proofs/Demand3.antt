@@ -1,5 +1,5 @@
 -- Demand 3 of the passes, of the same for C, and of a sheet worked from its bytes. Assumes nothing.
-use Rattle.vocabulary.specs.{ℕ, List, map, ⊎-elim, _≡_, sym, ap, ap₂, subst, _∙_, arith, ℤ, pos, getD, List·getD-map}
+use Rattle.vocabulary.specs.{ℕ, map, ⊎-elim, _≡_, sym, ap, ap₂, subst, _∙_, arith, ℤ, pos, getD, List·getD-map}
 use Rattle.whole.specs.Sums.{vector}
 use Rattle.wide_words.specs.Words.{joined}
 use Rattle.refusals.specs.{declared.Refusal.Refusal, declared.Verdict.Verdict, declared.Verdict.the-variants.Passed, Order.judged}

@@ -19,10 +19,6 @@ module _ (f : Figure) (w second : ℕ → ℤ) (S : ℤ) where
   abbrev pub together : ℕ → ℤ
   together i = S *ℤ numerator f w i +ℤ D *ℤ second i
 
-  -- what they change a sum by, is what the first do and what the second do
-  pub together-change : (u : ℕ → ℤ) → dot N u together ≡ S *ℤ dot N u (numerator f w) +ℤ D *ℤ dot N u second
-  together-change u = dot-combined N S D u (numerator f w) second
-
   module _ (closes : (j : ℕ) → j < conditionCount f → conditionSum f second j ≡ pos 0) where
     -- they cancel every linear misclosure
     pub together-cancel : (j : ℕ) → j < conditionCount f → conditionSum f together j ≡ negℤ (D *ℤ S) *ℤ w j

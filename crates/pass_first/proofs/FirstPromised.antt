@@ -1,6 +1,6 @@
 -- From the steps of a first pass to what it promises, of a figure that is named. Assumes nothing.
-use Rattle.vocabulary.specs.{_≡_, refl, sym, ap, ap₂, _∙_, List, [], _∷_, ℕ, _≤_, _<_, le-trans, lt-of-le-of-lt, lit<, lit≤, ℤ, natAbs}
-use Rattle.vocabulary.specs.{_+ℤ_, length, getD}
+use Rattle.vocabulary.specs.{_≡_, refl, sym, ap, ap₂, _∙_, List, [], _∷_, ℕ, _<_, le-trans, lt-of-le-of-lt, lit<, lit≤, ℤ, natAbs, _+ℤ_}
+use Rattle.vocabulary.specs.{length, getD}
 use Rattle.whole.specs.{Lists.listed, Quotient.roundedQuotient, Sums.vector}
 use Rattle.whole.proofs.Lists.{listed-ext}
 use Rattle.refusals.specs.{declared.Refusal.Refusal, declared.Verdict.Verdict, Order.Row, Order.verdictOf, Order.judged, Promise.stored}

@@ -1,7 +1,6 @@
 -- A correction that is clamped: itself within the bound, and as far out of range as the correction itself beyond it. Assumes nothing.
 use Rattle.vocabulary.specs.{_≡_, refl, sym, ap, _∙_, subst, Bool, true, false, cond, _||_, ℕ, zero, suc, _+_, _-_, _^_, _≤_, _<_, le-refl}
 use Rattle.vocabulary.specs.{arith, ltb-true, ltb-false, lt-ltb, le-ltb, T, ltb, ℤ, pos, negsuc, negℤ, natAbs, _+ℤ_, ltZ}
-use Rattle.whole.proofs.Magnitudes.{natAbs-withSign}
 use Rattle.wide.specs.{Wide.radix, Wide.sizeOf, Wide.signed, declared.Size.Size}
 use Rattle.pass_pair.specs.Pair.{mostTenths, clampedSize, clamped}
 
@@ -46,10 +45,6 @@ unfolding clamped signed clampedSize
 clamped-signed false n = refl
 clamped-signed true zero = refl
 clamped-signed true (suc n) = refl
-
-pub clamped-within : (z : ℤ) → natAbs (clamped z) ≤ mostTenths
-unfolding clamped
-clamped-within z = rw (natAbs-withSign z (clampedSize (natAbs z))) (size-within (natAbs z))
 
 -- ---- An angle and its correction, outside the range of angles: what number 7 asks
 

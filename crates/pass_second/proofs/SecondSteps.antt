@@ -18,8 +18,8 @@ use Rattle.pass_rules.specs.{Pass.given, Promises.secondLent, Promises.secondVa
 use Rattle.pass_rules.specs.SecondPass.{SineEntries, secondReduced, sideReduced, sineMisclosure, sideMisclosure, sumOfSquares, sideSquares, sharedProducts, divisor, tenthsFactor, secondNumerator, secondRounded, secondAdjusted, secondRest, reducedOf, sideReducedOf, highNumeratorsOf, lowNumeratorsOf, secondRoundedOf, adjustedOf, secondRestsOf}
 use Rattle.pass_rules.proofs.SecondLaws.{numerator-of-one, numerator-of-two, divisor-of-one, divisor-of-both, divisor-natural}
 use Rattle.pass_rules.proofs.{SideCounts.sides-tell, WithinRange.result-within, WithinRange.angle-most}
-use Rattle.pass_steps.specs.{Premises.Within, Premises.Angles, Premises.mostSummed, Steps.resultsFrom}
-use Rattle.pass_steps.proofs.StepLaws.{listed-at, listed-within, listed-after, condition-ext}
+use Rattle.pass_steps.specs.{Premises.Angles, Premises.mostSummed, Steps.resultsFrom}
+use Rattle.pass_steps.proofs.StepLaws.{listed-at, listed-after, condition-ext}
 use Rattle.pass_second.specs.Sines.{pairOf}
 use Rattle.pass_second.specs.Steps.{exactFrom, divisorFrom, highsFrom, lowsFrom, tenthsFrom, withRounds, secondFrom}
 use Rattle.pass_second.proofs.SumSteps.{both-reduced}
@@ -83,9 +83,6 @@ module _ (D sides : ℕ) (p : Pair) (a b : List ℤ) where
           let within = result-within (length a) result i h (row-passes (resultsRow (listed (length a) result)) in-range) in
           let apart : tenths i ≡ result i -ℤ given angles i = ring 2 (λ a r. r ≐ a ⊕ r ⊖ a) tt (given angles i) (tenths i) in
           rw apart (omega (arith, natAbs-sub (result i) (given angles i), angle-most (result i) (within .0) (within .1), small i))
-
-      pub tenths-summed : Within mostSummed (tenthsFrom D sides p a b)
-      tenths-summed = listed-within (length a) tenths mostSummed difference-most
 
       -- and none is clamped
       pub tenths-unclamped : tenthsFrom D sides p a b ≡ listed (length a) roundedFrom

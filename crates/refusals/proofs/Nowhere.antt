@@ -1,6 +1,6 @@
 -- What it says of the values that a row holds nowhere: they are as the table wants them. Assumes nothing.
-use Rattle.vocabulary.specs.{ℕ, zero, suc, _*_, _≤_, _<_, zero-le, suc-le-suc, false, List, [], inl, inr, _≡_, refl, sym, subst, decLt}
-use Rattle.vocabulary.specs.{arith, not-false, leb→le, ℤ, pos, negsuc, negℤ, natAbs, _*ℤ_, length, getD, List·getD-eq-default, _≤ℤ_}
+use Rattle.vocabulary.specs.{ℕ, zero, suc, _*_, _≤_, _<_, zero-le, suc-le-suc, false, List, [], inl, inr, _≡_, refl, decLt, arith}
+use Rattle.vocabulary.specs.{not-false, leb→le, ℤ, pos, negsuc, negℤ, natAbs, _*ℤ_, length, getD, List·getD-eq-default, _≤ℤ_}
 use Rattle.refusals.specs.{Numbers.numbered, Order.row, Order.rowAt, Order.HoldsNowhere}
 use Rattle.refusals.specs.Questions.{Question, lessSigned, unequal, differ, outside, outsideSigned, Holds, asked, sameNumbers}
 use Rattle.refusals.specs.Ranges.{leastAngle, mostAngle, leastLogSine, mostLogSine, mostDifference, leastRounds}
@@ -128,15 +128,6 @@ module _ (logSines : List ℕ) (differences : List ℤ) (none : HoldsNowhere (si
 
   pub log-sines-most : (i : ℕ) → getD logSines i 0 ≤ mostLogSine
   log-sines-most = past-end logSines mostLogSine (λ i h. log-sines-within i h .1)
-
-  pub differences-most : length differences ≡ length logSines → (i : ℕ) → natAbs (getD differences i (pos 0)) ≤ mostDifference
-  differences-most same i = go (decLt i (length differences))
-    where
-      go : Dec (i < length differences) → natAbs (getD differences i (pos 0)) ≤ mostDifference
-      go (yes h) =
-          let within = differences-within i (omega (arith, same)) in
-          between mostDifference (getD differences i (pos 0)) (within .0) (within .1)
-      go (no h) = subst (λ (z : ℤ). natAbs z ≤ mostDifference) (sym (List·getD-eq-default differences (pos 0) {n = i} (omega arith))) zero-le
 
 -- 16
 pub rounds-within : (most : ℕ) (rounds : List ℕ) → HoldsNowhere (roundsRow most rounds)

@@ -18,7 +18,7 @@ pub use native.Mathlib.Numerals.{add-one, one-add, unary-clauses}
 pub use native.Mathlib.Decide.{decLe, decLt}
 pub use lib.Dec.{T, eqb, eqb·suc-zero, eqb→eq, leb, leb·suc-suc, leb·zero, leb→le, le→leb, lit<, lit≤, ltb, ltb→lt, lt→ltb, nltb→le}
 pub use lib.Arith.{digits-div, digits-lt, digits-mod, lt-of-le-ne}
-pub use lib.Pow.{low, mod-mod-pow, mod-pow-add, pow-add, pow-lt, pow-mono, pow-pos, shl-exact, shl-lt, shl-shr, shr-lt, shr-shr, split}
+pub use lib.Pow.{low, mod-mod-pow, mod-pow-add, pow-add, pow-mono, pow-pos, shl-exact, shl-lt, shl-shr, shr-lt, shr-shr, split}
 pub use lib.Bits.{block-half, block-odd}
 pub use lib.Count.{leading-top, leadingZeros}
 -- whole numbers with a sign

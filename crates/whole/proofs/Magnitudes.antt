@@ -1,9 +1,9 @@
 -- Laws of magnitudes: of sums, differences and products, of a sign given to one, and from a magnitude to the range of a signed machine
 -- number and back. `omega` reads natural numbers only, so bounds on whole numbers are stated of their magnitudes.
 use Rattle.vocabulary.specs.{_≡_, refl, sym, ap, _∙_, subst, Bool, true, false, not, cond, ℕ, zero, suc, _+_, _-_, _*_, _^_, _≤_, _<_}
-use Rattle.vocabulary.specs.{zero-le, not-suc-le-zero, le-refl, le-of-lt, lt-of-le-of-lt, le-of-suc-le-suc, mul-le-mul, arith, ltb-true}
-use Rattle.vocabulary.specs.{le-ltb, T, leb, ltb, ltb→lt, nltb→le, ℤ, pos, negsuc, negℤ, natAbs, subℕ, _+ℤ_, _-ℤ_, _*ℤ_, mag, ltZ}
-use Rattle.vocabulary.specs.{natAbs-le, Width, SFits, hbits, toZ, ofZ, toZ-ofZ, sfits-widen, pow-add, pow-lt}
+use Rattle.vocabulary.specs.{not-suc-le-zero, le-refl, le-of-lt, arith, ltb-true, le-ltb, T, leb, ltb, ltb→lt, nltb→le, ℤ, pos, negsuc}
+use Rattle.vocabulary.specs.{negℤ, natAbs, subℕ, _+ℤ_, _-ℤ_, _*ℤ_, mag, ltZ, natAbs-le, Width, SFits, hbits, toZ, ofZ, toZ-ofZ}
+use Rattle.vocabulary.specs.{sfits-widen}
 use Rattle.whole.specs.Quotient.{withSign}
 
 -- ---- The sign
@@ -63,28 +63,12 @@ magnitude-fits w (negsuc n) h = record { sfits = le-of-lt h }
 pub fits-magnitude : (w : Width) (z : ℤ) → SFits w z → natAbs z ≤ 2 ^ hbits w
 fits-magnitude w z f = natAbs-le z (f .sfits)
 
--- a number of a small enough magnitude is read back from its bits as it was
-pub magnitude-read : (w : Width) (z : ℤ) → natAbs z < 2 ^ hbits w → toZ w (ofZ w z) ≡ z
-magnitude-read w z h = toZ-ofZ (magnitude-fits w z h)
-
 -- a number that is cast to a wider width is read there as it was
 pub widened : (w w′ : Width) (z : ℤ) → T (leb (hbits w) (hbits w′)) → SFits w z → toZ w′ (ofZ w′ (toZ w (ofZ w z))) ≡ z
 widened w w′ z wider f = ap (λ (t : ℤ). toZ w′ (ofZ w′ t)) (toZ-ofZ f) ∙ toZ-ofZ (sfits-widen wider f)
 
 pub widens : (w w′ : Width) (z : ℤ) → T (leb (hbits w) (hbits w′)) → SFits w z → SFits w′ (toZ w (ofZ w z))
 widens w w′ z wider f = rw (toZ-ofZ f) (sfits-widen wider f)
-
--- the product of two numbers fits a width more than twice theirs
-pub product-fits : (w w′ : Width) (a b : ℤ) → T (ltb (hbits w + hbits w) (hbits w′)) → SFits w a → SFits w b → SFits w′ (a *ℤ b)
-product-fits w w′ a b wide f g =
-    magnitude-fits w′ (a *ℤ b)
-    (rw (natAbs-mul a b) (lt-of-le-of-lt (mul-le-mul (fits-magnitude w a f) (fits-magnitude w b g)) (rw (← pow-add 2 (hbits w) (hbits w)) (pow-lt (ltb→lt (hbits w + hbits w) (hbits w′) wide)))))
-
--- a lesser magnitude, with the same sign
-pub withSign-fits : (w : Width) (z : ℤ) (m : ℕ) → m ≤ natAbs z → SFits w z → SFits w (withSign z m)
-withSign-fits w (pos n) m h f = record { sfits = lt-of-le-of-lt h (f .sfits) }
-withSign-fits w (negsuc n) zero h f = record { sfits = lt-of-le-of-lt zero-le (f .sfits) }
-withSign-fits w (negsuc n) (suc m) h f = record { sfits = lt-of-le-of-lt (le-of-suc-le-suc h) (f .sfits) }
 
 -- ---- Which side of zero the machine's test, made on the bits of z, finds z on
 

@@ -50,11 +50,6 @@ nonnegative-sum {a} {b} h k =
     subst (λ (t : ℤ). pos 0 ≤ℤ t) (ap (λ (t : ℤ). t +ℤ pos (natAbs b)) (sym (natural a h)) ∙ ap (λ (t : ℤ). a +ℤ t) (sym (natural b k)))
     (zero-≤ℤ-pos (natAbs a + natAbs b))
 
-pub nonnegative-product : {a b : ℤ} → pos 0 ≤ℤ a → pos 0 ≤ℤ b → pos 0 ≤ℤ (a *ℤ b)
-nonnegative-product {a} {b} h k =
-    subst (λ (t : ℤ). pos 0 ≤ℤ t) (ap (λ (t : ℤ). t *ℤ pos (natAbs b)) (sym (natural a h)) ∙ ap (λ (t : ℤ). a *ℤ t) (sym (natural b k)))
-    (zero-≤ℤ-pos (natAbs a * natAbs b))
-
 pub ≤ℤ-trans : {a b c : ℤ} → a ≤ℤ b → b ≤ℤ c → a ≤ℤ c
 ≤ℤ-trans {a} {b} {c} h k =
     ≤ℤ-from-difference a c

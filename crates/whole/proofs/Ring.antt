@@ -214,18 +214,3 @@ identity (suc n) e t values = λ x. identity n e t (x ∷ values)
 
 pub ring : (n : ℕ) (sides : Sides n) → T (balances (named n sides)) → Identity n (named n sides) []
 ring n sides t = identity n (named n sides) t []
-
--- Euler: a product of two sums of four squares is one
-euler : (a b c d e f g h : ℤ) → (a *ℤ a +ℤ b *ℤ b +ℤ c *ℤ c +ℤ d *ℤ d) *ℤ (e *ℤ e +ℤ f *ℤ f +ℤ g *ℤ g +ℤ h *ℤ h)
-    ≡ (a *ℤ e -ℤ b *ℤ f -ℤ c *ℤ g -ℤ d *ℤ h) *ℤ (a *ℤ e -ℤ b *ℤ f -ℤ c *ℤ g -ℤ d *ℤ h)
-    +ℤ (a *ℤ f +ℤ b *ℤ e +ℤ c *ℤ h -ℤ d *ℤ g) *ℤ (a *ℤ f +ℤ b *ℤ e +ℤ c *ℤ h -ℤ d *ℤ g)
-    +ℤ (a *ℤ g -ℤ b *ℤ h +ℤ c *ℤ e +ℤ d *ℤ f) *ℤ (a *ℤ g -ℤ b *ℤ h +ℤ c *ℤ e +ℤ d *ℤ f)
-    +ℤ (a *ℤ h +ℤ b *ℤ g -ℤ c *ℤ f +ℤ d *ℤ e) *ℤ (a *ℤ h +ℤ b *ℤ g -ℤ c *ℤ f +ℤ d *ℤ e)
-euler a b c d e f g h =
-    ring 8
-    (λ a b c d e f g h. (a ⊗ a ⊕ b ⊗ b ⊕ c ⊗ c ⊕ d ⊗ d) ⊗ (e ⊗ e ⊕ f ⊗ f ⊕ g ⊗ g ⊕ h ⊗ h)
-    ≐ (a ⊗ e ⊖ b ⊗ f ⊖ c ⊗ g ⊖ d ⊗ h) ⊗ (a ⊗ e ⊖ b ⊗ f ⊖ c ⊗ g ⊖ d ⊗ h)
-    ⊕ (a ⊗ f ⊕ b ⊗ e ⊕ c ⊗ h ⊖ d ⊗ g) ⊗ (a ⊗ f ⊕ b ⊗ e ⊕ c ⊗ h ⊖ d ⊗ g)
-    ⊕ (a ⊗ g ⊖ b ⊗ h ⊕ c ⊗ e ⊕ d ⊗ f) ⊗ (a ⊗ g ⊖ b ⊗ h ⊕ c ⊗ e ⊕ d ⊗ f)
-    ⊕ (a ⊗ h ⊕ b ⊗ g ⊖ c ⊗ f ⊕ d ⊗ e) ⊗ (a ⊗ h ⊕ b ⊗ g ⊖ c ⊗ f ⊕ d ⊗ e))
-    tt a b c d e f g h

@@ -50,17 +50,6 @@ sum-front (suc n) f =
     ap (λ (t : ℤ). t +ℤ f (suc n)) (sum-front n f)
     ∙ ring 3 (λ a b c. a ⊕ b ⊕ c ≐ a ⊕ (b ⊕ c)) tt (f 0) (sum n (λ i. f (suc i))) (f (suc n))
 
--- terms that are 0 at the end count for nothing
-pub sum-shorter : (n m : ℕ) (f : ℕ → ℤ) → n ≤ m → ((i : ℕ) → n ≤ i → i < m → f i ≡ pos 0) → sum m f ≡ sum n f
-unfolding sum
-sum-shorter n zero f h e =
-    let none : 0 ≡ n = omega arith in
-    ap (λ (k : ℕ). sum k f) none
-sum-shorter n (suc m) f h e =
-    ⊎-elim (λ (same : n ≡ suc m). ap (λ (k : ℕ). sum k f) (sym same))
-    (λ (less : n < suc m). ap₂ _+ℤ_ (sum-shorter n m f (omega arith) (λ i b c. e i b (omega arith))) (e m (omega arith) (omega arith)) ∙ +ℤ-idr (sum n f))
-    (eq-or-lt-of-le h)
-
 pub sum-nonnegative : (n : ℕ) (f : ℕ → ℤ) → ((i : ℕ) → i < n → pos 0 ≤ℤ f i) → pos 0 ≤ℤ sum n f
 unfolding sum
 sum-nonnegative zero f h = ≤ℤ-refl (pos 0)
@@ -96,10 +85,6 @@ sum-magnitude (suc n) f most h =
 pub dot-ext : (n : ℕ) (u v u′ v′ : ℕ → ℤ) → ((i : ℕ) → i < n → u i ≡ u′ i) → ((i : ℕ) → i < n → v i ≡ v′ i) → dot n u v ≡ dot n u′ v′
 unfolding dot
 dot-ext n u v u′ v′ h k = sum-ext n (λ i. u i *ℤ v i) (λ i. u′ i *ℤ v′ i) (λ i b. ap₂ _*ℤ_ (h i b) (k i b))
-
-pub dot-more : (n : ℕ) (u v : ℕ → ℤ) → dot n u v +ℤ u n *ℤ v n ≡ dot (n + 1) u v
-unfolding dot
-dot-more n u v = sum-more n (λ i. u i *ℤ v i)
 
 pub dot-comm : (n : ℕ) (u v : ℕ → ℤ) → dot n u v ≡ dot n v u
 unfolding dot

@@ -7,7 +7,7 @@ use Rattle.vocabulary.specs.{lt-of-le-of-lt, T, ltb, ltb→lt, ℤ, pos, negsuc
 use Rattle.whole.proofs.Magnitudes.{natAbs-neg, natAbs-add, natAbs-mul}
 use Rattle.whole.proofs.Ring.{Expression, variable, constant, ⊝_, _⊕_, _⊖_, _⊗_, meaning}
 use Rattle.wide.specs.{Wide.limit, Wide.sizeOf, Wide.valueOf, Wide.held, declared.Wide.Wide}
-use Rattle.wide.proofs.{Signs.signed-size, Sizes.in-words, Sizes.size-within, Sizes.held-size}
+use Rattle.wide.proofs.{Signs.signed-size, Sizes.held-size}
 
 -- ---- What is held, and what a wide number's size is
 
@@ -19,11 +19,6 @@ held-within (negsuc n) h = ap (λ (m : ℕ). negℤ (pos m)) (held-size (suc n) 
 pub value-size : (a : Wide) → natAbs (valueOf a) ≡ sizeOf (a .size)
 unfolding valueOf
 value-size a = signed-size (a .negative) (sizeOf (a .size))
-
--- a wide number in hand
-pub value-within : (a : Wide) → a .size .high < 2 ^ 64 → a .size .low < 2 ^ 64 → natAbs (valueOf a) < 2 ^ 128
-unfolding limit
-value-within a high low = rw (value-size a) (size-within (a .size) (in-words (a .size) high low))
 
 -- ---- How far a result reaches from 0 where its numbers reach no farther than their bounds
 
@@ -88,10 +83,6 @@ pub magnitude-reaches : (n : ℕ) (result : Result n) → Reaches n (named n res
 magnitude-reaches n result = reaching n (named n result) [] [] within-none
 
 -- ---- Two conditions at once: the determinant of their normal equations, and a numerator of a correction
-
--- sums of products up to 2 ^ 60
-determinant-stays : (aa bb ab : ℤ) → natAbs aa ≤ 2 ^ 60 → natAbs bb ≤ 2 ^ 60 → natAbs ab ≤ 2 ^ 60 → held (aa *ℤ bb -ℤ ab *ℤ ab) ≡ aa *ℤ bb -ℤ ab *ℤ ab
-determinant-stays aa bb ab h k l = stays 3 (λ aa bb ab. aa ⊗ bb ⊖ ab ⊗ ab) aa (2 ^ 60) h bb (2 ^ 60) k ab (2 ^ 60) l tt
 
 -- coefficients up to 2 ^ 28 and misclosures up to 2 ^ 18, with a factor of 2400
 numerator-stays : (a bb wa ab wb : ℤ) → natAbs a ≤ 2 ^ 28 → natAbs bb ≤ 2 ^ 60 → natAbs wa ≤ 2 ^ 18 → natAbs ab ≤ 2 ^ 60 → natAbs wb ≤ 2 ^ 18

@@ -1,5 +1,5 @@
 -- The product of two words by halves, column by column: no column passes a word, and together they are the product.
-use Rattle.vocabulary.specs.{_≡_, sym, ap, _∙_, ℕ, zero, suc, _+_, _-_, _*_, _/_, _%_, _^_, _≤_, _<_, mul-le-mul, lt-of-mul-lt-mul-right}
+use Rattle.vocabulary.specs.{_≡_, sym, ap, _∙_, ℕ, zero, suc, _+_, _*_, _/_, _%_, _^_, _≤_, _<_, mul-le-mul, lt-of-mul-lt-mul-right}
 use Rattle.vocabulary.specs.{div-add-mod', not-suc-le-zero, arith}
 use Rattle.wide.specs.Wide.{radix, sizeOf}
 

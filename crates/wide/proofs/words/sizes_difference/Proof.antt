@@ -1,5 +1,5 @@
 -- `wide::words::sizes_difference` meets its contract: word by word, with one borrowed from the high word where the low words need it.
-use Rattle.vocabulary.specs.{_-_, _≤_, _<_, arith, needs}
+use Rattle.vocabulary.specs.{_≤_, _<_, arith, needs}
 use Rattle.wide.proofs.Sizes.{InWords, in-words, radix-is, high-within, high-more, difference-plain, difference-borrowed}
 use Rattle.wide.proofs.words.sizes_difference.Statement.{statement}
 use Rattle.wide.proofs.words.sizes_difference.Tie as tie

@@ -314,7 +314,8 @@ def try_scripts(folder):
 
 
 def try_wrong_programs(folder):
-    """In a repository of one crate: an edit of a comment is told, also where it is tried beside a wrong program, and so is one that does not fit."""
+    """In a repository of one crate: an edit of a comment is told, also where it is tried beside a wrong program, and so is one that does not fit, and
+    one in a crate that is not proved without it."""
     crate, proved = Path("crates") / "refusals", Path("target") / "rlib"
     for part in (Path("tests"), crate, proved / "vocabulary.rlib", proved / "refusals.rlib"):
         shutil.copytree(ROOT / part, folder / part)
@@ -334,6 +335,15 @@ def try_wrong_programs(folder):
     told = sorted(line.partition("refusals/")[2].partition(" (")[0] for line in text.splitlines()[:-1])
     right = sorted(f"{name}: {said}" for name, _, _, said in edits)
     expect("wrong programs that are not", (status, told, text.splitlines()[-1]), (1, right, "1 passed, 3 failed"))
+    for name, *_ in edits:
+        if name != "a failure lost":
+            (folder / crate / "must-fail" / f"{name}.edit").unlink()
+    source = folder / crate / "src" / "lib.rt"
+    source.write_text(source.read_text(encoding="utf-8").replace("Refusal::WrongLength => 2,", "Refusal::WrongLength => 3,"), encoding="utf-8")
+    status, text, _ = call(words)
+    told = text.partition("refusals/")[2].partition(" (")[0]
+    right = "a failure lost: BAD EDIT: it did not reach the prover, or something else is refused too"
+    expect("a wrong program beside another that is no edit", (status, told, text.splitlines()[-1]), (1, right, "0 passed, 1 failed"))
     status, text, message = call([*words, "nosuch"])
     expect("wrong programs of no crate", (status, text, message.startswith("usage: tests/must_fail.py ")), (2, "", True))
 

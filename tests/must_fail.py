@@ -194,11 +194,11 @@ def judged_by_function(edits, said):
 
 
 def judged(edits, status, said):
-    """For each edit whether it is refused, or None where that is not said."""
-    reached = status == PROVED or (status == NOT_PROVED and re.search(r"^logic=not-proved", said, re.M))
-    answers = judged_by_function(edits, said) if reached else None
-    alone = reached and len(edits) == 1
-    return answers or [status == NOT_PROVED if alone else None for _ in edits]
+    """For each edit whether it is refused, or None where that is not said. An edit that is of no one function is alone."""
+    unsaid = [None] * len(edits)
+    if status != PROVED and not (status == NOT_PROVED and re.search(r"^logic=not-proved", said, re.M)):
+        return unsaid
+    return (judged_by_function(edits, said) or unsaid) if edits[0].function else [status == NOT_PROVED]
 
 
 def try_together(edits, room, kept_in):
@@ -217,8 +217,8 @@ def try_together(edits, room, kept_in):
         elif refused is None and len(edits) > 1:
             tried.left.append(edit)
         else:
-            fault = "NOT REFUSED" if refused is False else f"BAD EDIT: it did not reach the prover (status {status})"
-            tried.faults.append((edit, fault))
+            unclear = f"BAD EDIT: it did not reach the prover, or something else is refused too (status {status})"
+            tried.faults.append((edit, "NOT REFUSED" if refused is False else unclear))
     return tried
 
 

@@ -1,8 +1,9 @@
 -- Bytes and their bits: each is had back from the other, but for the zero bits that fill the last byte. Assumes nothing.
-use Rattle.vocabulary.specs.{Bool, false, List, [], ◌∷◌, ◌++◌, append_assoc, append-nil, ◌≡◌, refl, sym, ap, ap₂, ◌∙◌, subst, ℕ, zero, suc}
-use Rattle.vocabulary.specs.{◌+◌, ◌-◌, ◌*◌, ◌/◌, ◌^◌, ◌≤◌, ◌<◌, dec_le, lt_of_not-le, arith, length, take, drop, get_or, length-append}
-use Rattle.vocabulary.specs.{length-take, length-drop, length-replicate, replicate, replicate-append-replicate, take-append-drop}
-use Rattle.vocabulary.specs.{drop_of_length-le, take_at, drop_at, take-append-le, take-append-add, length-take-le}
+use Rattle.std.specs.Prelude.{Bool, false, List, [], ◌∷◌, ◌++◌, ◌≡◌, refl, ℕ, zero, suc, ◌+◌, ◌-◌, ◌*◌, ◌/◌, ◌^◌, ◌≤◌, ◌<◌, length, take}
+use Rattle.std.specs.Prelude.{drop, get_or, replicate}
+use Rattle.vocabulary.specs.{append_assoc, append-nil, sym, ap, ap₂, ◌∙◌, subst, dec_le, lt_of_not-le, arith, length-append, length-take}
+use Rattle.vocabulary.specs.{length-drop, length-replicate, replicate-append-replicate, take-append-drop, drop_of_length-le, take_at}
+use Rattle.vocabulary.specs.{drop_at, take-append-le, take-append-add, length-take-le}
 use Rattle.bits.specs.Bits.{bits, value, bits_of, first_byte, bytes_from, byte_count, filling_width, bytes_of}
 use Rattle.bits.proofs.Numbers.{length_bits, value_bits, value_lt, bits_value}
 

@@ -1,7 +1,8 @@
 -- Two's complement: a number that w bits hold is had back from what stands for it, and the other way round. Assumes nothing.
-use Rattle.vocabulary.specs.{Bool, true, false, cond, ◌&&◌, and-true, and-false, true≢false, false≢true, ◌≡◌, refl, sym, ap, ◌∙◌, subst, ℕ}
-use Rattle.vocabulary.specs.{zero, suc, ◌-◌, ◌*◌, ◌^◌, ◌≤◌, ◌<◌, dec_le, two-pow-succ, lt_of_not-le, arith, lt-ltb, le-ltb, le-leb, lt-leb}
-use Rattle.vocabulary.specs.{leb, ltb, leb-zero, leb-suc-suc, ℤ, pos, negsuc, neg_ℤ, ◌-ℤ◌, pow_pos, pow_mono, mag, le_z, lt_z}
+use Rattle.std.specs.Prelude.{Bool, true, false, cond, ◌&&◌, ◌≡◌, refl, ℕ, zero, suc, ◌-◌, ◌*◌, ◌^◌, ◌≤◌, ◌<◌, leb, ltb, ℤ, pos, negsuc}
+use Rattle.std.specs.Prelude.{neg_ℤ, ◌-ℤ◌}
+use Rattle.vocabulary.specs.{and-true, and-false, true≢false, false≢true, sym, ap, ◌∙◌, subst, dec_le, two-pow-succ, lt_of_not-le, arith}
+use Rattle.vocabulary.specs.{lt-ltb, le-ltb, le-leb, lt-leb, leb-zero, leb-suc-suc, pow_pos, pow_mono, mag, le_z, lt_z}
 use Rattle.bits.specs.Complement.{half_range, signed_of, fits_signed, twos_complement}
 
 -- ---- the range of a width

@@ -1,5 +1,5 @@
 -- The definitions of `specs/Bits.antt` and `specs/Complement.antt` at work on small numbers, each computed. Assumes nothing.
-use Rattle.vocabulary.specs.{true, false, [], ◌∷◌, ◌≡◌, refl, negsuc}
+use Rattle.std.specs.Prelude.{true, false, [], ◌∷◌, ◌≡◌, refl, negsuc}
 use Rattle.bits.specs.Bits.{odd, bits, digit, value, bits_of, first_byte, bytes_from, byte_count, bytes_of, inside, field_at, with_field, packed_bits}
 use Rattle.bits.specs.Complement.{half_range, signed_of, fits_signed, twos_complement}
 

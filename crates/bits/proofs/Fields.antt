@@ -1,7 +1,7 @@
 -- A field read and written, by the bits that it is. Assumes nothing.
-use Rattle.vocabulary.specs.{Bool, true, false, cond, and-eq-true_iff, and-false, List, ◌++◌, ◌≡◌, refl, sym, ap, ◌∙◌, subst, ℕ, ◌+◌, ◌*◌}
-use Rattle.vocabulary.specs.{◌^◌, ◌≤◌, ◌<◌, arith, leb-true, le-leb, lt-leb, leb, length, take, drop, length-append, length-drop, pow_pos}
-use Rattle.vocabulary.specs.{take_at, drop_at, length-take-le}
+use Rattle.std.specs.Prelude.{Bool, true, false, cond, List, ◌++◌, ◌≡◌, refl, ℕ, ◌+◌, ◌*◌, ◌^◌, ◌≤◌, ◌<◌, leb, length, take, drop}
+use Rattle.vocabulary.specs.{and-eq-true_iff, and-false, sym, ap, ◌∙◌, subst, arith, leb-true, le-leb, lt-leb, length-append, length-drop}
+use Rattle.vocabulary.specs.{pow_pos, take_at, drop_at, length-take-le}
 use Rattle.bits.specs.Bits.{bits, value, bits_of, bytes_of, byte_count, inside, field_at, with_field}
 use Rattle.bits.proofs.Bytes.{AreBytes, length_bits_of, bits_of_bytes_of_whole, bytes_of_bytes, length_bytes_of}
 use Rattle.bits.proofs.Numbers.{length_bits, bits_value, value_lt}

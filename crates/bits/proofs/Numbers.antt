@@ -1,8 +1,9 @@
 -- Numbers and their bits: each is had back from the other. Assumes nothing.
-use Rattle.vocabulary.specs.{Bool, true, false, List, [], ◌∷◌, ◌++◌, append_assoc, append-nil, ◌≡◌, refl, sym, ap, ap₂, ◌∙◌, ℕ, zero, suc}
-use Rattle.vocabulary.specs.{◌+◌, ◌*◌, ◌/◌, ◌%◌, ◌^◌, ◌<◌, add-zero, add-suc, add-mul, mod-one, pow-suc, mod-eq_of_lt, mul_assoc, add-one}
-use Rattle.vocabulary.specs.{one-add, arith, block_half, block_odd, eqb, length, length-append, replicate, replicate-append-replicate}
-use Rattle.vocabulary.specs.{pow-add, mod-pow-add}
+use Rattle.std.specs.Prelude.{Bool, true, false, List, [], ◌∷◌, ◌++◌, ◌≡◌, refl, ℕ, zero, suc, ◌+◌, ◌*◌, ◌/◌, ◌%◌, ◌^◌, ◌<◌, eqb, length}
+use Rattle.std.specs.Prelude.{replicate}
+use Rattle.vocabulary.specs.{append_assoc, append-nil, sym, ap, ap₂, ◌∙◌, add-zero, add-suc, add-mul, mod-one, pow-suc, mod-eq_of_lt}
+use Rattle.vocabulary.specs.{mul_assoc, add-one, one-add, arith, block_half, block_odd, length-append, replicate-append-replicate, pow-add}
+use Rattle.vocabulary.specs.{mod-pow-add}
 use Rattle.bits.specs.Bits.{odd, bits, digit, value}
 
 pub length_bits : (w n : ℕ) → length (bits w n) ≡ w

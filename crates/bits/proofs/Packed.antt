@@ -1,9 +1,10 @@
 -- Fields that run on without gaps: read off and packed again they are the same, both ways, and each one stands at the offset that the
 -- widths before it add up to. Assumes nothing.
-use Rattle.vocabulary.specs.{Bool, true, false, List, [], ◌∷◌, ◌++◌, append_assoc, append-nil, ◌≡◌, refl, sym, ap, ap₂, ◌∙◌, ℕ, zero, suc}
-use Rattle.vocabulary.specs.{◌+◌, ◌*◌, ◌≤◌, ◌<◌, zero-add, add_assoc, le_of_suc-le-suc, arith, length, take, drop, get_or, length-append}
-use Rattle.vocabulary.specs.{length-drop, length-map, length-replicate, replicate, take-append-drop, pow_pos, take_at, drop_at, take-add}
-use Rattle.vocabulary.specs.{drop-drop, length-take-le, take_all}
+use Rattle.std.specs.Prelude.{Bool, true, false, List, [], ◌∷◌, ◌++◌, ◌≡◌, refl, ℕ, zero, suc, ◌+◌, ◌*◌, ◌≤◌, ◌<◌, length, take, drop}
+use Rattle.std.specs.Prelude.{get_or, replicate}
+use Rattle.vocabulary.specs.{append_assoc, append-nil, sym, ap, ap₂, ◌∙◌, zero-add, add_assoc, le_of_suc-le-suc, arith, length-append}
+use Rattle.vocabulary.specs.{length-drop, length-map, length-replicate, take-append-drop, pow_pos, take_at, drop_at, take-add, drop-drop}
+use Rattle.vocabulary.specs.{length-take-le, take_all}
 use Rattle.bits.specs.Bits.{bits, value, bits_of, bytes_of, byte_count, filling_width, inside, field_at, Field, widths, total_width, packed_bits, read_fields, AllFit}
 use Rattle.bits.proofs.Bytes.{AreBytes, length_bits_of, bits_of_injective, bytes_of_bytes, length_bytes_of, bits_of_bytes_of}
 use Rattle.bits.proofs.Fields.{is_inside, field_at_is, bits_field_at}

@@ -1,9 +1,10 @@
 -- One bit of a number, and one bit of bytes: where it stands, and the number or the bytes with another bit in its place.
 -- In j + 1 + m bits the bit at place j counts 2 ^ m. Assumes nothing.
-use Rattle.vocabulary.specs.{Bool, List, [], ◌∷◌, ◌++◌, ◌≡◌, sym, ap, ap₂, ◌∙◌, subst, ℕ, zero, suc, ◌+◌, ◌-◌, ◌*◌, ◌/◌, ◌%◌, ◌^◌, ◌≤◌}
-use Rattle.vocabulary.specs.{◌<◌, zero-add, add-zero, add-suc, suc-add, mod-lt, pow-suc, arith, digits_lt, eqb, length, take, drop, get_or}
-use Rattle.vocabulary.specs.{set, take-append-drop, pow_pos, pow-add, shr_lt, split, append_snoc, set_at, split_at, set_split}
-use Rattle.vocabulary.specs.{set-append_left, take-set-le, drop_at, length-take-le}
+use Rattle.std.specs.Prelude.{Bool, List, [], ◌∷◌, ◌++◌, ◌≡◌, ℕ, zero, suc, ◌+◌, ◌-◌, ◌*◌, ◌/◌, ◌%◌, ◌^◌, ◌≤◌, ◌<◌, eqb, length, take, drop}
+use Rattle.std.specs.Prelude.{get_or, set}
+use Rattle.vocabulary.specs.{sym, ap, ap₂, ◌∙◌, subst, zero-add, add-zero, add-suc, suc-add, mod-lt, pow-suc, arith, digits_lt}
+use Rattle.vocabulary.specs.{take-append-drop, pow_pos, pow-add, shr_lt, split, append_snoc, set_at, split_at, set_split, set-append_left}
+use Rattle.vocabulary.specs.{take-set-le, drop_at, length-take-le}
 use Rattle.bits.specs.Bits.{odd, bits, bits_of}
 use Rattle.bits.proofs.{Bytes.length_bits_of_take, Bytes.bits_of_append, Fields.laid}
 use Rattle.bits.proofs.Numbers.{length_bits, bits_append, half_below}

@@ -1,8 +1,8 @@
 -- Whole bytes as one number, and a field as a part of it. Assumes nothing.
-use Rattle.vocabulary.specs.{Bool, List, [], ◌∷◌, ◌++◌, append-nil, ◌≡◌, refl, sym, ap, ap₂, ◌∙◌, ℕ, ◌+◌, ◌-◌, ◌*◌, ◌/◌, ◌%◌, ◌^◌, ◌≤◌}
-use Rattle.vocabulary.specs.{◌<◌, add-zero, lt_of_lt_of_le, add-one, arith, digits_div, digits_mod, length, take, drop, get_or, length-drop}
-use Rattle.vocabulary.specs.{take-append-drop, pow_mono, take-suc, take-add, take-append-le, drop-append-le, drop_at, drop-drop, get_or-drop}
-use Rattle.vocabulary.specs.{length-take-le}
+use Rattle.std.specs.Prelude.{Bool, List, [], ◌∷◌, ◌++◌, ◌≡◌, refl, ℕ, ◌+◌, ◌-◌, ◌*◌, ◌/◌, ◌%◌, ◌^◌, ◌≤◌, ◌<◌, length, take, drop, get_or}
+use Rattle.vocabulary.specs.{append-nil, sym, ap, ap₂, ◌∙◌, add-zero, lt_of_lt_of_le, add-one, arith, digits_div, digits_mod, length-drop}
+use Rattle.vocabulary.specs.{take-append-drop, pow_mono, take-suc, take-add, take-append-le, drop-append-le, drop_at, drop-drop}
+use Rattle.vocabulary.specs.{get_or-drop, length-take-le}
 use Rattle.bits.specs.Bits.{bits, value, bits_of, field_at}
 use Rattle.bits.proofs.{Bytes.AreBytes, Bytes.length_bits_of_take, Bytes.bits_of_append, Fields.is_inside, Fields.field_at_is}
 use Rattle.bits.proofs.Numbers.{length_bits, value_append, value_bits, value_lt}

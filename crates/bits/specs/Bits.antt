@@ -3,8 +3,8 @@
 --
 -- A bit is a Bool: true is 1, false is 0. A run of bits is a list, the most significant first. A byte is a number below 256.
 -- Positions are counted in bits from 0, the most significant bit of the first byte.
-use Rattle.vocabulary.specs.{Bool, true, false, cond, ◌&&◌, List, [], ◌∷◌, ◌++◌, map, ℕ, zero, suc, ◌+◌, ◌-◌, ◌*◌, ◌/◌, ◌%◌, ◌^◌, ◌<◌, leb}
-use Rattle.vocabulary.specs.{eqb, length, take, drop, replicate}
+use Rattle.std.specs.Prelude.{Bool, true, false, cond, ◌&&◌, List, [], ◌∷◌, ◌++◌, map, ℕ, zero, suc, ◌+◌, ◌-◌, ◌*◌, ◌/◌, ◌%◌, ◌^◌, ◌<◌, leb}
+use Rattle.std.specs.Prelude.{eqb, length, take, drop, replicate}
 
 -- ---- numbers and their bits
 

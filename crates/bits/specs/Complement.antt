@@ -1,5 +1,6 @@
 -- What two's complement of a width from 1 to 32 is. Document 01, "Packed sheets", of kind 2: "15 sine difference in two's complement".
-use Rattle.vocabulary.specs.{cond, Bool, ◌&&◌, ℕ, ◌-◌, ◌*◌, ◌^◌, leb, ltb, ℤ, pos, neg_ℤ, ◌-ℤ◌, nat_abs, le_z, lt_z, non_neg}
+use Rattle.std.specs.Prelude.{cond, Bool, ◌&&◌, ℕ, ◌-◌, ◌*◌, ◌^◌, leb, ltb, ℤ, pos, neg_ℤ, ◌-ℤ◌, nat_abs}
+use Rattle.vocabulary.specs.{le_z, lt_z, non_neg}
 
 -- half the range of a width: of its numbers as many are negative as are not. No other width has any
 unfoldable pub half_range : ℕ → ℕ

@@ -1,5 +1,7 @@
 // Fields of bits in bytes, most significant bit first: document 01, "Packed sheets". Every public function answers every input, as
 // specs/Bits.antt says.
+#![tactic(auto)]
+
 ghost use Rattle.std.specs.Prelude.{◌≡◌, ◌+◌, ◌*◌, ◌/◌, ◌%◌, ◌^◌, ◌≤◌, ◌<◌, length, take, drop, set};
 ghost use Rattle.bits.specs.Bits.{odd, bits, value, bits_of, inside, field_at, with_field};
 

@@ -1,5 +1,5 @@
 -- What the comparisons of the cases answer.
-use Rattle.vocabulary.specs.{◌≡◌, Bool, true, false, ℕ}
+use Rattle.std.specs.Prelude.{◌≡◌, Bool, true, false, ℕ}
 
 -- an answer that says whether something holds
 abbrev pub Tells : Bool → Type 0 → Type 0

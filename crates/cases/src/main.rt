@@ -1,5 +1,7 @@
 // The cases of document 01 that are not starred, the limits of document 02, accepted sheets of codes 2 and 3, and the published examples,
 // worked and compared: a line for each, and last their count.
+#![tactic(auto)]
+
 mod books;
 mod comparing;
 mod direct;

@@ -1,6 +1,6 @@
 -- Tests over places, as a loop makes them: what was found at one holds over all, and what was found at none. Assumes nothing.
-use Rattle.vocabulary.specs.{ℕ, zero, suc, ◌+◌, ◌≤◌, ◌<◌, Bool, true, false, ◌||◌, true≢false, ◌≡◌, refl, sym, ap, ap₂, ◌∙◌, dec_lt}
-use Rattle.vocabulary.specs.{add-one, arith}
+use Rattle.std.specs.Prelude.{ℕ, zero, suc, ◌+◌, ◌≤◌, ◌<◌, Bool, true, false, ◌||◌, ◌≡◌, refl}
+use Rattle.vocabulary.specs.{true≢false, sym, ap, ap₂, ◌∙◌, dec_lt, add-one, arith}
 use Rattle.refusals.specs.Questions.{any_place}
 
 either_true : (a : Bool) → (a || true) ≡ true

@@ -1,6 +1,7 @@
 -- Our own choice keeps both rules, and number 15 asks exactly whether one of them is broken. Assumes nothing.
-use Rattle.vocabulary.specs.{ℕ, zero, suc, ◌≤◌, ◌<◌, zero-le, suc-le-suc, Bool, true, false, List, ◌↔◌, ◌⊎◌, inl, inr, ⊎_elim, ◌≡◌, refl}
-use Rattle.vocabulary.specs.{sym, ap, subst, ◌∙◌, arith, ℤ, pos, negsuc, nat_abs, ◌+ℤ◌, ◌*ℤ◌, length, ◌≤ℤ◌, ◌<ℤ◌, ≤ℤ_refl, clash_ℤ}
+use Rattle.std.specs.Prelude.{ℕ, zero, suc, ◌≤◌, ◌<◌, Bool, true, false, List, ◌↔◌, ◌⊎◌, ◌≡◌, refl, ℤ, pos, negsuc, nat_abs, ◌+ℤ◌, ◌*ℤ◌}
+use Rattle.std.specs.Prelude.{length, ◌≤ℤ◌, ◌<ℤ◌}
+use Rattle.vocabulary.specs.{zero-le, suc-le-suc, inl, inr, ⊎_elim, sym, ap, subst, ◌∙◌, arith, ≤ℤ_refl, clash_ℤ}
 use Rattle.whole.specs.Sums.{vector}
 use Rattle.whole.proofs.Lists.{length_listed}
 use Rattle.refusals.specs.{declared.Refusal.Refusal, declared.Verdict.TheVariants.Passed, declared.Verdict.TheVariants.Failed}

@@ -1,8 +1,9 @@
 -- The choice is the whole tenth just below or just above the exact correction, a whole value stays, and every rest is 0: once over the
 -- figure. In each condition every angle ends where the next begins, up to a multiple of D: one test over the rows, which antt computes
 -- for all figures. Assumes nothing.
-use Rattle.vocabulary.specs.{ℕ, zero, suc, ◌<◌, Bool, true, false, ◌&&◌, List, [], ◌∷◌, ◌≡◌, refl, sym, ap, ap₂, ◌∙◌, T, eqb, eqb→eq, ℤ}
-use Rattle.vocabulary.specs.{pos, neg_ℤ, ◌+ℤ◌, ◌-ℤ◌, ◌*ℤ◌, +ℤ_idr, ◌≤ℤ◌}
+use Rattle.std.specs.Prelude.{ℕ, zero, suc, ◌<◌, Bool, true, false, ◌&&◌, List, [], ◌∷◌, ◌≡◌, refl, T, eqb, ℤ, pos, neg_ℤ, ◌+ℤ◌, ◌-ℤ◌, ◌*ℤ◌}
+use Rattle.std.specs.Prelude.{◌≤ℤ◌}
+use Rattle.vocabulary.specs.{sym, ap, ap₂, ◌∙◌, eqb→eq, +ℤ_idr}
 use Rattle.whole.specs.{Lists.every, Lists.every_below, Sums.dot, Sums.applied, Sums.table}
 use Rattle.whole.proofs.Computed.{and_left, and_right, every_at, every_below_lem}
 use Rattle.whole.proofs.Ring.{constant, ◌⊕◌, ◌⊖◌, ◌⊗◌, ⊝◌, ◌≐◌, ring}

@@ -1,8 +1,9 @@
 -- Division downwards and upwards: a number is its quotient times d and what is left over, in one way; what is between the two quotients
 -- is one of them. Assumes nothing.
-use Rattle.vocabulary.specs.{ℕ, zero, suc, ◌+◌, ◌-◌, ◌*◌, ◌/◌, ◌%◌, ◌≤◌, ◌<◌, ◌⊎◌, inl, inr, ⊎_elim, ◌≡◌, refl, sym, ap, ap₂, subst, ◌∙◌}
-use Rattle.vocabulary.specs.{mod-lt, div-add-mod, mul-suc, mul-zero, mul-le-mul_right, arith, ℤ, pos, negsuc, neg_ℤ, nat_abs, ◌+ℤ◌, ◌-ℤ◌}
-use Rattle.vocabulary.specs.{◌*ℤ◌, +ℤ_idr, ◌≤ℤ◌}
+use Rattle.std.specs.Prelude.{ℕ, zero, suc, ◌+◌, ◌-◌, ◌*◌, ◌/◌, ◌%◌, ◌≤◌, ◌<◌, ◌⊎◌, ◌≡◌, refl, ℤ, pos, negsuc, neg_ℤ, nat_abs, ◌+ℤ◌, ◌-ℤ◌}
+use Rattle.std.specs.Prelude.{◌*ℤ◌, ◌≤ℤ◌}
+use Rattle.vocabulary.specs.{inl, inr, ⊎_elim, sym, ap, ap₂, subst, ◌∙◌, mod-lt, div-add-mod, mul-suc, mul-zero, mul-le-mul_right, arith}
+use Rattle.vocabulary.specs.{+ℤ_idr}
 use Rattle.whole.proofs.Magnitudes.{nat_abs_neg, nat_abs_mul, nat_abs_distance}
 use Rattle.whole.proofs.Order.{pos_injective, natural, zero-≤ℤ-pos, ≤ℤ-difference, ≤ℤ-from-difference}
 use Rattle.whole.proofs.Ring.{constant, ◌⊕◌, ◌⊖◌, ◌⊗◌, ⊝◌, ◌≐◌, ring, difference_zero}

@@ -1,6 +1,7 @@
 -- From what the steps promise to what the two operations do. Assumes nothing.
-use Rattle.vocabulary.specs.{ℕ, ◌≤◌, ◌<◌, zero-le, Bool, true, false, not, ◌&&◌, ◌||◌, true≢false, List, [], ◌∷◌, ◌≡◌, refl, sym, ap, ap₂}
-use Rattle.vocabulary.specs.{subst, ◌∙◌, dec_lt, le_trans, arith, ne_eqb, lit≤, ℤ, pos, nat_abs, ◌+ℤ◌, ◌-ℤ◌, length, list-get_or_eq_default}
+use Rattle.std.specs.Prelude.{ℕ, ◌≤◌, ◌<◌, Bool, true, false, not, ◌&&◌, ◌||◌, List, [], ◌∷◌, ◌≡◌, refl, ℤ, pos, nat_abs, ◌+ℤ◌, ◌-ℤ◌}
+use Rattle.std.specs.Prelude.{length}
+use Rattle.vocabulary.specs.{zero-le, true≢false, sym, ap, ap₂, subst, ◌∙◌, dec_lt, le_trans, arith, ne_eqb, lit≤, list-get_or_eq_default}
 use Rattle.vocabulary.specs.{lt_z}
 use Rattle.whole.specs.{Lists.listed, Sums.vector}
 use Rattle.whole.proofs.Lists.{listed_ext}

@@ -1,7 +1,7 @@
 -- The orders of the two operations: they refuse exactly where the first pass does, never with 15 our own, and the check with 15 after
 -- that. Assumes nothing.
-use Rattle.vocabulary.specs.{ℕ, Bool, not, List, [], ◌∷◌, ◌↔◌, ◌⊎◌, inl, inr, ⊎_elim, ◌≡◌, refl, sym, ap, subst, ◌∙◌, arith, T, eqb}
-use Rattle.vocabulary.specs.{eq-eqb, ℤ, length}
+use Rattle.std.specs.Prelude.{ℕ, Bool, not, List, [], ◌∷◌, ◌↔◌, ◌⊎◌, ◌≡◌, refl, T, eqb, ℤ, length}
+use Rattle.vocabulary.specs.{inl, inr, ⊎_elim, sym, ap, subst, ◌∙◌, arith, eq-eqb}
 use Rattle.whole.specs.{Sums.vector, Lists.every}
 use Rattle.whole.proofs.{Computed.and_left, Computed.and_right, Lists.length_listed}
 use Rattle.refusals.specs.{declared.Refusal.Refusal, declared.Verdict.TheVariants.Passed, declared.Verdict.TheVariants.Failed}

@@ -1,7 +1,8 @@
 -- Where angles start: the number of the angle at whose end one starts, by its index, for each family of figures; and sums along the way
 -- to it. One computed test each. Assumes nothing.
-use Rattle.vocabulary.specs.{ℕ, zero, suc, ◌+◌, ◌-◌, ◌*◌, ◌%◌, ◌≤◌, ◌<◌, zero-le, Bool, true, false, cond, not, ◌||◌, List, ◌≡◌, refl, sym}
-use Rattle.vocabulary.specs.{ap₂, subst, unary_clauses, arith, T, eqb, eqb→eq, leb, leb→le, ℤ, pos, nat_abs, ◌+ℤ◌, get_or}
+use Rattle.std.specs.Prelude.{ℕ, zero, suc, ◌+◌, ◌-◌, ◌*◌, ◌%◌, ◌≤◌, ◌<◌, Bool, true, false, cond, not, ◌||◌, List, ◌≡◌, refl, T, eqb, leb}
+use Rattle.std.specs.Prelude.{ℤ, pos, nat_abs, ◌+ℤ◌, get_or}
+use Rattle.vocabulary.specs.{zero-le, sym, ap₂, subst, unary_clauses, arith, eqb→eq, leb→le}
 use Rattle.whole.specs.Lists.{every, every_below}
 use Rattle.whole.proofs.{Computed.every_below_lem, Magnitudes.nat_abs_add}
 use Rattle.figures.specs.{declared.Figure.Figure, declared.Figure.TheVariants.Quadrilateral, Figure.all_figures, Figure.angle_count}

@@ -1,7 +1,7 @@
 -- Which whole tenth is chosen for each angle: document 02, M-104. An angle is the difference of two directions. A figure's angles are
 -- laid off one from another, the exact corrections with them, and the directions are rounded downwards, not the angles. Angles and
 -- conditions by their index, counted from 0, but for `starts_at`, which has the numbers of the figure.
-use Rattle.vocabulary.specs.{ℕ, zero, suc, ◌-◌, List, [], ◌∷◌, ℤ, ◌-ℤ◌, get_or}
+use Rattle.std.specs.Prelude.{ℕ, zero, suc, ◌-◌, List, [], ◌∷◌, ℤ, ◌-ℤ◌, get_or}
 use Rattle.figures.specs.{declared.Figure.Figure, Figure.denominator, Figure.angle_count, Figure.inner, Figure.left, Figure.right}
 use Rattle.figures.specs.declared.Figure.TheVariants.{Quadrilateral, PointInTriangle, PointInQuadrilateral, CentralTriangle, CentralQuadrilateral, CentralPentagon, CentralHexagon, CentralHeptagon, CentralOctagon}
 use Rattle.figures.specs.{Numerators.sum_over, Numerators.numerator, Rows.each_of}

@@ -1,5 +1,5 @@
 -- Division downwards, also below zero: what it gives, and what it leaves over, from 0 to d − 1. Division upwards is that turned round.
-use Rattle.vocabulary.specs.{ℕ, ◌-◌, ◌/◌, ◌%◌, ℤ, pos, negsuc, neg_ℤ}
+use Rattle.std.specs.Prelude.{ℕ, ◌-◌, ◌/◌, ◌%◌, ℤ, pos, negsuc, neg_ℤ}
 
 -- −1 − n is −1 − n / d times d, and what is over
 abbrev pub floor_quotient : ℤ → (d : ℕ) → ℤ

@@ -1,6 +1,6 @@
 -- What the two operations promise: document 02, M-104. "Our own operation refuses exactly where the first pass does, by the same number
 -- (7 by ordinary rounding), never 15; so does the check, before 15."
-use Rattle.vocabulary.specs.{ℕ, List, [], ◌∷◌, ◌++◌, ◌≡◌, ℤ, length}
+use Rattle.std.specs.Prelude.{ℕ, List, [], ◌∷◌, ◌++◌, ◌≡◌, ℤ, length}
 use Rattle.refusals.specs.{declared.Verdict.Verdict, Order.Row, Order.judged, Promise.Promised, Promise.stored}
 use Rattle.refusals.specs.Table.{figure_row, lengths_row, choice_row}
 use Rattle.figures.specs.{declared.Figure.Figure, declared.Named.TheVariants.As}

@@ -1,7 +1,7 @@
 -- The two rules of document 02, M-104, and what the first pass says. First rule: each correction is the whole tenth just below or just
 -- above the exact one, numerator / D; a whole value stays, being both. Second rule: every rest is 0. Angles and conditions by their
 -- index, counted from 0.
-use Rattle.vocabulary.specs.{ℕ, ◌<◌, List, ◌∷◌, ◌⊎◌, ◌≡◌, ℤ, pos, ◌+ℤ◌, length}
+use Rattle.std.specs.Prelude.{ℕ, ◌<◌, List, ◌∷◌, ◌⊎◌, ◌≡◌, ℤ, pos, ◌+ℤ◌, length}
 use Rattle.whole.specs.{Lists.listed, Sums.vector}
 use Rattle.refusals.specs.Order.{Row}
 use Rattle.figures.specs.{declared.Figure.Figure, Figure.denominator, Figure.angle_count, Figure.condition_count, Numerators.condition_sum}

@@ -1,5 +1,5 @@
 -- What the steps of the check answer: whether a rule is broken.
-use Rattle.vocabulary.specs.{ℕ, Bool, List, ℤ, pos, ◌+ℤ◌, length}
+use Rattle.std.specs.Prelude.{ℕ, Bool, List, ℤ, pos, ◌+ℤ◌, length}
 use Rattle.whole.specs.{Lists.listed, Sums.vector}
 use Rattle.refusals.specs.{Numbers.numbered, Questions.asked, Questions.some_at, Questions.outside_signed}
 use Rattle.closing.specs.Floor.{floor_quotient, ceiling_quotient}

@@ -1,5 +1,6 @@
 -- What an answer tells: number and place can be taken apart again, and it is 0 exactly if all is done. Assumes nothing.
-use Rattle.vocabulary.specs.{ℕ, ◌+◌, ◌*◌, ◌/◌, ◌%◌, ◌<◌, List, ◌≡◌, refl, sym, ap, ap₂, ◌∙◌, lt_of_le_of_lt, arith, T, lit<}
+use Rattle.std.specs.Prelude.{ℕ, ◌+◌, ◌*◌, ◌/◌, ◌%◌, ◌<◌, List, ◌≡◌, refl, T}
+use Rattle.vocabulary.specs.{sym, ap, ap₂, ◌∙◌, lt_of_le_of_lt, arith, lit<}
 use Rattle.refusals.specs.{declared.Refusal.Refusal, declared.Verdict.Verdict, Order.Row, Order.all_in_table, Order.judged}
 use Rattle.refusals.specs.declared.Verdict.TheVariants.{Passed, Failed}
 use Rattle.refusals.specs.Numbers.{place_of, Told, told, refusal_told, verdict_told}

@@ -1,5 +1,6 @@
 -- A slice that C lends beside those of the operation, of the right length and of the wrong one; and what a refusal leaves. Assumes nothing.
-use Rattle.vocabulary.specs.{ℕ, Bool, true, false, cond, ◌&&◌, List, [], ◌∷◌, ◌≡◌, refl, sym, ap, eq-eqb, ne_eqb}
+use Rattle.std.specs.Prelude.{ℕ, Bool, true, false, cond, ◌&&◌, List, [], ◌∷◌, ◌≡◌, refl}
+use Rattle.vocabulary.specs.{sym, ap, eq-eqb, ne_eqb}
 use Rattle.refusals.specs.{declared.Refusal.Refusal, declared.Verdict.Verdict, Numbers.Told, Numbers.refusal_told, Numbers.verdict_told}
 use Rattle.refusals.specs.{declared.Verdict.TheVariants.Passed, declared.Verdict.TheVariants.Failed, Promise.stored, Table.lengths_row}
 use Rattle.refusals.specs.Order.{Row, answer_of, judged}

@@ -1,5 +1,6 @@
 -- A slice of one or two values, each of which has been stored. Assumes nothing.
-use Rattle.vocabulary.specs.{◌<◌, ◌≤◌, List, [], ◌∷◌, ◌≡◌, refl, arith, length, set, take}
+use Rattle.std.specs.Prelude.{◌<◌, ◌≤◌, List, [], ◌∷◌, ◌≡◌, refl, length, set, take}
+use Rattle.vocabulary.specs.{arith}
 
 pub stored-1 : {A : Type 0} (l : List A) (a : A) → length l ≡ 1 → set l 0 a ≡ a ∷ []
 stored-1 [] a e = absurd (omega arith)

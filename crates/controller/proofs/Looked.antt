@@ -1,5 +1,6 @@
 -- A look for C, in its three ends. Assumes nothing.
-use Rattle.vocabulary.specs.{ℕ, List, [], ◌∷◌, ◌≡◌, sym, ap, ap₂, ◌∙◌, length}
+use Rattle.std.specs.Prelude.{ℕ, List, [], ◌∷◌, ◌≡◌, length}
+use Rattle.vocabulary.specs.{sym, ap, ap₂, ◌∙◌}
 use Rattle.refusals.specs.{declared.Refusal.Refusal, declared.Verdict.Verdict, Numbers.refusal_told, Numbers.verdict_told, Promise.stored}
 use Rattle.refusals.specs.{declared.Verdict.TheVariants.Passed, declared.Verdict.TheVariants.Failed, Order.answer_of, Order.judged}
 use Rattle.refusals.specs.Table.{lengths_row}

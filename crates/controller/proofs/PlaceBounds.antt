@@ -1,7 +1,7 @@
 -- No place that is answered is above 24, the most angles that a figure has: a row with places comes after that of the lengths, or has no
 -- more places than the figure. So the place of an answer stays below 256. Assumes nothing.
-use Rattle.vocabulary.specs.{ℕ, ◌≤◌, Bool, true, false, cond, List, [], ◌∷◌, ◌++◌, ◌≡◌, arith, T, eqb, leb, leb→le, ℤ, length}
-use Rattle.vocabulary.specs.{length-append}
+use Rattle.std.specs.Prelude.{ℕ, ◌≤◌, Bool, true, false, cond, List, [], ◌∷◌, ◌++◌, ◌≡◌, T, eqb, leb, ℤ, length}
+use Rattle.vocabulary.specs.{arith, leb→le, length-append}
 use Rattle.refusals.specs.Order.{Row, row, row_at, all_in_table}
 use Rattle.refusals.proofs.{Nowhere.same_lengths, PlaceBounds.PlacesWithin}
 use Rattle.figures.specs.{declared.Figure.Figure, declared.Named.Named, declared.Named.TheVariants.As, declared.Named.TheVariants.Nothing}

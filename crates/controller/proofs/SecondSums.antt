@@ -1,6 +1,6 @@
 -- The second pass for C, in its ends. Assumes nothing.
-use Rattle.vocabulary.specs.{ℕ, ◌<◌, ◌≤◌, Bool, true, false, cond, ◌&&◌, List, [], ◌∷◌, map, ◌≡◌, refl, sym, ap, ap₂, subst, ◌∙◌, arith}
-use Rattle.vocabulary.specs.{eqb-true, eqb, eqb→eq, ℤ, length, get_or, take}
+use Rattle.std.specs.Prelude.{ℕ, ◌<◌, ◌≤◌, Bool, true, false, cond, ◌&&◌, List, [], ◌∷◌, map, ◌≡◌, refl, eqb, ℤ, length, get_or, take}
+use Rattle.vocabulary.specs.{sym, ap, ap₂, subst, ◌∙◌, arith, eqb-true, eqb→eq}
 use Rattle.refusals.specs.{declared.Refusal.Refusal, declared.Verdict.Verdict, Order.answer_of, Order.judged, Promise.stored}
 use Rattle.refusals.specs.declared.Verdict.TheVariants.{Passed, Failed}
 use Rattle.refusals.specs.Numbers.{place_of, Told, refusal_told, verdict_told}

@@ -1,5 +1,6 @@
 -- The reader for C, in its ends. Assumes nothing.
-use Rattle.vocabulary.specs.{ℕ, ◌<◌, List, [], ◌∷◌, ◌≡◌, refl, sym, ap, ap₂, subst, ◌∙◌, eq-eqb, ne_eqb, length}
+use Rattle.std.specs.Prelude.{ℕ, ◌<◌, List, [], ◌∷◌, ◌≡◌, refl, length}
+use Rattle.vocabulary.specs.{sym, ap, ap₂, subst, ◌∙◌, eq-eqb, ne_eqb}
 use Rattle.refusals.specs.{declared.Refusal.Refusal, declared.Verdict.Verdict, Order.answer_of, Order.judged, Promise.stored}
 use Rattle.refusals.specs.declared.Verdict.TheVariants.{Passed, Failed}
 use Rattle.refusals.specs.Numbers.{place_of, Told, refusal_told, verdict_told}

@@ -1,6 +1,6 @@
 -- A sheet's text for C, in its ends. Assumes nothing.
-use Rattle.vocabulary.specs.{ℕ, Bool, true, false, List, [], ◌∷◌, ◌≡◌, refl, sym, ap, ap₂, ◌∙◌, lt-ltb, le-ltb, leb-true, leb-false}
-use Rattle.vocabulary.specs.{length}
+use Rattle.std.specs.Prelude.{ℕ, Bool, true, false, List, [], ◌∷◌, ◌≡◌, refl, length}
+use Rattle.vocabulary.specs.{sym, ap, ap₂, ◌∙◌, lt-ltb, le-ltb, leb-true, leb-false}
 use Rattle.refusals.specs.{declared.Refusal.Refusal, declared.Verdict.Verdict, Numbers.refusal_told, Numbers.verdict_told, Promise.stored}
 use Rattle.refusals.specs.{declared.Verdict.TheVariants.Passed, declared.Verdict.TheVariants.Failed, Questions.less}
 use Rattle.refusals.specs.Order.{Row, row, answer_of, judged}

@@ -1,6 +1,6 @@
 -- How an operation answers C: one number, 0 for done, else number × 256 + place (document 01, "Numbers given when a sheet is turned
 -- back"). No place that is answered reaches 256, so number and place can be taken apart again.
-use Rattle.vocabulary.specs.{ℕ, ◌+◌, ◌*◌, ◌/◌, ◌%◌, cond, List, [], eqb}
+use Rattle.std.specs.Prelude.{ℕ, ◌+◌, ◌*◌, ◌/◌, ◌%◌, cond, List, [], eqb}
 use Rattle.refusals.specs.Numbers.{Told, told}
 
 abbrev pub place_step : ℕ

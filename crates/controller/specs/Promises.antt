@@ -1,6 +1,6 @@
 -- What the operations promise to C: what the passes, `sheet_rules` and `report` promise, with the answer as one number, and W, S or the
 -- determinant, what stands in a head, and the size of a text in slices of their own.
-use Rattle.vocabulary.specs.{ℕ, ◌/◌, ◌%◌, ◌^◌, List, [], ◌∷◌, ◌++◌, map, ℤ, nat_abs, length, drop}
+use Rattle.std.specs.Prelude.{ℕ, ◌/◌, ◌%◌, ◌^◌, List, [], ◌∷◌, ◌++◌, map, ℤ, nat_abs, length, drop}
 use Rattle.refusals.specs.{Numbers.verdict_told, Order.Row, Order.row, Order.judged, Promise.Promised, Promise.stored, Questions.less}
 use Rattle.refusals.specs.Table.{lengths_row}
 use Rattle.figures.specs.{declared.Figure.Figure, Figure.description, Figure.condition_count, Figure.figure_of, Figure.of_named}

@@ -1,6 +1,8 @@
 // The operations of the crates below for C, as a survey controller links them: slices lent as a pointer and a count, every answer one
 // number (specs/Answer.antt). What a slice must be is the caller's to keep: the pointer valid for its count, and no two lent slices
 // overlapping.
+#![tactic(auto)]
+
 mod answer;
 mod look;
 mod read;

@@ -1,6 +1,7 @@
 -- Both passes together: of any numbers that are rows applied to misclosures and of what an accepted second pass stores; of the calls, and
 -- of the same for C. Assumes nothing.
-use Rattle.vocabulary.specs.{ℕ, ◌<◌, ◌≡◌, refl, sym, ap, ap₂, subst, ◌∙◌, mul-pos, ℤ, pos, neg_ℤ, nat_abs, ◌+ℤ◌, ◌-ℤ◌, ◌*ℤ◌, ◌≤ℤ◌}
+use Rattle.std.specs.Prelude.{ℕ, ◌<◌, ◌≡◌, refl, ℤ, pos, neg_ℤ, nat_abs, ◌+ℤ◌, ◌-ℤ◌, ◌*ℤ◌, ◌≤ℤ◌}
+use Rattle.vocabulary.specs.{sym, ap, ap₂, subst, ◌∙◌, mul-pos}
 use Rattle.whole.specs.Sums.{dot, squares, vector}
 use Rattle.whole.proofs.{Order.natural, Ring.ring, Ring.◌≐◌, Ring.◌⊕◌, Ring.◌⊖◌, Ring.◌⊗◌, Ring.⊝◌}
 use Rattle.whole.proofs.Sums.{dot_ext, dot_combined, squares_ext}

@@ -1,6 +1,6 @@
 -- Of two sine conditions the determinant and the exact corrections follow from A and B of the figure's angles and both misclosures
 -- alone. Assumes nothing.
-use Rattle.vocabulary.specs.{ℕ, ◌<◌, ◌≡◌, ℤ, ◌-ℤ◌, ◌*ℤ◌}
+use Rattle.std.specs.Prelude.{ℕ, ◌<◌, ◌≡◌, ℤ, ◌-ℤ◌, ◌*ℤ◌}
 use Rattle.whole.proofs.Sums.{dot_ext}
 use Rattle.pass_pair.specs.Pair.{pair_numerator}
 use Rattle.figures.specs.{declared.Figure.Figure, Figure.angle_count}

@@ -1,5 +1,6 @@
 -- One law for every operation: an answer that tells what its order is judged to be is by the table. Assumes nothing.
-use Rattle.vocabulary.specs.{List, ◌≡◌, refl, sym, ap, ◌∙◌, T}
+use Rattle.std.specs.Prelude.{List, ◌≡◌, refl, T}
+use Rattle.vocabulary.specs.{sym, ap, ◌∙◌}
 use Rattle.refusals.specs.{declared.Refusal.Refusal, declared.Verdict.Verdict, Numbers.Told, Numbers.told, Numbers.verdict_told}
 use Rattle.refusals.specs.declared.Verdict.TheVariants.{Passed, Failed}
 use Rattle.refusals.specs.Order.{Row, all_in_table, judged}

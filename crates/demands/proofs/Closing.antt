@@ -1,7 +1,7 @@
 -- Demand 3 of any numbers that are rows applied to misclosures, of an accepted first pass of code 2, and of any numbers that are the
 -- second pass's numerators; and what an accepted second pass answers and stores. Assumes nothing.
-use Rattle.vocabulary.specs.{ℕ, ◌<◌, List, ◌∷◌, ◌≡◌, refl, sym, ap, subst, ◌∙◌, eq-eqb, T, lt→ltb, ℤ, pos, negsuc, neg_ℤ, nat_abs, ◌*ℤ◌}
-use Rattle.vocabulary.specs.{length, get_or, ◌≤ℤ◌, ◌<ℤ◌, lt_z_yes}
+use Rattle.std.specs.Prelude.{ℕ, ◌<◌, List, ◌∷◌, ◌≡◌, refl, T, ℤ, pos, negsuc, neg_ℤ, nat_abs, ◌*ℤ◌, length, get_or, ◌≤ℤ◌, ◌<ℤ◌}
+use Rattle.vocabulary.specs.{sym, ap, subst, ◌∙◌, eq-eqb, lt→ltb, lt_z_yes}
 use Rattle.whole.specs.Sums.{dot, squares}
 use Rattle.whole.proofs.Sums.{dot_ext, squares_ext}
 use Rattle.figures.specs.{declared.Figure.Figure, Numerators.numerator}

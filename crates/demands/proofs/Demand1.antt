@@ -1,5 +1,6 @@
 -- Demand 1 of every public operation, by one law. Assumes nothing.
-use Rattle.vocabulary.specs.{List, [], ◌∷◌, ◌≡◌, refl, ap, ◌∙◌, ℤ, length}
+use Rattle.std.specs.Prelude.{List, [], ◌∷◌, ◌≡◌, refl, ℤ, length}
+use Rattle.vocabulary.specs.{ap, ◌∙◌}
 use Rattle.refusals.specs.{declared.Refusal.Refusal, declared.Verdict.TheVariants.Failed, Numbers.verdict_told, Order.judged}
 use Rattle.figures.specs.Figure.{figure_of}
 use Rattle.sheet_layout.specs.Head.{head_rows, look_of, look_told}

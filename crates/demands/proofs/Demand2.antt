@@ -1,6 +1,7 @@
 -- Demand 2: each value in each slice, from the promises alone, and both round trips. Assumes nothing.
-use Rattle.vocabulary.specs.{ℕ, suc, ◌*◌, ◌/◌, ◌%◌, ◌^◌, ◌≤◌, ◌<◌, true, false, List, ◌≡◌, refl, sym, ap, ap₂, subst, ◌∙◌, arith, ℤ, pos}
-use Rattle.vocabulary.specs.{negsuc, nat_abs, ◌+ℤ◌, length, get_or, ◌≤ℤ◌}
+use Rattle.std.specs.Prelude.{ℕ, suc, ◌*◌, ◌/◌, ◌%◌, ◌^◌, ◌≤◌, ◌<◌, true, false, List, ◌≡◌, refl, ℤ, pos, negsuc, nat_abs, ◌+ℤ◌, length}
+use Rattle.std.specs.Prelude.{get_or, ◌≤ℤ◌}
+use Rattle.vocabulary.specs.{sym, ap, ap₂, subst, ◌∙◌, arith}
 use Rattle.whole.specs.{Lists.listed, Quotient.rounded_quotient, Sums.vector}
 use Rattle.whole.proofs.Lists.{length_listed, get_or_listed}
 use Rattle.wide.specs.Wide.{radix}

@@ -1,5 +1,6 @@
 -- Demand 3 of the passes, of the same for C, and of a sheet worked from its bytes. Assumes nothing.
-use Rattle.vocabulary.specs.{ℕ, map, ⊎_elim, ◌≡◌, sym, ap, ap₂, subst, ◌∙◌, arith, ℤ, pos, get_or, list-get_or_map}
+use Rattle.std.specs.Prelude.{ℕ, map, ◌≡◌, ℤ, pos, get_or}
+use Rattle.vocabulary.specs.{⊎_elim, sym, ap, ap₂, subst, ◌∙◌, arith, list-get_or_map}
 use Rattle.whole.specs.Sums.{vector}
 use Rattle.wide_words.specs.Words.{joined}
 use Rattle.refusals.specs.{declared.Refusal.Refusal, declared.Verdict.Verdict, declared.Verdict.TheVariants.Passed, Order.judged}

@@ -1,6 +1,6 @@
 -- What is read off the lines of a text is what the definitions put on them; so a page says what its values do. Assumes nothing.
-use Rattle.vocabulary.specs.{ℕ, suc, ◌+◌, ◌<◌, Bool, true, false, List, [], ◌∷◌, ◌≡◌, sym, ap, ap₂, subst, ◌∙◌, eq-eqb, T, ℤ, pos, neg_ℤ}
-use Rattle.vocabulary.specs.{◌+ℤ◌, ◌-ℤ◌, ◌*ℤ◌, get_or, drop, list-get_or_map, get_or-drop, zero-add}
+use Rattle.std.specs.Prelude.{ℕ, suc, ◌+◌, ◌<◌, Bool, true, false, List, [], ◌∷◌, ◌≡◌, T, ℤ, pos, neg_ℤ, ◌+ℤ◌, ◌-ℤ◌, ◌*ℤ◌, get_or, drop}
+use Rattle.vocabulary.specs.{sym, ap, ap₂, subst, ◌∙◌, eq-eqb, list-get_or_map, get_or-drop, zero-add}
 use Rattle.whole.specs.Sums.{squares, naturals}
 use Rattle.whole.proofs.Sums.{squares_ext}
 use Rattle.figures.specs.{declared.Figure.Figure, Numerators.condition_sum, Numerators.horizon_sum}

@@ -1,6 +1,6 @@
 -- What is printed for any bytes is a page that says so, or the refusal of the sheet's order. Assumes nothing.
-use Rattle.vocabulary.specs.{ℕ, ◌<◌, Bool, true, false, List, [], ◌∷◌, ◌↔◌, inl, inr, ⊎_elim, ◌≡◌, refl, sym, ap, ap₂, subst, ◌∙◌, arith}
-use Rattle.vocabulary.specs.{ℤ, pos, nat_abs, ◌+ℤ◌, length, get_or, take, drop, take_at}
+use Rattle.std.specs.Prelude.{ℕ, ◌<◌, Bool, true, false, List, [], ◌∷◌, ◌↔◌, ◌≡◌, refl, ℤ, pos, nat_abs, ◌+ℤ◌, length, get_or, take, drop}
+use Rattle.vocabulary.specs.{inl, inr, ⊎_elim, sym, ap, ap₂, subst, ◌∙◌, arith, take_at}
 use Rattle.whole.specs.{Lists.every, Sums.vector, Sums.naturals}
 use Rattle.refusals.specs.{declared.Verdict.Verdict, declared.Verdict.TheVariants.Passed, Order.Answers, Order.judged, Promise.stored}
 use Rattle.refusals.specs.Numbers.{number_of, place_of, Told, told, refusal_told, verdict_told}

@@ -1,5 +1,6 @@
 -- Document 02, M-104, of both operations, from Rattle and from C. Assumes nothing.
-use Rattle.vocabulary.specs.{ℕ, ◌*◌, ◌<◌, List, ◌⊎◌, ⊎_elim, ◌≡◌, refl, sym, ap, ap₂, subst, ◌∙◌, arith, ℤ, pos, ◌+ℤ◌, length}
+use Rattle.std.specs.Prelude.{ℕ, ◌*◌, ◌<◌, List, ◌⊎◌, ◌≡◌, refl, ℤ, pos, ◌+ℤ◌, length}
+use Rattle.vocabulary.specs.{⊎_elim, sym, ap, ap₂, subst, ◌∙◌, arith}
 use Rattle.whole.specs.Sums.{vector}
 use Rattle.whole.proofs.Lists.{get_or_listed}
 use Rattle.refusals.specs.{declared.Refusal.Refusal, declared.Verdict.Verdict, Numbers.Told, Numbers.told, Numbers.verdict_told, Order.Row}

@@ -1,6 +1,6 @@
 -- The lists of a worked sheet, by the index: each is what the definitions give, and so are the numbers among each other. Assumes nothing.
-use Rattle.vocabulary.specs.{ℕ, ◌<◌, Bool, true, false, cond, List, ◌≡◌, refl, sym, ap, ap₂, ◌∙◌, ℤ, pos, negsuc, neg_ℤ, nat_abs, ◌+ℤ◌, ◌*ℤ◌}
-use Rattle.vocabulary.specs.{get_or, ◌≤ℤ◌}
+use Rattle.std.specs.Prelude.{ℕ, ◌<◌, Bool, true, false, cond, List, ◌≡◌, refl, ℤ, pos, negsuc, neg_ℤ, nat_abs, ◌+ℤ◌, ◌*ℤ◌, get_or, ◌≤ℤ◌}
+use Rattle.vocabulary.specs.{sym, ap, ap₂, ◌∙◌}
 use Rattle.whole.specs.{Lists.listed, Sums.squares, Sums.vector, Sums.naturals}
 use Rattle.whole.proofs.{Lists.get_or_listed, Sums.squares_ext}
 use Rattle.wide_words.specs.Words.{joined}

@@ -4,7 +4,7 @@
 --
 -- Said of the misclosures and numerators that stand in the lent slices, as demand 3 is. Ours are first numerator / D + second numerator /
 -- S, where S is the determinant for a figure with two sine conditions; in whole numbers, both sides are multiplied by the denominators.
-use Rattle.vocabulary.specs.{ℕ, ◌*◌, ◌<◌, true, List, ◌≡◌, ℤ, pos, nat_abs, ◌+ℤ◌, ◌-ℤ◌, ◌*ℤ◌, get_or, ◌≤ℤ◌}
+use Rattle.std.specs.Prelude.{ℕ, ◌*◌, ◌<◌, true, List, ◌≡◌, ℤ, pos, nat_abs, ◌+ℤ◌, ◌-ℤ◌, ◌*ℤ◌, get_or, ◌≤ℤ◌}
 use Rattle.whole.specs.Sums.{dot, vector}
 use Rattle.wide_words.specs.Words.{joined}
 use Rattle.refusals.specs.declared.Verdict.TheVariants.{Passed}

@@ -5,7 +5,7 @@
 -- else. The order of an operation is one list of rows; `Answers`, `NoneHolds` and `Stands` say what a list of rows answers
 -- (refusals/specs/Order.antt), and each row stands once in refusals/specs/Table.antt. That every call ends is what the checker proves of
 -- every function.
-use Rattle.vocabulary.specs.{ℕ, List, ◌↔◌, ◌⊎◌, ◌≡◌, ℤ, length}
+use Rattle.std.specs.Prelude.{ℕ, List, ◌↔◌, ◌⊎◌, ◌≡◌, ℤ, length}
 use Rattle.refusals.specs.{declared.Verdict.Verdict, Numbers.Told, Numbers.told, Numbers.verdict_told}
 use Rattle.refusals.specs.Order.{Row, Answers, NoneHolds, Stands}
 use Rattle.sheet_layout.specs.{declared.head.Look.Look, Head.head_rows, Head.look_of, Head.look_told}

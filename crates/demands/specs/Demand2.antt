@@ -5,7 +5,7 @@
 --
 -- Said of the numbers that stand in the lent slices after a call: each is what document 01, "The two passes", and M-100 make of what was
 -- given and of the numbers in the other slices. Angles and conditions by their index, counted from 0; `vector` reads a slice by the index.
-use Rattle.vocabulary.specs.{ℕ, suc, ◌*◌, ◌≤◌, ◌<◌, true, false, List, ◌≡◌, ℤ, pos, neg_ℤ, nat_abs, ◌+ℤ◌, ◌-ℤ◌, ◌*ℤ◌, length, get_or}
+use Rattle.std.specs.Prelude.{ℕ, suc, ◌*◌, ◌≤◌, ◌<◌, true, false, List, ◌≡◌, ℤ, pos, neg_ℤ, nat_abs, ◌+ℤ◌, ◌-ℤ◌, ◌*ℤ◌, length, get_or}
 use Rattle.whole.specs.{Quotient.rounded_quotient, Sums.dot, Sums.squares, Sums.vector}
 use Rattle.wide_words.specs.Words.{joined}
 use Rattle.refusals.specs.{declared.Verdict.Verdict, declared.Verdict.TheVariants.Passed}

@@ -6,7 +6,7 @@
 --
 -- Said of the misclosures and numerators that stand in the lent slices. Unrounded corrections are numerator / D in the first pass,
 -- numerator / S or numerator / determinant in the second; in whole numbers, both sides are multiplied by the denominators.
-use Rattle.vocabulary.specs.{ℕ, ◌<◌, true, List, ◌≡◌, ℤ, pos, neg_ℤ, ◌+ℤ◌, ◌-ℤ◌, ◌*ℤ◌, get_or, ◌≤ℤ◌, ◌<ℤ◌}
+use Rattle.std.specs.Prelude.{ℕ, ◌<◌, true, List, ◌≡◌, ℤ, pos, neg_ℤ, ◌+ℤ◌, ◌-ℤ◌, ◌*ℤ◌, get_or, ◌≤ℤ◌, ◌<ℤ◌}
 use Rattle.whole.specs.Sums.{dot, squares, vector}
 use Rattle.wide_words.specs.Words.{joined}
 use Rattle.refusals.specs.declared.Verdict.TheVariants.{Passed}

@@ -6,7 +6,7 @@
 -- Said of the misclosures and numerators that stand in the slices of a first pass of the same sheet; the exact first correction is
 -- numerator / D. `Fitting` (closing/specs/Promises.antt): what is lent to both has the lengths of the figure that is named, else number 2
 -- may name either slice. Angles and conditions by their index, counted from 0.
-use Rattle.vocabulary.specs.{ℕ, ◌*◌, ◌<◌, List, ◌↔◌, ◌⊎◌, ◌≡◌, ℤ, pos, ◌+ℤ◌, ◌*ℤ◌}
+use Rattle.std.specs.Prelude.{ℕ, ◌*◌, ◌<◌, List, ◌↔◌, ◌⊎◌, ◌≡◌, ℤ, pos, ◌+ℤ◌, ◌*ℤ◌}
 use Rattle.whole.specs.Sums.{vector}
 use Rattle.refusals.specs.{declared.Refusal.Refusal, declared.Verdict.Verdict, Numbers.told, Numbers.verdict_told}
 use Rattle.refusals.specs.declared.Verdict.TheVariants.{Passed, Failed}

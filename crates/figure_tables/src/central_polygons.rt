@@ -7,7 +7,7 @@ ghost use Rattle.figures.specs.Numerators.{padded_rows};
 
 use figures::{Counts, Figure, Rows};
 
-#[derive(Drop)]
+#[derive(Clone, Copy)]
 pub struct CentralTriangle;
 
 impl CentralTriangle {
@@ -57,7 +57,7 @@ impl CentralTriangle {
     }
 }
 
-#[derive(Drop)]
+#[derive(Clone, Copy)]
 pub struct CentralQuadrilateral;
 
 impl CentralQuadrilateral {
@@ -107,7 +107,7 @@ impl CentralQuadrilateral {
     }
 }
 
-#[derive(Drop)]
+#[derive(Clone, Copy)]
 pub struct CentralPentagon;
 
 impl CentralPentagon {
@@ -157,7 +157,7 @@ impl CentralPentagon {
     }
 }
 
-#[derive(Drop)]
+#[derive(Clone, Copy)]
 pub struct CentralHexagon;
 
 impl CentralHexagon {
@@ -207,7 +207,7 @@ impl CentralHexagon {
     }
 }
 
-#[derive(Drop)]
+#[derive(Clone, Copy)]
 pub struct CentralHeptagon;
 
 impl CentralHeptagon {
@@ -257,7 +257,7 @@ impl CentralHeptagon {
     }
 }
 
-#[derive(Drop)]
+#[derive(Clone, Copy)]
 pub struct CentralOctagon;
 
 impl CentralOctagon {

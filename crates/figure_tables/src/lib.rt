@@ -1,4 +1,6 @@
 // The tables of the figures as the code holds them, each belonging to its figure's type, and their counts and sine signs.
+#![tactic(auto)]
+
 ghost use Rattle.std.specs.Prelude.{◌≡◌, pos, take};
 ghost use Rattle.figures.specs.Figure.{angle_count, counts_of, pole, side, side_condition};
 ghost use Rattle.figures.specs.Numerators.{most_angles};

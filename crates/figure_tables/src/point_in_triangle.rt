@@ -5,7 +5,7 @@ ghost use Rattle.figures.specs.Numerators.{padded_rows};
 
 use figures::{Counts, Figure, MOST_CONDITIONS, Rows};
 
-#[derive(Drop)]
+#[derive(Clone, Copy)]
 pub struct PointInTriangle;
 
 impl PointInTriangle {

@@ -1,6 +1,7 @@
 -- Both passes together (document 02, M-107), of every figure: first numerators over D, of misclosures w, and second numerators over any S
 -- that change no condition. What cancels w too, and changes every sine sum as they do, has no smaller sum of squares. Assumes nothing.
-use Rattle.vocabulary.specs.{◌≡◌, sym, ap, ap₂, ◌∙◌, ℕ, ◌<◌, ℤ, pos, neg_ℤ, ◌+ℤ◌, ◌*ℤ◌, *ℤ-zero, ◌≤ℤ◌}
+use Rattle.std.specs.Prelude.{◌≡◌, ℕ, ◌<◌, ℤ, pos, neg_ℤ, ◌+ℤ◌, ◌*ℤ◌, ◌≤ℤ◌}
+use Rattle.vocabulary.specs.{sym, ap, ap₂, ◌∙◌, *ℤ-zero}
 use Rattle.whole.specs.Sums.{dot, squares}
 use Rattle.whole.proofs.{Ring.ring, Ring.◌≐◌, Ring.◌⊕◌, Ring.◌⊗◌, Ring.⊝◌, Ring.constant, Sums.dot_comm, Sums.dot_combined}
 use Rattle.figures.specs.{declared.Figure.Figure, Figure.denominator, Figure.angle_count, Figure.condition_count}

@@ -1,7 +1,8 @@
 -- The certificate of a figure as a test that antt computes: C-as-R = −D·I and R = Cᵀ-as-K. `Figures` runs it over the list of all figures.
 -- Assumes nothing.
-use Rattle.vocabulary.specs.{◌≡◌, ap, Bool, false, ◌&&◌, List, [], ◌∷◌, ◌++◌, map, ℕ, zero, suc, ◌<◌, T, eqb, eqb→eq, length, get_or, ℤ, pos}
-use Rattle.vocabulary.specs.{negsuc, neg_ℤ, ◌+ℤ◌, ◌-ℤ◌, ◌*ℤ◌}
+use Rattle.std.specs.Prelude.{◌≡◌, Bool, false, ◌&&◌, List, [], ◌∷◌, ◌++◌, map, ℕ, zero, suc, ◌<◌, T, eqb, length, get_or, ℤ, pos, negsuc}
+use Rattle.std.specs.Prelude.{neg_ℤ, ◌+ℤ◌, ◌-ℤ◌, ◌*ℤ◌}
+use Rattle.vocabulary.specs.{ap, eqb→eq}
 use Rattle.whole.specs.{Sums.composed, Sums.identity, Sums.transposed, Sums.table, Lists.every_below}
 use Rattle.whole.proofs.Computed.{and_left, and_right, every_below_lem}
 use Rattle.figures.specs.{declared.Figure.Figure, Rows.each_of}

@@ -1,7 +1,8 @@
 -- The conditions of each family of figures, by the indices of their angles: what the code adds for each. Each fact by one test over all
 -- figures. Assumes nothing.
-use Rattle.vocabulary.specs.{◌≡◌, refl, sym, ap, ap₂, ◌∙◌, Bool, true, false, cond, not, ◌&&◌, ◌||◌, List, [], ◌∷◌, ℕ, zero, suc, ◌+◌, ◌-◌}
-use Rattle.vocabulary.specs.{◌*◌, ◌<◌, T, eqb, eqb→eq, lit<, length, get_or, ℤ, ◌+ℤ◌, +ℤ_idr}
+use Rattle.std.specs.Prelude.{◌≡◌, refl, Bool, true, false, cond, not, ◌&&◌, ◌||◌, List, [], ◌∷◌, ℕ, zero, suc, ◌+◌, ◌-◌, ◌*◌, ◌<◌, T, eqb}
+use Rattle.std.specs.Prelude.{length, get_or, ℤ, ◌+ℤ◌}
+use Rattle.vocabulary.specs.{sym, ap, ap₂, ◌∙◌, eqb→eq, lit<, +ℤ_idr}
 use Rattle.refusals.specs.Table.{fixed_sum}
 use Rattle.whole.specs.{Lists.every, Lists.every_below, Lists.listed, Sums.sum}
 use Rattle.whole.proofs.{Computed.and_left, Computed.and_right, Computed.every_at, Computed.every_below_lem, Sums.sum_front}

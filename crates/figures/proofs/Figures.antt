@@ -1,7 +1,8 @@
 -- What holds of every figure, by one test that antt computes over the list of all figures: the data are what they should be, and each
 -- figure is certified. Assumes nothing.
-use Rattle.vocabulary.specs.{◌≡◌, refl, sym, ap, subst, Bool, true, false, not, ◌&&◌, ◌||◌, List, [], ◌∷◌, ℕ, zero, suc, ◌≤◌, ◌<◌, zero-le}
-use Rattle.vocabulary.specs.{arith, T, eqb, leb, eqb→eq, leb→le, lit<, length, get_or, list-get_or_eq_default, ℤ, pos, negsuc, nat_abs}
+use Rattle.std.specs.Prelude.{◌≡◌, refl, Bool, true, false, not, ◌&&◌, ◌||◌, List, [], ◌∷◌, ℕ, zero, suc, ◌≤◌, ◌<◌, T, eqb, leb, length}
+use Rattle.std.specs.Prelude.{get_or, ℤ, pos, negsuc, nat_abs}
+use Rattle.vocabulary.specs.{sym, ap, subst, zero-le, arith, eqb→eq, leb→le, lit<, list-get_or_eq_default}
 use Rattle.whole.specs.{Sums.sum, Sums.dot, Sums.composed, Sums.table, Lists.every, Lists.every_below}
 use Rattle.whole.proofs.Computed.{and_left, and_right, every_at, every_below_lem}
 use Rattle.figures.specs.{declared.Figure.Figure, declared.Target.Target}

@@ -1,8 +1,8 @@
 -- The horizon of a point inside n corners, which code 2 does not list: whatever is summed, the horizon and the corners together are the
 -- triangles. For of each triangle the first angle stands in the horizon, the second in its own corner and the last in the next. Assumes
 -- nothing.
-use Rattle.vocabulary.specs.{Bool, cond, ◌≡◌, refl, sym, ap, ap₂, ◌∙◌, ℕ, zero, suc, ◌+◌, ◌-◌, ◌*◌, ◌<◌, arith, ne_eqb, T, ℤ, ◌+ℤ◌}
-use Rattle.vocabulary.specs.{+ℤ_comm, +ℤ_idl}
+use Rattle.std.specs.Prelude.{Bool, cond, ◌≡◌, refl, ℕ, zero, suc, ◌+◌, ◌-◌, ◌*◌, ◌<◌, T, ℤ, ◌+ℤ◌}
+use Rattle.vocabulary.specs.{sym, ap, ap₂, ◌∙◌, arith, ne_eqb, +ℤ_comm, +ℤ_idl}
 use Rattle.whole.specs.Sums.{sum}
 use Rattle.whole.proofs.{Sums.sum_ext, Sums.sum_add, Sums.sum_front, Ring.◌⊕◌, Ring.◌≐◌, Ring.ring}
 use Rattle.figures.specs.{declared.Figure.Figure, Figure.description, Figure.angle_count}

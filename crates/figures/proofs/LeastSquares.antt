@@ -1,6 +1,7 @@
 -- The least-squares theorem, over any certified table. N is the number of angles, M that of conditions, C says which angles a condition
 -- joins, R holds the coefficient rows over the denominator D, and K the correlates. Nothing here names a figure. Assumes nothing.
-use Rattle.vocabulary.specs.{◌≡◌, refl, sym, ap, ap₂, ◌∙◌, ℕ, ◌<◌, ℤ, pos, neg_ℤ, ◌+ℤ◌, ◌*ℤ◌, +ℤ_idr, ◌≤ℤ◌}
+use Rattle.std.specs.Prelude.{◌≡◌, refl, ℕ, ◌<◌, ℤ, pos, neg_ℤ, ◌+ℤ◌, ◌*ℤ◌, ◌≤ℤ◌}
+use Rattle.vocabulary.specs.{sym, ap, ap₂, ◌∙◌, +ℤ_idr}
 use Rattle.whole.specs.Sums.{dot, squares, applied, composed, identity, transposed}
 use Rattle.whole.proofs.Ring.{ring, constant, ◌≐◌, ◌⊕◌, ◌⊗◌, ⊝◌}
 use Rattle.whole.proofs.Sums.{sum_ext, sum_add, sum_scale, dot_ext, dot_zero, applied_rows, applied_multiple, applied_add, applied_scale, applied_composed, applied_identity, moved}

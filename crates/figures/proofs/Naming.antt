@@ -1,6 +1,6 @@
 -- What a code and an n name: exactly the nine figures. Assumes nothing.
-use Rattle.vocabulary.specs.{◌≡◌, refl, sym, subst, ap, ap₂, ◌∙◌, ◌↔◌, Bool, true, false, cond, not, ◌&&◌, ◌||◌, List, [], ◌∷◌, map, ℕ}
-use Rattle.vocabulary.specs.{zero, suc, ◌+◌, T, eqb, eqb→eq}
+use Rattle.std.specs.Prelude.{◌≡◌, refl, ◌↔◌, Bool, true, false, cond, not, ◌&&◌, ◌||◌, List, [], ◌∷◌, map, ℕ, zero, suc, ◌+◌, T, eqb}
+use Rattle.vocabulary.specs.{sym, subst, ap, ap₂, ◌∙◌, eqb→eq}
 use Rattle.refusals.specs.Questions.{none_of, among, asked}
 use Rattle.figures.specs.{declared.Figure.Figure, declared.Named.Named}
 use Rattle.figures.specs.declared.Figure.TheVariants.{Quadrilateral, PointInTriangle, PointInQuadrilateral, CentralTriangle, CentralQuadrilateral, CentralPentagon, CentralHexagon, CentralHeptagon, CentralOctagon}

@@ -1,6 +1,7 @@
 -- Pythagoras in whole numbers: corrections x / q and y / p whose difference is orthogonal to y. Nothing here knows of conditions. Assumes
 -- nothing.
-use Rattle.vocabulary.specs.{◌≡◌, refl, sym, ap, ap₂, ◌∙◌, subst, ℕ, ◌<◌, ℤ, pos, neg_ℤ, ◌+ℤ◌, ◌-ℤ◌, ◌*ℤ◌, +ℤ_idr, +ℤ_invr, *ℤ-zero, ◌≤ℤ◌}
+use Rattle.std.specs.Prelude.{◌≡◌, refl, ℕ, ◌<◌, ℤ, pos, neg_ℤ, ◌+ℤ◌, ◌-ℤ◌, ◌*ℤ◌, ◌≤ℤ◌}
+use Rattle.vocabulary.specs.{sym, ap, ap₂, ◌∙◌, subst, +ℤ_idr, +ℤ_invr, *ℤ-zero}
 use Rattle.whole.specs.Sums.{dot, squares}
 use Rattle.whole.proofs.{Integers.negℤ-*ℤ, Ring.ring, Ring.difference_zero, Ring.◌≐◌, Ring.◌⊕◌, Ring.◌⊖◌, Ring.◌⊗◌}
 use Rattle.whole.proofs.Order.{≤ℤ-from-difference}

@@ -1,7 +1,7 @@
 -- The least-squares theorem of every figure, in the words of its definitions: `condition_sum` sums over the angles that a condition joins,
 -- `numerator` applies an angle's row. It cites the theorem over certified tables and the certificates. Assumes nothing.
-use Rattle.vocabulary.specs.{◌≡◌, refl, sym, ap, ap₂, ◌∙◌, List, [], ◌∷◌, ℕ, zero, suc, ◌<◌, T, leb, leb→le, list-get_or_map, ℤ, pos, neg_ℤ}
-use Rattle.vocabulary.specs.{◌+ℤ◌, ◌*ℤ◌, *ℤ-zero, ◌≤ℤ◌}
+use Rattle.std.specs.Prelude.{◌≡◌, refl, List, [], ◌∷◌, ℕ, zero, suc, ◌<◌, T, leb, ℤ, pos, neg_ℤ, ◌+ℤ◌, ◌*ℤ◌, ◌≤ℤ◌}
+use Rattle.vocabulary.specs.{sym, ap, ap₂, ◌∙◌, leb→le, list-get_or_map, *ℤ-zero}
 use Rattle.whole.specs.{Sums.dot, Sums.squares, Sums.applied, Sums.identity, Sums.table, Lists.every}
 use Rattle.whole.proofs.Computed.{and_left, and_right}
 use Rattle.whole.proofs.Sums.{dot_ext, dot_comm, dot_add, dot_scale, dot_combined, dot_zero, applied_ext, applied_add, applied_scale, applied_identity}

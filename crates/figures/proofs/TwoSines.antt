@@ -1,7 +1,8 @@
 -- Two sine conditions of a figure, with differences d and e and misclosures wa and wb: the corrections over the determinant that document
 -- 02, M-100, gives change no linear condition and cancel both misclosures; and the determinant is from 0 up. Of every figure. Assumes
 -- nothing.
-use Rattle.vocabulary.specs.{◌≡◌, refl, ap, ap₂, ◌∙◌, ℕ, ◌<◌, ℤ, pos, neg_ℤ, ◌+ℤ◌, ◌-ℤ◌, ◌*ℤ◌, ◌≤ℤ◌}
+use Rattle.std.specs.Prelude.{◌≡◌, refl, ℕ, ◌<◌, ℤ, pos, neg_ℤ, ◌+ℤ◌, ◌-ℤ◌, ◌*ℤ◌, ◌≤ℤ◌}
+use Rattle.vocabulary.specs.{ap, ap₂, ◌∙◌}
 use Rattle.whole.specs.Sums.{dot, squares}
 use Rattle.whole.proofs.Ring.{ring, ◌≐◌, ◌⊕◌, ◌⊖◌, ◌⊗◌}
 use Rattle.whole.proofs.Sums.{dot_ext, dot_comm, dot_combined, products_within}

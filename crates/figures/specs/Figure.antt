@@ -1,6 +1,6 @@
 -- The eight figures of document 01, "The eight figures", and the ninth of document 02, M-100, in their numbering: corners, triangles,
 -- angles, conditions, fixed angles and sides count from 1.
-use Rattle.vocabulary.specs.{ℕ, zero, suc, ◌-◌, ◌*◌, Bool, cond, ◌&&◌, List, [], ◌∷◌, ◌++◌, map, eqb, length, get_or, replicate, ℤ, pos}
+use Rattle.std.specs.Prelude.{ℕ, zero, suc, ◌-◌, ◌*◌, Bool, cond, ◌&&◌, List, [], ◌∷◌, ◌++◌, map, eqb, length, get_or, replicate, ℤ, pos}
 use Rattle.figures.specs.{declared.Figure.Figure, declared.Named.Named, declared.Target.Target, declared.Name.Name}
 use Rattle.figures.specs.declared.Figure.TheVariants.{Quadrilateral, PointInTriangle, PointInQuadrilateral, CentralTriangle, CentralQuadrilateral, CentralPentagon, CentralHexagon, CentralHeptagon, CentralOctagon}
 use Rattle.figures.specs.{declared.Named.TheVariants.As, declared.Named.TheVariants.Nothing, declared.Counts.Counts}

@@ -1,5 +1,5 @@
 -- The numerators of a figure's exact corrections, and its tables as the code holds them.
-use Rattle.vocabulary.specs.{ℕ, zero, suc, List, [], ◌∷◌, map, ℤ, pos, ◌+ℤ◌, ◌*ℤ◌}
+use Rattle.std.specs.Prelude.{ℕ, zero, suc, List, [], ◌∷◌, map, ℤ, pos, ◌+ℤ◌, ◌*ℤ◌}
 use Rattle.whole.specs.{Lists.padded, Sums.applied, Sums.table}
 use Rattle.figures.specs.declared.Figure.{Figure}
 use Rattle.figures.specs.Figure.{description, denominator, condition_count, members_of, horizon}

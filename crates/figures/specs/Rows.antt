@@ -1,7 +1,7 @@
 -- The first-correction rows and the sine signs of document 01, "The eight figures", and of document 02, M-100. A row holds the coefficient
 -- of each condition's misclosure, in the order of the conditions; rows and signs stand in the order of the angles.
-use Rattle.vocabulary.specs.{ℕ, zero, suc, ◌+◌, ◌-◌, ◌*◌, ◌%◌, Bool, false, cond, ◌||◌, List, [], ◌∷◌, ◌++◌, eqb, get_or, ℤ, pos, neg_ℤ, ◌+ℤ◌}
-use Rattle.vocabulary.specs.{◌*ℤ◌}
+use Rattle.std.specs.Prelude.{ℕ, zero, suc, ◌+◌, ◌-◌, ◌*◌, ◌%◌, Bool, false, cond, ◌||◌, List, [], ◌∷◌, ◌++◌, eqb, get_or, ℤ, pos, neg_ℤ}
+use Rattle.std.specs.Prelude.{◌+ℤ◌, ◌*ℤ◌}
 use Rattle.whole.specs.Sums.{identity}
 
 abbrev pub minus : ℕ → ℤ

@@ -1,10 +1,12 @@
 // The eight figures of document 01, "The eight figures", and the ninth of document 02, M-100: which are named by a code and an n, and what
 // is counted of each. The least-squares theorem over their definitions stands in proofs/.
+#![tactic(auto)]
+
 ghost use Rattle.std.specs.Prelude.{◌≡◌};
 ghost use Rattle.figures.specs.Figure.{figure_of, name_of};
 
 // The figures, and no others: no wrong figure can be written down.
-#[derive(Drop)]
+#[derive(Clone, Copy)]
 pub enum Figure {
     Quadrilateral,
     PointInTriangle,
@@ -18,14 +20,14 @@ pub enum Figure {
 }
 
 // What a code and an n name.
-#[derive(Drop)]
+#[derive(Clone, Copy)]
 pub enum Named {
     As(Figure),
     Nothing,
 }
 
 // What the angles of a condition should sum to: 180°, 360°, or a fixed angle by its number.
-#[derive(Drop)]
+#[derive(Clone, Copy)]
 pub enum Target {
     HalfTurn,
     FullTurn,
@@ -34,13 +36,13 @@ pub enum Target {
 }
 
 // The code and n that name a figure.
-#[derive(Drop)]
+#[derive(Clone, Copy)]
 pub struct Name {
     pub code: u32,
     pub n: u32,
 }
 
-#[derive(Drop)]
+#[derive(Clone, Copy)]
 pub struct Counts {
     pub denominator: u32,
     pub angles: usize,

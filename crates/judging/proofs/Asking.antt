@@ -1,6 +1,7 @@
 -- The steps of a loop that asks the places 1, 2, .. in rising order, for any test and any count of places. The loop's invariant: the test
 -- fails at none of the places asked so far. So the first place at which it fails is the lowest.
-use Rattle.vocabulary.specs.{ℕ, suc, ◌+◌, ◌≤◌, ◌<◌, Bool, true, false, ◌≡◌, refl, sym, ap, ◌∙◌, add-one, arith}
+use Rattle.std.specs.Prelude.{ℕ, suc, ◌+◌, ◌≤◌, ◌<◌, Bool, true, false, ◌≡◌, refl}
+use Rattle.vocabulary.specs.{sym, ap, ◌∙◌, add-one, arith}
 use Rattle.refusals.specs.{declared.Lowest.TheVariants.Nowhere, declared.Lowest.TheVariants.At, Order.lowest_place}
 use Rattle.refusals.proofs.Places.{lowest_is, lowest_is_nowhere}
 

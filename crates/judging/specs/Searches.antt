@@ -1,5 +1,5 @@
 -- What the searches of the code answer: the lowest place of a value that lies outside its range.
-use Rattle.vocabulary.specs.{ℕ, List, ℤ, pos, ◌+ℤ◌, length, get_or}
+use Rattle.std.specs.Prelude.{ℕ, List, ℤ, pos, ◌+ℤ◌, length, get_or}
 use Rattle.whole.specs.Lists.{listed}
 use Rattle.refusals.specs.{declared.Lowest.Lowest, Numbers.numbered, Order.lowest_place, Table.sine_entry_outside}
 use Rattle.refusals.specs.Questions.{asked, outside, outside_signed}

@@ -1,5 +1,7 @@
 // The tests of the table, each once, and the searches they rest on: document 01, "Numbers given when a sheet is turned
 // back".
+#![tactic(auto)]
+
 mod search;
 mod tests;
 

@@ -1,6 +1,6 @@
 -- Document 01's printed sheets and its refusal, "Sheets worked through": the texts of the definitions, of the numbers that stand there,
 -- are the printed bytes, line by line as printed, each angle's with its one round at the end (document 02, M-106). Assumes nothing.
-use Rattle.vocabulary.specs.{◌≡◌, refl, List, [], ◌∷◌, ℕ, pos, negsuc}
+use Rattle.std.specs.Prelude.{◌≡◌, refl, List, [], ◌∷◌, ℕ, pos, negsuc}
 use Rattle.whole.specs.{Lists.listed, Sums.vector}
 use Rattle.refusals.specs.declared.Refusal.{Refusal}
 use Rattle.figures.specs.declared.Figure.TheVariants.{Quadrilateral}

@@ -1,6 +1,6 @@
 -- Texts laid one after the other, and how lines and tables are made of them. Assumes nothing.
-use Rattle.vocabulary.specs.{◌≡◌, refl, sym, ap, ◌∙◌, subst, List, [], ◌∷◌, ◌++◌, append_assoc, append-nil, ℕ, zero, suc, ◌+◌, ◌^◌, ◌≤◌}
-use Rattle.vocabulary.specs.{◌<◌, add-one, arith, ℤ, length, mag, w64, to_z, of_z, to_z-of_z}
+use Rattle.std.specs.Prelude.{◌≡◌, refl, List, [], ◌∷◌, ◌++◌, ℕ, zero, suc, ◌+◌, ◌^◌, ◌≤◌, ◌<◌, ℤ, length}
+use Rattle.vocabulary.specs.{sym, ap, ◌∙◌, subst, append_assoc, append-nil, add-one, arith, mag, w64, to_z, of_z, to_z-of_z}
 use Rattle.whole.specs.Lists.{listed}
 use Rattle.text.specs.{Text.space, Text.line_feed, Text.decimal, Text.spaced, Text.line, Text.lines, Text.laid, Text.after, Holds.Holds}
 use Rattle.text.proofs.{Laying.holds_none, Laying.holds_more, Lines.lines_listed}

@@ -1,6 +1,7 @@
 -- How long the texts are at most: each line by the digits of its numbers, and so many lines as the largest figure has. Assumes nothing.
-use Rattle.vocabulary.specs.{Bool, true, false, cond, ◌&&◌, List, [], ◌∷◌, ◌++◌, ℕ, ◌+◌, ◌*◌, ◌^◌, ◌≤◌, ◌<◌, le_trans, lt_of_lt_of_le}
-use Rattle.vocabulary.specs.{arith, T, ltb, leb, ltb→lt, leb→le, lit<, ℤ, pos, nat_abs, length, length-append}
+use Rattle.std.specs.Prelude.{Bool, true, false, cond, ◌&&◌, List, [], ◌∷◌, ◌++◌, ℕ, ◌+◌, ◌*◌, ◌^◌, ◌≤◌, ◌<◌, T, ltb, leb, ℤ, pos, nat_abs}
+use Rattle.std.specs.Prelude.{length}
+use Rattle.vocabulary.specs.{le_trans, lt_of_lt_of_le, arith, ltb→lt, leb→le, lit<, length-append}
 use Rattle.whole.specs.Lists.{listed}
 use Rattle.whole.proofs.Computed.{and_left, and_right}
 use Rattle.refusals.specs.{declared.Refusal.Refusal, Numbers.number_of, Numbers.place_of}

@@ -1,7 +1,7 @@
 -- A printed text read back, line by line and part by part, gives the lines of the definitions, and each number on them the value it
 -- stands for: so no line can print another value. Assumes nothing.
-use Rattle.vocabulary.specs.{◌≡◌, refl, sym, ap, ◌∙◌, Bool, true, false, cond, List, [], ◌∷◌, ◌++◌, map, ℕ, zero, suc, ◌+◌, ◌<◌, T, ℤ, pos}
-use Rattle.vocabulary.specs.{get_or, drop, list-get_or_append, get_or-append-add}
+use Rattle.std.specs.Prelude.{◌≡◌, refl, Bool, true, false, cond, List, [], ◌∷◌, ◌++◌, map, ℕ, zero, suc, ◌+◌, ◌<◌, T, ℤ, pos, get_or, drop}
+use Rattle.vocabulary.specs.{sym, ap, ◌∙◌, list-get_or_append, get_or-append-add}
 use Rattle.whole.specs.Lists.{every, listed}
 use Rattle.whole.proofs.Lists.{length_listed, get_or_listed}
 use Rattle.refusals.specs.{declared.Refusal.Refusal, Numbers.number_of, Numbers.place_of}

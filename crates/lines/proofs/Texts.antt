@@ -1,6 +1,6 @@
 -- What the functions lay, piece by piece, are the lines of the definitions. Assumes nothing.
-use Rattle.vocabulary.specs.{◌≡◌, refl, sym, ap, ◌∙◌, Bool, true, false, bool-beq, List, [], ◌∷◌, ◌++◌, append-nil, ℕ, ◌≤◌, arith, T, ltb}
-use Rattle.vocabulary.specs.{ℤ, pos}
+use Rattle.std.specs.Prelude.{◌≡◌, refl, Bool, true, false, List, [], ◌∷◌, ◌++◌, ℕ, ◌≤◌, T, ltb, ℤ, pos}
+use Rattle.vocabulary.specs.{sym, ap, ◌∙◌, bool-beq, append-nil, arith}
 use Rattle.whole.specs.Lists.{listed}
 use Rattle.refusals.specs.{declared.Refusal.Refusal, Numbers.number_of, Numbers.place_of}
 use Rattle.figures.specs.{declared.Figure.Figure, declared.Counts.Counts}

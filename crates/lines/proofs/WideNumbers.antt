@@ -1,5 +1,5 @@
 -- Numbers that are held as two words each, as a list of the high words and one of the low words, are those numbers. Assumes nothing.
-use Rattle.vocabulary.specs.{◌≡◌, refl, ℕ, zero, suc, ℤ}
+use Rattle.std.specs.Prelude.{◌≡◌, refl, ℕ, zero, suc, ℤ}
 use Rattle.whole.specs.{Lists.listed, Sums.vector}
 use Rattle.wide.specs.Wide.{radix}
 use Rattle.wide_words.specs.Words.{joined, high_word, low_word}

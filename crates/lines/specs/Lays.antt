@@ -1,5 +1,5 @@
 -- What a function does that lays one text more in a lent buffer; and pieces of text that are laid so.
-use Rattle.vocabulary.specs.{List, [], ◌∷◌, ◌++◌, ℕ, ℤ}
+use Rattle.std.specs.Prelude.{List, [], ◌∷◌, ◌++◌, ℕ, ℤ}
 use Rattle.whole.specs.{Lists.listed, Sums.vector}
 use Rattle.text.specs.{Text.space, Text.spaced, Holds.Holds}
 use Rattle.lines.specs.Lines.{numbers}

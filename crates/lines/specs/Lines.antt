@@ -1,7 +1,7 @@
 -- The lines that the program prints: document 01, "Sheets worked through", M-100 for a figure with a side condition, and M-106 for the
 -- rounds, which end the line of each angle. A line is given by its parts, words and numbers; `lines` puts one space between the parts and
 -- one line feed after each line. What an angle or a condition has is used by its index, counted from 0; its number is one more.
-use Rattle.vocabulary.specs.{Bool, true, false, List, [], ◌∷◌, ◌++◌, map, ℕ, ◌+◌, ℤ, pos, get_or}
+use Rattle.std.specs.Prelude.{Bool, true, false, List, [], ◌∷◌, ◌++◌, map, ℕ, ◌+◌, ℤ, pos, get_or}
 use Rattle.whole.specs.{Lists.listed, Sums.vector}
 use Rattle.wide_words.specs.Words.{joined}
 use Rattle.refusals.specs.{declared.Refusal.Refusal, Numbers.number_of, Numbers.place_of}

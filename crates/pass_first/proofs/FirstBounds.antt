@@ -1,5 +1,6 @@
 -- How large the numbers of an accepted first pass are. Assumes nothing.
-use Rattle.vocabulary.specs.{subst, List, ℕ, ◌≤◌, ◌<◌, le_trans, arith, lit≤, ℤ, nat_abs}
+use Rattle.std.specs.Prelude.{List, ℕ, ◌≤◌, ◌<◌, ℤ, nat_abs}
+use Rattle.vocabulary.specs.{subst, le_trans, arith, lit≤}
 use Rattle.whole.proofs.Magnitudes.{nat_abs_add}
 use Rattle.refusals.specs.Ranges.{most_limit}
 use Rattle.figures.specs.{declared.Figure.Figure, Figure.condition_count, Numerators.condition_sum}

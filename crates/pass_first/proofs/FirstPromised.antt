@@ -1,6 +1,6 @@
 -- From the steps of a first pass to what it promises, of a figure that is named. Assumes nothing.
-use Rattle.vocabulary.specs.{◌≡◌, refl, sym, ap, ap₂, ◌∙◌, List, [], ◌∷◌, ℕ, ◌<◌, le_trans, lt_of_le_of_lt, lit<, lit≤, ℤ, nat_abs, ◌+ℤ◌}
-use Rattle.vocabulary.specs.{length, get_or}
+use Rattle.std.specs.Prelude.{◌≡◌, refl, List, [], ◌∷◌, ℕ, ◌<◌, ℤ, nat_abs, ◌+ℤ◌, length, get_or}
+use Rattle.vocabulary.specs.{sym, ap, ap₂, ◌∙◌, le_trans, lt_of_le_of_lt, lit<, lit≤}
 use Rattle.whole.specs.{Lists.listed, Quotient.rounded_quotient, Sums.vector}
 use Rattle.whole.proofs.Lists.{listed_ext}
 use Rattle.refusals.specs.{declared.Refusal.Refusal, declared.Verdict.Verdict, Order.Row, Order.verdict_of, Order.judged, Promise.stored}

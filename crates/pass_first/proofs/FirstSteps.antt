@@ -1,5 +1,6 @@
 -- The steps of the first pass, from its misclosures w within the limit: what each gives, and how large it is. Assumes nothing.
-use Rattle.vocabulary.specs.{◌≡◌, ◌∙◌, List, ℕ, zero, suc, ◌^◌, ◌≤◌, le_trans, arith, lit≤, ℤ, nat_abs, length}
+use Rattle.std.specs.Prelude.{◌≡◌, List, ℕ, zero, suc, ◌^◌, ◌≤◌, ℤ, nat_abs, length}
+use Rattle.vocabulary.specs.{◌∙◌, le_trans, arith, lit≤}
 use Rattle.whole.specs.{Lists.listed, Quotient.rounded_quotient, Sums.vector}
 use Rattle.whole.proofs.Quotient.{rounded_within}
 use Rattle.refusals.specs.Ranges.{most_limit}

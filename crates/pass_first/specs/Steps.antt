@@ -1,5 +1,5 @@
 -- What the steps of the first pass give, from its misclosures w.
-use Rattle.vocabulary.specs.{ℕ, List, [], ◌∷◌, ◌≡◌, ℤ, ◌+ℤ◌, length}
+use Rattle.std.specs.Prelude.{ℕ, List, [], ◌∷◌, ◌≡◌, ℤ, ◌+ℤ◌, length}
 use Rattle.whole.specs.{Lists.listed, Quotient.rounded_quotient, Sums.vector}
 use Rattle.figures.specs.{declared.Figure.Figure, Figure.denominator, Figure.angle_count, Figure.condition_count}
 use Rattle.figures.specs.Numerators.{condition_sum, numerator}

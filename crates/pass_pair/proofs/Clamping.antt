@@ -1,6 +1,7 @@
 -- A correction that is clamped: itself within the bound, and as far out of range as the correction itself beyond it. Assumes nothing.
-use Rattle.vocabulary.specs.{◌≡◌, refl, sym, ap, ◌∙◌, subst, Bool, true, false, cond, ◌||◌, ℕ, zero, suc, ◌+◌, ◌-◌, ◌^◌, ◌≤◌, ◌<◌, le_refl}
-use Rattle.vocabulary.specs.{arith, ltb-true, ltb-false, lt-ltb, le-ltb, T, ltb, ℤ, pos, negsuc, neg_ℤ, nat_abs, ◌+ℤ◌, lt_z}
+use Rattle.std.specs.Prelude.{◌≡◌, refl, Bool, true, false, cond, ◌||◌, ℕ, zero, suc, ◌+◌, ◌-◌, ◌^◌, ◌≤◌, ◌<◌, T, ltb, ℤ, pos, negsuc}
+use Rattle.std.specs.Prelude.{neg_ℤ, nat_abs, ◌+ℤ◌}
+use Rattle.vocabulary.specs.{sym, ap, ◌∙◌, subst, le_refl, arith, ltb-true, ltb-false, lt-ltb, le-ltb, lt_z}
 use Rattle.wide.specs.{Wide.radix, Wide.size_of, Wide.signed, declared.Size.Size}
 use Rattle.pass_pair.specs.Pair.{most_tenths, clamped_size, clamped}
 

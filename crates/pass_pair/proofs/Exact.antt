@@ -1,5 +1,6 @@
 -- That two words hold every step of the numerator, from bounds of what goes in. Assumes nothing.
-use Rattle.vocabulary.specs.{◌≡◌, ℕ, ◌^◌, ◌≤◌, ◌<◌, lt_of_le_of_lt, lit<, ℤ, nat_abs, ◌+ℤ◌, ◌-ℤ◌, ◌*ℤ◌}
+use Rattle.std.specs.Prelude.{◌≡◌, ℕ, ◌^◌, ◌≤◌, ◌<◌, ℤ, nat_abs, ◌+ℤ◌, ◌-ℤ◌, ◌*ℤ◌}
+use Rattle.vocabulary.specs.{lt_of_le_of_lt, lit<}
 use Rattle.whole.specs.Quotient.{rounded_quotient}
 use Rattle.whole.proofs.Ring.{ring, ◌≐◌, ◌⊕◌, ◌⊖◌, ◌⊗◌}
 use Rattle.wide.specs.Wide.{held}

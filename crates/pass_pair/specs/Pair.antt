@@ -1,7 +1,7 @@
 -- Two sine conditions together: document 02, M-100. "With A, B the reduced coefficients of pole and side and [AB] a sum of products, the
 -- exact correction in tenths is −2400 times (A·([BB]·Wa − [AB]·Wb) + B·([AA]·Wb − [AB]·Wa)) over the determinant [AA][BB] −
 -- [AB]²."
-use Rattle.vocabulary.specs.{cond, ℕ, ltb, ℤ, nat_abs, ◌+ℤ◌, ◌-ℤ◌, ◌*ℤ◌}
+use Rattle.std.specs.Prelude.{cond, ℕ, ltb, ℤ, nat_abs, ◌+ℤ◌, ◌-ℤ◌, ◌*ℤ◌}
 use Rattle.whole.specs.Quotient.{with_sign, rounded_quotient}
 use Rattle.wide.specs.Wide.{held}
 use Rattle.wide_words.specs.Words.{high_word, low_word, reached}

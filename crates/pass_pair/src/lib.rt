@@ -1,5 +1,7 @@
 // Two sine conditions together: document 02, M-100. From the sums of products [AA], [AB], [BB] and the misclosures Wa, Wb: what an angle's
 // A and B are multiplied by, the determinant, and the correction of an angle. Every function answers every input.
+#![tactic(auto)]
+
 ghost use Rattle.std.specs.Prelude.{◌≡◌, nat_abs, ◌-ℤ◌, ◌*ℤ◌};
 ghost use Rattle.wide.specs.Wide.{size_of, value_of};
 ghost use Rattle.pass_pair.specs.Pair.{first_factor, second_factor, held_numerator, correction_from, clamped, clamped_size};
@@ -11,7 +13,7 @@ use wide::{Size, Wide};
 const MOST_TENTHS: u64 = 1300000000;
 
 // [AA], [AB], [BB], Wa and Wb.
-#[derive(Drop)]
+#[derive(Clone, Copy)]
 pub struct Pair {
     pub aa: i64,
     pub ab: i64,
@@ -21,7 +23,7 @@ pub struct Pair {
 }
 
 // What A and B are multiplied by, and the determinant.
-#[derive(Drop)]
+#[derive(Clone, Copy)]
 pub struct PairFactors {
     pub first: Wide,
     pub second: Wide,
@@ -29,7 +31,7 @@ pub struct PairFactors {
 }
 
 // An angle's exact numerator in two words, and its correction in tenths.
-#[derive(Drop)]
+#[derive(Clone, Copy)]
 pub struct PairCorrection {
     pub high: i64,
     pub low: u64,

@@ -1,5 +1,5 @@
 -- What an accepted first pass says of its sheet, row by row. Assumes nothing.
-use Rattle.vocabulary.specs.{List, ◌≡◌, ℕ, ◌≤◌, ◌<◌, pos, nat_abs, length, get_or, ◌≤ℤ◌}
+use Rattle.std.specs.Prelude.{List, ◌≡◌, ℕ, ◌≤◌, ◌<◌, pos, nat_abs, length, get_or, ◌≤ℤ◌}
 use Rattle.whole.specs.Lists.{listed}
 use Rattle.refusals.specs.{declared.Verdict.TheVariants.Passed, Order.Row, Order.judged, Table.sum_of_all, Table.fixed_sum}
 use Rattle.refusals.specs.Ranges.{least_angle, most_angle, most_limit, least_rounds, most_rounds}

@@ -1,7 +1,7 @@
 -- Sheets of the first pass as the definitions answer them: document 01, "Sheets worked through", case 8, and the edges of its ranges;
 -- what its first printed sheet gives; those of document 02, M-101, M-102 and M-106; and accepted sheets of codes 2 and 3, whose values
 -- were worked out apart from the definitions (tests/independent.py). Assumes nothing.
-use Rattle.vocabulary.specs.{◌≡◌, refl, List, [], ◌∷◌, ◌++◌, map, ℕ, ℤ, pos, neg_ℤ, replicate}
+use Rattle.std.specs.Prelude.{◌≡◌, refl, List, [], ◌∷◌, ◌++◌, map, ℕ, ℤ, pos, neg_ℤ, replicate}
 use Rattle.whole.specs.{Lists.listed, Quotient.rounded_quotient, Quotient.nearest, Sums.sum, Sums.dot, Sums.applied}
 use Rattle.refusals.specs.{Numbers.Told, Numbers.told, Numbers.verdict_told, Order.answer_of, Order.lowest_place}
 use Rattle.figures.specs.{declared.Figure.Figure, Figure.figure_of, Numerators.sum_over, Numerators.condition_sum, Numerators.numerator}

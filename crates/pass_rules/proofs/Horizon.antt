@@ -1,7 +1,7 @@
 -- The horizon of code 2, which is not listed (document 02, M-101): where the fixed angles sum as number 14 asks, corrections that cancel
 -- every listed misclosure close it too. Of both n, over the figure. Assumes nothing.
-use Rattle.vocabulary.specs.{ℕ, zero, suc, ◌+◌, ◌*◌, ◌<◌, List, [], ◌∷◌, ◌≡◌, refl, sym, ap, ap₂, ◌∙◌, arith, T, ℤ, pos, neg_ℤ, ◌+ℤ◌, ◌-ℤ◌}
-use Rattle.vocabulary.specs.{◌*ℤ◌, length, get_or}
+use Rattle.std.specs.Prelude.{ℕ, zero, suc, ◌+◌, ◌*◌, ◌<◌, List, [], ◌∷◌, ◌≡◌, refl, T, ℤ, pos, neg_ℤ, ◌+ℤ◌, ◌-ℤ◌, ◌*ℤ◌, length, get_or}
+use Rattle.vocabulary.specs.{sym, ap, ap₂, ◌∙◌, arith}
 use Rattle.whole.specs.Sums.{sum}
 use Rattle.whole.proofs.Ring.{constant, ◌⊕◌, ◌⊖◌, ◌⊗◌, ⊝◌, ◌≐◌, ring}
 use Rattle.whole.proofs.Sums.{sum_ext, sum_add, sum_scale, sum_front}

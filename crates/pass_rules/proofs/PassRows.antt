@@ -1,5 +1,6 @@
 -- The order of a pass, of both: number 1, and then the rows of the figure that code and n name. Assumes nothing.
-use Rattle.vocabulary.specs.{Bool, List, [], ◌∷◌, map, ◌≡◌, refl, sym, ap, ap₂, ◌∙◌, ℕ, arith, T}
+use Rattle.std.specs.Prelude.{Bool, List, [], ◌∷◌, map, ◌≡◌, refl, ℕ, T}
+use Rattle.vocabulary.specs.{sym, ap, ap₂, ◌∙◌, arith}
 use Rattle.refusals.specs.{declared.Refusal.Refusal, declared.Verdict.TheVariants.Passed, declared.Verdict.TheVariants.Failed}
 use Rattle.refusals.specs.{Order.Row, Order.all_in_table, Order.answer_of, Order.fails_if, Order.verdict_of, Order.judged, Table.figure_row}
 use Rattle.figures.specs.{declared.Figure.Figure, declared.Named.Named, declared.Named.TheVariants.As, declared.Named.TheVariants.Nothing}

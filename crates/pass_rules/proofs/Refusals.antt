@@ -1,6 +1,7 @@
 -- The orders of both passes, for demand 1: every row is in the table, and the second pass's answer tells what its rows are judged to be.
 -- Of every code, n and sheet. Assumes nothing.
-use Rattle.vocabulary.specs.{List, ◌≡◌, refl, sym, ap, ℕ, T}
+use Rattle.std.specs.Prelude.{List, ◌≡◌, refl, ℕ, T}
+use Rattle.vocabulary.specs.{sym, ap}
 use Rattle.refusals.specs.{declared.Refusal.Refusal, declared.Verdict.Verdict, Numbers.verdict_told, Order.all_in_table}
 use Rattle.refusals.specs.declared.Verdict.TheVariants.{Passed, Failed}
 use Rattle.figures.specs.{declared.Named.Named, declared.Named.TheVariants.As, declared.Named.TheVariants.Nothing}

@@ -1,7 +1,7 @@
 -- What the rounding leaves of a condition, in both passes: where the exact corrections cancel a misclosure, twice the rest is at most one
 -- tenth for each angle of the condition. Assumes nothing.
-use Rattle.vocabulary.specs.{◌≡◌, ap, ◌∙◌, List, [], ◌∷◌, ℕ, zero, suc, ◌*◌, ◌≤◌, ◌<◌, zero-le, le_of_mul-le-mul_right, arith, length, ℤ}
-use Rattle.vocabulary.specs.{pos, neg_ℤ, nat_abs, ◌+ℤ◌, ◌-ℤ◌, ◌*ℤ◌}
+use Rattle.std.specs.Prelude.{◌≡◌, List, [], ◌∷◌, ℕ, zero, suc, ◌*◌, ◌≤◌, ◌<◌, length, ℤ, pos, neg_ℤ, nat_abs, ◌+ℤ◌, ◌-ℤ◌, ◌*ℤ◌}
+use Rattle.vocabulary.specs.{ap, ◌∙◌, zero-le, le_of_mul-le-mul_right, arith}
 use Rattle.whole.specs.Quotient.{rounded_quotient}
 use Rattle.whole.proofs.{Magnitudes.nat_abs_add, Magnitudes.nat_abs_mul, Magnitudes.nat_abs_neg, Quotient.rounded_near}
 use Rattle.whole.proofs.Ring.{ring, ◌≐◌, ◌⊕◌, ◌⊖◌, ◌⊗◌, ⊝◌, constant}

@@ -1,5 +1,6 @@
 -- The lengths of the results, one by one. Assumes nothing.
-use Rattle.vocabulary.specs.{List, ◌≡◌, sym, ap, ◌∙◌, ℕ, length, get_or}
+use Rattle.std.specs.Prelude.{List, ◌≡◌, ℕ, length, get_or}
+use Rattle.vocabulary.specs.{sym, ap, ◌∙◌}
 use Rattle.whole.specs.Lists.{listed}
 use Rattle.whole.proofs.Lists.{listed_get_or}
 

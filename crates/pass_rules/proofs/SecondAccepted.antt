@@ -1,7 +1,8 @@
 -- What an accepted second pass says of its sheet, row by row, and how large its numbers then are. Assumes nothing.
-use Rattle.vocabulary.specs.{List, [], ◌∷◌, ◌++◌, ◌≡◌, refl, sym, subst, ℕ, zero, suc, ◌+◌, ◌*◌, ◌≤◌, ◌<◌, zero-le, dec_lt, arith, ℤ, pos}
-use Rattle.vocabulary.specs.{negsuc, neg_ℤ, nat_abs, ◌-ℤ◌, ◌*ℤ◌, length, get_or, length-append, list-get_or_append, list-get_or_eq_default}
-use Rattle.vocabulary.specs.{get_or-append-add, ◌≤ℤ◌}
+use Rattle.std.specs.Prelude.{List, [], ◌∷◌, ◌++◌, ◌≡◌, refl, ℕ, zero, suc, ◌+◌, ◌*◌, ◌≤◌, ◌<◌, ℤ, pos, negsuc, neg_ℤ, nat_abs, ◌-ℤ◌, ◌*ℤ◌}
+use Rattle.std.specs.Prelude.{length, get_or, ◌≤ℤ◌}
+use Rattle.vocabulary.specs.{sym, subst, zero-le, dec_lt, arith, length-append, list-get_or_append, list-get_or_eq_default}
+use Rattle.vocabulary.specs.{get_or-append-add}
 use Rattle.whole.specs.{Lists.listed, Sums.vector}
 use Rattle.whole.proofs.{Magnitudes.nat_abs_sub, Ring.ring, Ring.◌≐◌, Ring.◌⊕◌, Ring.◌⊖◌}
 use Rattle.refusals.specs.{declared.Verdict.TheVariants.Passed, Order.Row, Order.judged, Table.results_row}

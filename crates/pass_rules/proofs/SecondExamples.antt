@@ -1,7 +1,7 @@
 -- Sheets of the second pass as the definitions answer them: document 01, "Sheets worked through", case 9 and its printed sheet of kind 2,
 -- and the edges of the ranges; halves; and accepted sheets of codes 2 and 3, whose values were worked out apart from the definitions
 -- (tests/independent.py). Assumes nothing.
-use Rattle.vocabulary.specs.{◌≡◌, refl, List, [], ◌∷◌, ◌++◌, map, ℕ, zero, suc, ◌+◌, replicate, ℤ, pos, neg_ℤ}
+use Rattle.std.specs.Prelude.{◌≡◌, refl, List, [], ◌∷◌, ◌++◌, map, ℕ, zero, suc, ◌+◌, replicate, ℤ, pos, neg_ℤ}
 use Rattle.whole.specs.{Lists.listed, Quotient.nearest, Quotient.rounded_quotient, Sums.sum, Sums.dot, Sums.applied}
 use Rattle.refusals.specs.{declared.Refusal.Refusal, Order.answer_of, Order.lowest_place}
 use Rattle.figures.specs.{declared.Figure.Figure, Figure.angle_count, Figure.figure_of}

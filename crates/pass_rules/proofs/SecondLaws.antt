@@ -1,8 +1,8 @@
 -- The second corrections of any sheet, over the figure: what they are with one sine condition and with two, that they change no linear
 -- condition, so that a rest is small, that they cancel each sine misclosure, to what they are orthogonal, and that the formula for two
 -- covers that for one. In whole numbers, as numerators over S or the determinant; cites the figures' theorems. Assumes nothing.
-use Rattle.vocabulary.specs.{Bool, true, false, cond, ◌≡◌, refl, sym, ap, ◌∙◌, subst, ℕ, suc, ◌*◌, ◌≤◌, ◌<◌, length, ℤ, pos, neg_ℤ, nat_abs}
-use Rattle.vocabulary.specs.{◌-ℤ◌, ◌*ℤ◌, +ℤ_idl, *ℤ-zero, ◌≤ℤ◌}
+use Rattle.std.specs.Prelude.{Bool, true, false, cond, ◌≡◌, refl, ℕ, suc, ◌*◌, ◌≤◌, ◌<◌, length, ℤ, pos, neg_ℤ, nat_abs, ◌-ℤ◌, ◌*ℤ◌, ◌≤ℤ◌}
+use Rattle.vocabulary.specs.{sym, ap, ◌∙◌, subst, +ℤ_idl, *ℤ-zero}
 use Rattle.whole.specs.Sums.{dot, squares}
 use Rattle.whole.proofs.Ring.{ring, ◌≐◌, ◌⊕◌, ◌⊖◌, ◌⊗◌, constant}
 use Rattle.whole.proofs.Sums.{dot_ext, dot_scale, squares_nonnegative}

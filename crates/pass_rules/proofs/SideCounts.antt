@@ -1,5 +1,6 @@
 -- How many reduced coefficients of the side condition a figure has, by how many sides of it are known. Assumes nothing.
-use Rattle.vocabulary.specs.{Bool, true, false, cond, ◌≡◌, refl, sym, ap, ◌∙◌, subst, eq-eqb, ne_eqb, T, eqb}
+use Rattle.std.specs.Prelude.{Bool, true, false, cond, ◌≡◌, refl, T, eqb}
+use Rattle.vocabulary.specs.{sym, ap, ◌∙◌, subst, eq-eqb, ne_eqb}
 use Rattle.figures.specs.{declared.Figure.Figure, Figure.angle_count, Figure.has_side, Figure.side_count}
 use Rattle.figures.proofs.Figures.{no_sides, side_none}
 use Rattle.pass_rules.specs.SecondPass.{side_reduced_count}

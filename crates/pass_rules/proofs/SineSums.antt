@@ -1,7 +1,7 @@
 -- The sums of a sine condition: no known side stands in the pole, and of a side condition that a figure has not every sum is 0. Assumes
 -- nothing.
-use Rattle.vocabulary.specs.{false, ◌≡◌, refl, ap, ap₂, ◌∙◌, [], ℕ, ◌<◌, dec_lt, arith, ℤ, pos, ◌+ℤ◌, ◌*ℤ◌, replicate, length-replicate}
-use Rattle.vocabulary.specs.{get_or-replicate, list-get_or_eq_default}
+use Rattle.std.specs.Prelude.{false, ◌≡◌, refl, [], ℕ, ◌<◌, ℤ, pos, ◌+ℤ◌, ◌*ℤ◌, replicate}
+use Rattle.vocabulary.specs.{ap, ap₂, ◌∙◌, dec_lt, arith, length-replicate, get_or-replicate, list-get_or_eq_default}
 use Rattle.whole.specs.Sums.{sum, dot, vector}
 use Rattle.whole.proofs.{Ring.ring, Ring.◌≐◌, Ring.◌⊕◌, Ring.◌⊗◌, Ring.constant, Sums.dot_comm, Sums.dot_zero}
 use Rattle.figures.specs.declared.Figure.{Figure}

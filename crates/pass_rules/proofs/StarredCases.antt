@@ -1,6 +1,6 @@
 -- The starred cases of document 01, "Sheets worked through", in one table under one statement: what the definitions give that the passes
 -- promise is what the document states. Assumes nothing.
-use Rattle.vocabulary.specs.{◌≡◌, refl, List, [], ◌∷◌, map, ℕ, ℤ, pos, neg_ℤ, replicate}
+use Rattle.std.specs.Prelude.{◌≡◌, refl, List, [], ◌∷◌, map, ℕ, ℤ, pos, neg_ℤ, replicate}
 use Rattle.whole.specs.{Lists.listed, Quotient.nearest, Quotient.rounded_quotient, Sums.sum, Sums.dot, Sums.applied}
 use Rattle.refusals.specs.{Numbers.verdict_told, Order.verdict_of, Table.sine_misclosure_row}
 use Rattle.figures.specs.declared.Figure.TheVariants.{Quadrilateral, PointInTriangle, CentralTriangle}

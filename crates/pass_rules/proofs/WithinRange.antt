@@ -1,5 +1,6 @@
 -- What rows 6 and 7 say, where they hold nowhere, of values that are listed by a rule; and L or e in force. Assumes nothing.
-use Rattle.vocabulary.specs.{sym, subst, ℕ, zero, suc, ◌≤◌, ◌<◌, leb→le, ℤ, pos, negsuc, nat_abs, ◌≤ℤ◌}
+use Rattle.std.specs.Prelude.{ℕ, zero, suc, ◌≤◌, ◌<◌, ℤ, pos, negsuc, nat_abs, ◌≤ℤ◌}
+use Rattle.vocabulary.specs.{sym, subst, leb→le}
 use Rattle.whole.specs.Lists.{listed}
 use Rattle.whole.proofs.Lists.{length_listed, get_or_listed}
 use Rattle.refusals.specs.{Order.HoldsNowhere, Ranges.least_angle, Ranges.most_angle, Table.misclosures_row, Table.results_row}

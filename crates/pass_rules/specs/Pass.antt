@@ -1,5 +1,5 @@
 -- What both passes share: document 01, "Units and ranges" and "The two passes". Angles are used by their indices, counted from 0.
-use Rattle.vocabulary.specs.{ℕ, zero, suc, List, ℤ, pos, get_or}
+use Rattle.std.specs.Prelude.{ℕ, zero, suc, List, ℤ, pos, get_or}
 
 -- L or e in force: 0 stands for the default
 abbrev pub in_force : (default value : ℕ) → ℕ

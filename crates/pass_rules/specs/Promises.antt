@@ -1,6 +1,6 @@
 -- What the two passes promise: document 01, "The two passes" and "What the promises must decide", and document 02, M-106, for the rounds
 -- of each angle. What is given, what is lent, what is answered, and what everything lent holds in the end.
-use Rattle.vocabulary.specs.{ℕ, List, [], ◌∷◌, ℤ, length}
+use Rattle.std.specs.Prelude.{ℕ, List, [], ◌∷◌, ℤ, length}
 use Rattle.refusals.specs.{declared.Verdict.Verdict, Order.Row, Order.judged, Promise.Promised, Promise.stored}
 use Rattle.figures.specs.{declared.Figure.Figure, Figure.figure_of, Figure.of_named}
 use Rattle.pass_rules.specs.declared.second.SecondAnswer.{SecondAnswer}

@@ -1,6 +1,6 @@
 -- The second pass: document 01, "The two passes", and document 02, M-100 for the figure that has two sine conditions and M-106 for the
 -- rounds of each angle. Angles and conditions are used by their indices, counted from 0.
-use Rattle.vocabulary.specs.{ℕ, ◌/◌, ◌%◌, ◌^◌, cond, List, [], ◌∷◌, ◌++◌, ℤ, pos, neg_ℤ, nat_abs, ◌+ℤ◌, ◌-ℤ◌, ◌*ℤ◌, length}
+use Rattle.std.specs.Prelude.{ℕ, ◌/◌, ◌%◌, ◌^◌, cond, List, [], ◌∷◌, ◌++◌, ℤ, pos, neg_ℤ, nat_abs, ◌+ℤ◌, ◌-ℤ◌, ◌*ℤ◌, length}
 use Rattle.whole.specs.{Lists.listed, Quotient.rounded_quotient, Sums.dot, Sums.squares, Sums.vector}
 use Rattle.wide_words.specs.Words.{high_word, low_word}
 use Rattle.pass_pair.specs.Pair.{pair_numerator}

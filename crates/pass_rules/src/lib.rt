@@ -1,5 +1,7 @@
 // The method of both passes: document 01, "The two passes". What each gives and what holds of it are in the definitions
 // and theorems; here are the lengths of a sheet's slices, and the rows of each order that need no work but a search.
+#![tactic(auto)]
+
 ghost use Rattle.std.specs.Prelude.{◌≡◌};
 ghost use Rattle.pass_rules.specs.Pass.{in_force};
 

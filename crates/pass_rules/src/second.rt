@@ -13,7 +13,7 @@ use judging::{
 use refusals::{MOST_ROUNDS, MOST_TOLERANCE, Refusal, Verdict, first_to_fail};
 
 // W, that of the side condition, and S or the determinant as a high and a low word; or why the sheet is turned back.
-#[derive(Drop)]
+#[derive(Clone, Copy)]
 pub enum SecondAnswer {
     Done(i64, i64, u64, u64),
     Refused(Refusal),

@@ -1,7 +1,7 @@
 -- How large the numbers of an accepted second pass are: its misclosures, its coefficients, S or the determinant, and its numerators.
 -- Assumes nothing.
-use Rattle.vocabulary.specs.{Bool, true, false, cond, List, ℕ, ◌*◌, ◌^◌, ◌≤◌, ◌<◌, le_refl, le_trans, lt_of_le_of_lt, mul-le-mul_right}
-use Rattle.vocabulary.specs.{lit<, ℤ, pos, neg_ℤ, nat_abs, ◌*ℤ◌}
+use Rattle.std.specs.Prelude.{Bool, true, false, cond, List, ℕ, ◌*◌, ◌^◌, ◌≤◌, ◌<◌, ℤ, pos, neg_ℤ, nat_abs, ◌*ℤ◌}
+use Rattle.vocabulary.specs.{le_refl, le_trans, lt_of_le_of_lt, mul-le-mul_right, lit<}
 use Rattle.whole.specs.Sums.{dot}
 use Rattle.whole.proofs.{Ring.◌⊕◌, Ring.◌⊖◌, Ring.◌⊗◌, Sums.sum_magnitude}
 use Rattle.wide.proofs.Bounds.{magnitude_reaches}

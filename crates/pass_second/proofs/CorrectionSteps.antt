@@ -1,7 +1,7 @@
 -- The exact corrections of the second pass, as the code works them: what a clamped quotient is, how the angles are filled in, and that one
 -- sine condition and two make the corrections of the definitions. Assumes nothing.
-use Rattle.vocabulary.specs.{◌≡◌, sym, ap, ap₂, ◌∙◌, subst, true, false, List, ℕ, suc, ◌+◌, ◌*◌, ◌^◌, ◌≤◌, ◌<◌, le_refl, le_trans, arith}
-use Rattle.vocabulary.specs.{leb-true, leb-false, eq-eqb, ne_eqb, T, lit≤, ℤ, pos, negsuc, neg_ℤ, nat_abs, ◌*ℤ◌, length, set, le_z}
+use Rattle.std.specs.Prelude.{◌≡◌, true, false, List, ℕ, suc, ◌+◌, ◌*◌, ◌^◌, ◌≤◌, ◌<◌, T, ℤ, pos, negsuc, neg_ℤ, nat_abs, ◌*ℤ◌, length, set}
+use Rattle.vocabulary.specs.{sym, ap, ap₂, ◌∙◌, subst, le_refl, le_trans, arith, leb-true, leb-false, eq-eqb, ne_eqb, lit≤, le_z}
 use Rattle.whole.specs.{Lists.listed, Sums.vector}
 use Rattle.whole.proofs.Lists.{Filled, filled_none, filled_more, filled_all, listed_ext}
 use Rattle.whole.proofs.Ring.{ring, ◌≐◌, ◌⊗◌}

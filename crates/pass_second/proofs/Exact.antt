@@ -1,6 +1,6 @@
 -- What the code makes of numbers that are small enough is exact, and is read back from its bits as it is. Assumes nothing.
-use Rattle.vocabulary.specs.{◌≡◌, sym, ap₂, ◌∙◌, subst, ℕ, ◌*◌, ◌^◌, ◌≤◌, ◌<◌, lt_of_le_of_lt, mul-le-mul, ℤ, nat_abs, ◌*ℤ◌, Width, w32}
-use Rattle.vocabulary.specs.{w64, SFits, to_z, of_z, hbits, to_z_of_z_at}
+use Rattle.std.specs.Prelude.{◌≡◌, ℕ, ◌*◌, ◌^◌, ◌≤◌, ◌<◌, ℤ, nat_abs, ◌*ℤ◌}
+use Rattle.vocabulary.specs.{sym, ap₂, ◌∙◌, subst, lt_of_le_of_lt, mul-le-mul, Width, w32, w64, SFits, to_z, of_z, hbits, to_z_of_z_at}
 use Rattle.whole.proofs.Magnitudes.{nat_abs_mul, magnitude_fits, widened, widens}
 
 pub record Exact (w : Width) (most : ℕ) (made exact : ℤ) : Type 0 where

@@ -1,6 +1,6 @@
 -- Where number 7 passes, a rounded correction is the difference of two angles. Assumes nothing.
-use Rattle.vocabulary.specs.{◌≡◌, sym, subst, List, ℕ, ◌≤◌, ◌<◌, zero-le, dec_lt, arith, ℤ, pos, nat_abs, ◌+ℤ◌, ◌-ℤ◌, length}
-use Rattle.vocabulary.specs.{list-get_or_eq_default}
+use Rattle.std.specs.Prelude.{◌≡◌, List, ℕ, ◌≤◌, ◌<◌, ℤ, pos, nat_abs, ◌+ℤ◌, ◌-ℤ◌, length}
+use Rattle.vocabulary.specs.{sym, subst, zero-le, dec_lt, arith, list-get_or_eq_default}
 use Rattle.whole.specs.Sums.{vector}
 use Rattle.whole.proofs.{Lists.length_listed, Magnitudes.nat_abs_sub, Ring.ring, Ring.◌≐◌, Ring.◌⊕◌, Ring.◌⊖◌}
 use Rattle.refusals.specs.{declared.Verdict.TheVariants.Passed, Order.verdict_of, Table.results_row}

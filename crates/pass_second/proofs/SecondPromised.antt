@@ -1,6 +1,6 @@
 -- From the steps of a second pass to what it promises, of a figure that is named. Assumes nothing.
-use Rattle.vocabulary.specs.{Bool, true, false, cond, ◌≡◌, refl, sym, ap, ap₂, ◌∙◌, subst, List, [], ◌∷◌, ◌++◌, ℕ, ◌^◌, ◌≤◌, ◌<◌, zero-le}
-use Rattle.vocabulary.specs.{lt_of_le_of_lt, arith, lit<, ℤ, pos, nat_abs, get_or, ◌≤ℤ◌}
+use Rattle.std.specs.Prelude.{Bool, true, false, cond, ◌≡◌, refl, List, [], ◌∷◌, ◌++◌, ℕ, ◌^◌, ◌≤◌, ◌<◌, ℤ, pos, nat_abs, get_or, ◌≤ℤ◌}
+use Rattle.vocabulary.specs.{sym, ap, ap₂, ◌∙◌, subst, zero-le, lt_of_le_of_lt, arith, lit<}
 use Rattle.whole.specs.{Lists.listed, Sums.dot, Sums.vector}
 use Rattle.wide.specs.{declared.Size.Size, Wide.radix, Wide.size_of}
 use Rattle.wide_words.proofs.Joining.{size_high, size_low}

@@ -1,7 +1,8 @@
 -- The steps of the second pass, from the sums of both sine conditions and the reduced coefficients: what they give is what the definitions
 -- say. A correction that is clamped leaves number 7 as it is, and where number 7 passes none is clamped. Assumes nothing.
-use Rattle.vocabulary.specs.{Bool, true, false, cond, ◌||◌, ◌≡◌, refl, sym, ap, ap₂, ◌∙◌, List, ℕ, zero, suc, ◌≤◌, ◌<◌, arith, eqb, ℤ, pos}
-use Rattle.vocabulary.specs.{nat_abs, ◌+ℤ◌, ◌-ℤ◌, ◌*ℤ◌, length, ◌≤ℤ◌}
+use Rattle.std.specs.Prelude.{Bool, true, false, cond, ◌||◌, ◌≡◌, refl, List, ℕ, zero, suc, ◌≤◌, ◌<◌, eqb, ℤ, pos, nat_abs, ◌+ℤ◌, ◌-ℤ◌}
+use Rattle.std.specs.Prelude.{◌*ℤ◌, length, ◌≤ℤ◌}
+use Rattle.vocabulary.specs.{sym, ap, ap₂, ◌∙◌, arith}
 use Rattle.whole.specs.{Lists.listed, Quotient.rounded_quotient, Sums.vector}
 use Rattle.whole.proofs.{Lists.length_listed, Lists.listed_ext, Magnitudes.nat_abs_sub, Ring.ring, Ring.◌≐◌, Ring.◌⊕◌, Ring.◌⊖◌}
 use Rattle.wide_words.specs.Words.{high_word, low_word}

@@ -1,6 +1,6 @@
 -- How large the numbers of the sine condition can be, of every figure at once. Assumes nothing.
-use Rattle.vocabulary.specs.{List, ℕ, ◌*◌, ◌^◌, ◌≤◌, ◌<◌, le_trans, mul-le-mul_right, arith, T, leb, leb→le, lit≤, ℤ, pos, nat_abs, ◌+ℤ◌}
-use Rattle.vocabulary.specs.{◌*ℤ◌, ◌≤ℤ◌}
+use Rattle.std.specs.Prelude.{List, ℕ, ◌*◌, ◌^◌, ◌≤◌, ◌<◌, T, leb, ℤ, pos, nat_abs, ◌+ℤ◌, ◌*ℤ◌, ◌≤ℤ◌}
+use Rattle.vocabulary.specs.{le_trans, mul-le-mul_right, arith, leb→le, lit≤}
 use Rattle.whole.specs.{Lists.every, Sums.dot, Sums.vector}
 use Rattle.whole.proofs.{Magnitudes.nat_abs_add, Sums.sum_magnitude, Sums.squares_nonnegative}
 use Rattle.refusals.specs.Ranges.{most_log_sine, most_difference}

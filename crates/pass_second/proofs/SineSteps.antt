@@ -1,5 +1,6 @@
 -- The steps of a sine condition are those of the definitions. Assumes nothing.
-use Rattle.vocabulary.specs.{◌≡◌, refl, sym, ap, ap₂, ◌∙◌, List, ℕ, ◌≤◌, ◌<◌, ℤ, pos, nat_abs, ◌+ℤ◌, ◌*ℤ◌, length, take, get_or-take}
+use Rattle.std.specs.Prelude.{◌≡◌, refl, List, ℕ, ◌≤◌, ◌<◌, ℤ, pos, nat_abs, ◌+ℤ◌, ◌*ℤ◌, length, take}
+use Rattle.vocabulary.specs.{sym, ap, ap₂, ◌∙◌, get_or-take}
 use Rattle.whole.specs.{Lists.listed, Sums.dot, Sums.squares, Sums.vector}
 use Rattle.whole.proofs.{Lists.listed_ext, Sums.dot_ext, Sums.squares_ext}
 use Rattle.figures.specs.{declared.Figure.Figure, Figure.SineCondition, Figure.denominator, Figure.angle_count, Figure.condition_count}

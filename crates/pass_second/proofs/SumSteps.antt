@@ -1,7 +1,8 @@
 -- The sums of both sine conditions are those of the definitions: of a figure that has only the pole, and of one with known sides. Assumes
 -- nothing.
-use Rattle.vocabulary.specs.{Bool, true, false, cond, ◌≡◌, sym, ap, ◌∙◌, List, [], ◌∷◌, ℕ, ◌*◌, ◌^◌, ◌≤◌, ◌<◌, arith, ℤ, pos, negsuc}
-use Rattle.vocabulary.specs.{nat_abs, ◌+ℤ◌, ◌-ℤ◌, length}
+use Rattle.std.specs.Prelude.{Bool, true, false, cond, ◌≡◌, List, [], ◌∷◌, ℕ, ◌*◌, ◌^◌, ◌≤◌, ◌<◌, ℤ, pos, negsuc, nat_abs, ◌+ℤ◌, ◌-ℤ◌}
+use Rattle.std.specs.Prelude.{length}
+use Rattle.vocabulary.specs.{sym, ap, ◌∙◌, arith}
 use Rattle.whole.specs.{Lists.listed, Sums.sum, Sums.dot, Sums.squares, Sums.vector}
 use Rattle.whole.proofs.{Magnitudes.nat_abs_add, Magnitudes.nat_abs_sub, Ring.ring, Ring.◌≐◌, Ring.◌⊕◌, Ring.◌⊖◌, Ring.◌⊗◌, Ring.constant}
 use Rattle.whole.proofs.Sums.{dot_ext}

@@ -1,6 +1,6 @@
 -- Number 9 in natural numbers, as the code decides it, and how far W can be where it passes. Assumes nothing.
-use Rattle.vocabulary.specs.{◌≡◌, ap, ap₂, ◌∙◌, subst, Bool, ℕ, ◌*◌, ◌≤◌, ◌<◌, dec_lt, le_of_lt, mul-le-mul, arith, ltb, leb→le, lit≤, ℤ}
-use Rattle.vocabulary.specs.{pos, nat_abs, ◌*ℤ◌, lt_z, ◌≤ℤ◌}
+use Rattle.std.specs.Prelude.{◌≡◌, Bool, ℕ, ◌*◌, ◌≤◌, ◌<◌, ltb, ℤ, pos, nat_abs, ◌*ℤ◌, ◌≤ℤ◌}
+use Rattle.vocabulary.specs.{ap, ap₂, ◌∙◌, subst, dec_lt, le_of_lt, mul-le-mul, arith, leb→le, lit≤, lt_z}
 use Rattle.whole.proofs.{Magnitudes.nat_abs_mul, Order.natural, Order.square_nonnegative}
 use Rattle.refusals.specs.{Questions.less_signed, Questions.asked, Ranges.most_difference, Ranges.most_tolerance}
 use Rattle.figures.specs.Numerators.{most_angles}

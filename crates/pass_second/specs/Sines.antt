@@ -1,5 +1,5 @@
 -- The sums of a sine condition, by the signs of its angles, and of both, as the code answers them.
-use Rattle.vocabulary.specs.{ℕ, cond, List, ℤ, pos, ◌+ℤ◌, ◌-ℤ◌, ◌*ℤ◌}
+use Rattle.std.specs.Prelude.{ℕ, cond, List, ℤ, pos, ◌+ℤ◌, ◌-ℤ◌, ◌*ℤ◌}
 use Rattle.whole.specs.{Lists.listed, Sums.dot, Sums.squares, Sums.vector}
 use Rattle.pass_pair.specs.declared.Pair.{Pair}
 use Rattle.figures.specs.{declared.Figure.Figure, Figure.angle_count, Figure.pole, Figure.side, Figure.has_side}

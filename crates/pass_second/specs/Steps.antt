@@ -1,5 +1,5 @@
 -- What the steps of the second pass give, from the sums of both sine conditions and the reduced coefficients a and b.
-use Rattle.vocabulary.specs.{ℕ, ◌^◌, ◌≤◌, cond, List, [], ◌∷◌, ◌≡◌, eqb, ℤ, pos, neg_ℤ, nat_abs, ◌*ℤ◌, length}
+use Rattle.std.specs.Prelude.{ℕ, ◌^◌, ◌≤◌, cond, List, [], ◌∷◌, ◌≡◌, eqb, ℤ, pos, neg_ℤ, nat_abs, ◌*ℤ◌, length}
 use Rattle.whole.specs.{Lists.listed, Quotient.rounded_quotient, Sums.vector}
 use Rattle.wide.specs.Wide.{value_of}
 use Rattle.wide_words.specs.Words.{high_word, low_word}

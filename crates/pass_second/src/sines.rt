@@ -21,14 +21,14 @@ use refusals::{Refusal, Verdict, first_to_fail};
 use wide::Size;
 
 // Of a sine condition, by the signs of its angles: its W without known sides, the sum of its squared reduced coefficients, and that of d².
-#[derive(Drop)]
+#[derive(Clone, Copy)]
 pub(crate) struct Sines {
     pub misclosure: i64,
     pub squares: i64,
     pub difference_squares: i64,
 }
 
-#[derive(Drop)]
+#[derive(Clone, Copy)]
 struct SignedSums {
     misclosure: i64,
     difference_squares: i64,

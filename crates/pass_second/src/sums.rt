@@ -17,7 +17,7 @@ use pass_pair::{Pair, pair_factors};
 use wide::Size;
 
 // [AA], [AB], [BB] and both misclosures, and the sum of d² of each condition.
-#[derive(Drop)]
+#[derive(Clone, Copy)]
 pub(crate) struct Sums {
     pub pair: Pair,
     pub difference_squares: i64,

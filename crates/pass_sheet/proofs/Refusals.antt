@@ -1,5 +1,6 @@
 -- What a sheet worked through is turned back with: the first row that holds of the reader's order and then its pass's. Assumes nothing.
-use Rattle.vocabulary.specs.{ℕ, List, [], ◌++◌, ◌≡◌, refl, sym, ap, ◌∙◌, T}
+use Rattle.std.specs.Prelude.{ℕ, List, [], ◌++◌, ◌≡◌, refl, T}
+use Rattle.vocabulary.specs.{sym, ap, ◌∙◌}
 use Rattle.refusals.specs.{declared.Verdict.Verdict, declared.Verdict.TheVariants.Passed, declared.Verdict.TheVariants.Failed}
 use Rattle.refusals.specs.{Numbers.told, Numbers.verdict_told, Order.Row, Order.all_in_table, Order.judged}
 use Rattle.refusals.proofs.InSteps.{judged_after_pass, judged_after_failure}

@@ -1,5 +1,6 @@
 -- How many values of each sort a sheet has at most. Assumes nothing.
-use Rattle.vocabulary.specs.{◌≤◌, leb, leb→le}
+use Rattle.std.specs.Prelude.{◌≤◌, leb}
+use Rattle.vocabulary.specs.{leb→le}
 use Rattle.figures.specs.{declared.Figure.Figure, Numerators.most_angles, Numerators.most_fixed, Numerators.most_sides}
 use Rattle.figures.proofs.Figures.{angle_bound}
 use Rattle.sheet_layout.specs.{declared.Kind.Kind, Layout.lengths_of}

@@ -1,5 +1,6 @@
 -- From what a pass promises to the text of its sheet. Assumes nothing.
-use Rattle.vocabulary.specs.{Bool, true, false, ◌≡◌, sym, ap, ◌∙◌, subst, List, ◌∷◌, ℕ, ◌/◌, ◌%◌, ◌^◌, T, ℤ, pos, nat_abs, length}
+use Rattle.std.specs.Prelude.{Bool, true, false, ◌≡◌, List, ◌∷◌, ℕ, ◌/◌, ◌%◌, ◌^◌, T, ℤ, pos, nat_abs, length}
+use Rattle.vocabulary.specs.{sym, ap, ◌∙◌, subst}
 use Rattle.whole.specs.Sums.{vector, naturals}
 use Rattle.whole.proofs.Order.{natural}
 use Rattle.wide.specs.Wide.{radix}

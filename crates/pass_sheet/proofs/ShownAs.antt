@@ -1,6 +1,7 @@
 -- A sheet worked through is shown in one of three ways: as a worked figure of either kind, whose order has passed, or as a refusal. Assumes
 -- nothing.
-use Rattle.vocabulary.specs.{ℕ, List, [], ◌⊎◌, inl, inr, ◌≡◌, refl, sym, ap, subst}
+use Rattle.std.specs.Prelude.{ℕ, List, [], ◌⊎◌, ◌≡◌, refl}
+use Rattle.vocabulary.specs.{inl, inr, sym, ap, subst}
 use Rattle.refusals.specs.{declared.Refusal.Refusal, declared.Verdict.Verdict, Order.judged}
 use Rattle.refusals.specs.declared.Verdict.TheVariants.{Passed, Failed}
 use Rattle.figures.specs.declared.Figure.{Figure}

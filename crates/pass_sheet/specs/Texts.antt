@@ -1,5 +1,5 @@
 -- The text of a worked sheet: document 01, "Sheets worked through". Its lines, or its refusal.
-use Rattle.vocabulary.specs.{List, ℕ}
+use Rattle.std.specs.Prelude.{List, ℕ}
 use Rattle.whole.specs.Sums.{vector, naturals}
 use Rattle.lines.specs.Lines.{first_text, second_text, refused_text}
 use Rattle.pass_sheet.specs.Worked.{Outcome, First, Second, WorkedSheet, worked_of}

@@ -1,5 +1,5 @@
 -- A sheet worked through.
-use Rattle.vocabulary.specs.{ℕ, List, [], ◌∷◌, ◌++◌, ℤ, length}
+use Rattle.std.specs.Prelude.{ℕ, List, [], ◌∷◌, ◌++◌, ℤ, length}
 use Rattle.refusals.specs.{declared.Refusal.Refusal, declared.Verdict.Verdict, Numbers.Told, Numbers.told, Numbers.refusal_told}
 use Rattle.refusals.specs.{declared.Verdict.TheVariants.Passed, declared.Verdict.TheVariants.Failed, Order.Row, Order.judged}
 use Rattle.whole.specs.Lists.{listed}

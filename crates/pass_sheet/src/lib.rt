@@ -1,5 +1,7 @@
 // A sheet worked through, straight to its lines: document 01, "Sheets worked through". Looked at and read once, then worked by the pass of
 // its kind, and its lines laid from what was read and worked.
+#![tactic(auto)]
+
 ghost use Rattle.text.specs.Holds.{Holds};
 ghost use Rattle.pass_rules.specs.SecondPass.{sine_entries};
 ghost use Rattle.pass_sheet.specs.Texts.{text_of, worked_text};

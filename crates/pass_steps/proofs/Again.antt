@@ -1,5 +1,5 @@
 -- What `Lending` says of one part, as one fact, for whoever lends several to a pass. Assumes nothing.
-use Rattle.vocabulary.specs.{◌≡◌, List, ◌++◌, ℕ, ◌≤◌, length, take, drop}
+use Rattle.std.specs.Prelude.{◌≡◌, List, ◌++◌, ℕ, ◌≤◌, length, take, drop}
 use Rattle.whole.proofs.Lending.{part_again, still_few, again_length}
 
 pub record Again {A : Type 0} (n : ℕ) (whole part : List A) : Type 0 where

@@ -1,5 +1,6 @@
 -- Rows that are applied part by part. Assumes nothing.
-use Rattle.vocabulary.specs.{List, ◌≡◌, sym, ap, ◌∙◌, ℕ, ◌≤◌, arith, ℤ, length, take, take_all, take-take}
+use Rattle.std.specs.Prelude.{List, ◌≡◌, ℕ, ◌≤◌, ℤ, length, take}
+use Rattle.vocabulary.specs.{sym, ap, ◌∙◌, arith, take_all, take-take}
 use Rattle.whole.specs.Lists.{listed}
 use Rattle.whole.proofs.Lists.{length_listed}
 use Rattle.pass_steps.specs.Steps.{AppliedTo}

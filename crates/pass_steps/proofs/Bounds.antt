@@ -1,6 +1,7 @@
 -- How large the numbers of the work can be, of every figure at once. Assumes nothing.
-use Rattle.vocabulary.specs.{sym, ap, subst, Bool, List, [], ◌∷◌, ℕ, zero, suc, ◌*◌, ◌≤◌, ◌<◌, zero-le, le_trans, le_of_lt, mul-le-mul}
-use Rattle.vocabulary.specs.{mul-le-mul_right, dec_lt, arith, T, ltb, ltb→lt, lit<, length, get_or, list-get_or_eq_default, ℤ, nat_abs, ◌*ℤ◌}
+use Rattle.std.specs.Prelude.{Bool, List, [], ◌∷◌, ℕ, zero, suc, ◌*◌, ◌≤◌, ◌<◌, T, ltb, length, get_or, ℤ, nat_abs, ◌*ℤ◌}
+use Rattle.vocabulary.specs.{sym, ap, subst, zero-le, le_trans, le_of_lt, mul-le-mul, mul-le-mul_right, dec_lt, arith, ltb→lt, lit<}
+use Rattle.vocabulary.specs.{list-get_or_eq_default}
 use Rattle.whole.specs.{Lists.every, Sums.dot, Sums.applied, Sums.table, Sums.vector}
 use Rattle.whole.proofs.{Computed.and_left, Computed.and_right, Magnitudes.nat_abs_add, Magnitudes.nat_abs_mul, Sums.sum_magnitude}
 use Rattle.figures.specs.declared.Figure.{Figure}

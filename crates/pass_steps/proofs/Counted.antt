@@ -1,6 +1,7 @@
 -- The counts of a figure as its table gives them: what they are, and that the arrays of the longest figure can lend so many. Assumes
 -- nothing.
-use Rattle.vocabulary.specs.{◌≡◌, ap, ◌≤◌, arith, pos, length, take, replicate}
+use Rattle.std.specs.Prelude.{◌≡◌, ◌≤◌, pos, length, take, replicate}
+use Rattle.vocabulary.specs.{ap, arith}
 use Rattle.figures.specs.{declared.Counts.Counts, declared.Figure.Figure, Figure.angle_count, Figure.condition_count, Figure.counts_of}
 use Rattle.figures.proofs.Figures.{angle_bound, condition_bound}
 use Rattle.whole.proofs.Lending.{lent_length}

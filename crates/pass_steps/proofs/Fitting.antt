@@ -1,5 +1,6 @@
 -- What a step gives where what is lent to it fits, and leaves where it does not. Assumes nothing.
-use Rattle.vocabulary.specs.{Bool, cond, List, ◌≡◌, sym, ap, ap₂, ◌∙◌, ℕ, eq-eqb, ne_eqb, eqb, length}
+use Rattle.std.specs.Prelude.{Bool, cond, List, ◌≡◌, ℕ, eqb, length}
+use Rattle.vocabulary.specs.{sym, ap, ap₂, ◌∙◌, eq-eqb, ne_eqb}
 use Rattle.refusals.specs.{declared.Verdict.Verdict, declared.Verdict.TheVariants.Passed, declared.Verdict.TheVariants.Failed}
 use Rattle.refusals.specs.Promise.{stored}
 use Rattle.pass_steps.specs.Steps.{fitting, same_length}

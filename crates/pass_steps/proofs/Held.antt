@@ -1,6 +1,6 @@
 -- What is held of a number, and that every sum over a condition of small numbers is. Assumes nothing.
-use Rattle.vocabulary.specs.{Bool, true, false, cond, List, ◌≡◌, sym, ap, ◌∙◌, subst, ℕ, ◌≤◌, ◌<◌, le_trans, arith, lt-ltb, le-ltb}
-use Rattle.vocabulary.specs.{ltb-true, ltb-false, T, lit≤, ℤ, pos, negsuc, nat_abs, length, lt_z}
+use Rattle.std.specs.Prelude.{Bool, true, false, cond, List, ◌≡◌, ℕ, ◌≤◌, ◌<◌, T, ℤ, pos, negsuc, nat_abs, length}
+use Rattle.vocabulary.specs.{sym, ap, ◌∙◌, subst, le_trans, arith, lt-ltb, le-ltb, ltb-true, ltb-false, lit≤, lt_z}
 use Rattle.whole.specs.{Lists.listed, Sums.vector}
 use Rattle.whole.proofs.Lists.{listed_ext}
 use Rattle.figures.specs.{declared.Figure.Figure, Figure.angle_count, Figure.condition_count, Numerators.condition_sum}

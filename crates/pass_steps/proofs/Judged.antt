@@ -1,7 +1,8 @@
 -- What numbers 2, 6 and 7 say where they passed, and that they pass; and what is stored by a verdict. Assumes nothing.
-use Rattle.vocabulary.specs.{Bool, false, not, ◌||◌, ◌≡◌, sym, ap, ap₂, ◌∙◌, subst, List, [], ◌∷◌, ℕ, zero, suc, ◌≤◌, ◌<◌, zero-le, dec_lt}
-use Rattle.vocabulary.specs.{le_of_suc-le-suc, not-suc-le-zero, arith, leb→le, le→leb, ℤ, pos, negsuc, neg_ℤ, nat_abs, length}
-use Rattle.vocabulary.specs.{list-get_or_eq_default, ◌≤ℤ◌}
+use Rattle.std.specs.Prelude.{Bool, false, not, ◌||◌, ◌≡◌, List, [], ◌∷◌, ℕ, zero, suc, ◌≤◌, ◌<◌, ℤ, pos, negsuc, neg_ℤ, nat_abs, length}
+use Rattle.std.specs.Prelude.{◌≤ℤ◌}
+use Rattle.vocabulary.specs.{sym, ap, ap₂, ◌∙◌, subst, zero-le, dec_lt, le_of_suc-le-suc, not-suc-le-zero, arith, leb→le, le→leb}
+use Rattle.vocabulary.specs.{list-get_or_eq_default}
 use Rattle.whole.specs.Sums.{vector}
 use Rattle.refusals.specs.{declared.Refusal.Refusal, declared.Verdict.Verdict, Numbers.numbered, Numbers.refusal_of, Promise.stored}
 use Rattle.refusals.specs.{declared.Verdict.TheVariants.Passed, declared.Verdict.TheVariants.Failed, Ranges.least_angle, Ranges.most_angle}

@@ -1,5 +1,6 @@
 -- A number of 64 bits that is small enough is read from 32 as it was. Assumes nothing.
-use Rattle.vocabulary.specs.{◌≡◌, ap, ◌∙◌, lt_of_le_of_lt, ◌≤◌, lit<, ℤ, nat_abs, w32, w64, SFits, to_z, of_z, to_z_of_z_at}
+use Rattle.std.specs.Prelude.{◌≡◌, ◌≤◌, ℤ, nat_abs}
+use Rattle.vocabulary.specs.{ap, ◌∙◌, lt_of_le_of_lt, lit<, w32, w64, SFits, to_z, of_z, to_z_of_z_at}
 use Rattle.whole.proofs.Magnitudes.{magnitude_fits}
 use Rattle.pass_steps.specs.Premises.{most_rounded}
 

@@ -1,6 +1,8 @@
 -- The figures that the arms of a match take together: those of code 2, and those of code 3 in the last arm. Assumes nothing.
-use Rattle.vocabulary.specs.{List, [], ◌∷◌, ◌≡◌, refl, ℕ, tag_of, T, OneOf, miss}
-use Rattle.figures.proofs.{Figure.the_type, Families.is_point_inside, Families.is_polygon}
+use Rattle.std.specs.Prelude.{List, [], ◌∷◌, ◌≡◌, refl, ℕ, T}
+use Rattle.vocabulary.specs.{tag_of, OneOf, miss}
+use Rattle.figures.specs.contracts.Figure.{the_type}
+use Rattle.figures.proofs.{Families.is_point_inside, Families.is_polygon}
 use Rattle.figures.specs.declared.Figure.{Figure}
 use Rattle.figures.specs.declared.Figure.TheVariants.{Quadrilateral, PointInTriangle, PointInQuadrilateral, CentralTriangle, CentralQuadrilateral, CentralPentagon, CentralHexagon, CentralHeptagon, CentralOctagon}
 use Rattle.pass_steps.specs.Premises.{has_five}

@@ -1,7 +1,7 @@
 -- What is listed by a rule is the rule within the list; and a sum over a condition and a numerator look only at the figure's own angles
 -- and conditions. Assumes nothing.
-use Rattle.vocabulary.specs.{◌≡◌, refl, sym, ap, ap₂, ◌∙◌, subst, List, [], ◌∷◌, ℕ, zero, suc, ◌≤◌, ◌<◌, zero-le, dec_lt, arith, T, leb}
-use Rattle.vocabulary.specs.{leb→le, ℤ, pos, nat_abs, ◌+ℤ◌, length, list-get_or_eq_default}
+use Rattle.std.specs.Prelude.{◌≡◌, refl, List, [], ◌∷◌, ℕ, zero, suc, ◌≤◌, ◌<◌, T, leb, ℤ, pos, nat_abs, ◌+ℤ◌, length}
+use Rattle.vocabulary.specs.{sym, ap, ap₂, ◌∙◌, subst, zero-le, dec_lt, arith, leb→le, list-get_or_eq_default}
 use Rattle.whole.specs.{Lists.listed, Lists.every, Sums.table, Sums.vector}
 use Rattle.whole.proofs.{Computed.and_left, Computed.and_right, Lists.length_listed, Lists.get_or_listed, Lists.listed_ext, Sums.applied_ext}
 use Rattle.figures.specs.{declared.Figure.Figure, Figure.description, Figure.angle_count, Figure.condition_count, Figure.members_of}

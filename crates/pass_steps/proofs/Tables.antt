@@ -1,5 +1,6 @@
 -- A table brought to one size and filled with 0 gives the numerators of the natural table, of every figure at once. Assumes nothing.
-use Rattle.vocabulary.specs.{◌≡◌, sym, ap, ◌∙◌, subst, List, [], map, ℕ, ◌≤◌, ◌<◌, lt_of_lt_of_le, get_or, list-get_or_map, ℤ, pos}
+use Rattle.std.specs.Prelude.{◌≡◌, List, [], map, ℕ, ◌≤◌, ◌<◌, get_or, ℤ, pos}
+use Rattle.vocabulary.specs.{sym, ap, ◌∙◌, subst, lt_of_lt_of_le, list-get_or_map}
 use Rattle.whole.specs.{Lists.listed, Lists.padded, Sums.applied, Sums.table, Sums.vector}
 use Rattle.whole.proofs.{Lists.length_padded, Lists.get_or_padded, Lists.get_d_any, Lists.listed_ext, Sums.applied_rows}
 use Rattle.figures.specs.{declared.Figure.Figure, Figure.description, Figure.angle_count, Figure.condition_count}

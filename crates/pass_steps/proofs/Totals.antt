@@ -1,6 +1,6 @@
 -- A total that a loop adds up, term by term, within its width. Assumes nothing.
-use Rattle.vocabulary.specs.{◌≡◌, ap₂, ◌∙◌, ℕ, ◌+◌, ◌*◌, ◌^◌, ◌≤◌, ◌<◌, lt_of_le_of_lt, arith, ℤ, nat_abs, ◌+ℤ◌, Width, SFits, to_z, of_z}
-use Rattle.vocabulary.specs.{hbits, to_z-of_z}
+use Rattle.std.specs.Prelude.{◌≡◌, ℕ, ◌+◌, ◌*◌, ◌^◌, ◌≤◌, ◌<◌, ℤ, nat_abs, ◌+ℤ◌}
+use Rattle.vocabulary.specs.{ap₂, ◌∙◌, lt_of_le_of_lt, arith, Width, SFits, to_z, of_z, hbits, to_z-of_z}
 use Rattle.whole.specs.Sums.{sum}
 use Rattle.whole.proofs.{Magnitudes.nat_abs_add, Magnitudes.magnitude_fits, Sums.sum_more}
 

@@ -1,5 +1,5 @@
 -- What the steps of the work ask of what they take, so that no sum and no product passes its width.
-use Rattle.vocabulary.specs.{ℕ, ◌+◌, ◌*◌, ◌^◌, ◌≤◌, ◌<◌, Bool, ◌&&◌, List, eqb, leb, get_or, ℤ, nat_abs}
+use Rattle.std.specs.Prelude.{ℕ, ◌+◌, ◌*◌, ◌^◌, ◌≤◌, ◌<◌, Bool, ◌&&◌, List, eqb, leb, get_or, ℤ, nat_abs}
 use Rattle.whole.specs.Sums.{vector}
 use Rattle.refusals.specs.Ranges.{most_log_sine, most_difference}
 use Rattle.figures.specs.{declared.Figure.Figure, Figure.description, Numerators.most_conditions, Numerators.most_members}

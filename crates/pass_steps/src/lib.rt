@@ -1,5 +1,7 @@
 // The steps that both passes share: document 01, "The two passes". Each is lent what it works on and answers every input: where a count is
 // not the figure's own, nothing changes.
+#![tactic(auto)]
+
 mod conditions;
 mod numerators;
 mod results;

@@ -1,5 +1,6 @@
 -- The answer of a list of tests: of one, of two parts, and when every test passes. Assumes nothing.
-use Rattle.vocabulary.specs.{ℕ, List, [], ◌∷◌, ◌++◌, ◌↔◌, ◌≡◌, refl, sym, arith}
+use Rattle.std.specs.Prelude.{ℕ, List, [], ◌∷◌, ◌++◌, ◌↔◌, ◌≡◌, refl}
+use Rattle.vocabulary.specs.{sym, arith}
 use Rattle.refusals.specs.{declared.Verdict.Verdict, declared.Verdict.TheVariants.Passed, declared.Verdict.TheVariants.Failed}
 use Rattle.refusals.specs.Order.{answer_of}
 

@@ -1,8 +1,8 @@
 -- What a question asks is computed: `asked` is true exactly if its case holds. Assumes nothing.
-use Rattle.vocabulary.specs.{ℕ, zero, suc, ◌≤◌, ◌<◌, zero-le, suc-le-suc, Bool, true, false, not, ◌||◌, true≢false, false≢true, List, []}
-use Rattle.vocabulary.specs.{◌∷◌, ◌↔◌, ◌⊎◌, inl, inr, ⊎_elim, ◌≡◌, refl, sym, ap, subst, ◌∙◌, dec_lt, le_of_suc-le-suc, not-suc-le-zero}
-use Rattle.vocabulary.specs.{arith, ltb-true, lt-ltb, eqb-true, eq-eqb, not-true, T, eqb, ℤ, pos, negsuc, nat_abs, length, get_or, lt_z, ◌≤ℤ◌}
-use Rattle.vocabulary.specs.{◌<ℤ◌, lt_z_yes, lt_z_no, clash_ℤ}
+use Rattle.std.specs.Prelude.{ℕ, zero, suc, ◌≤◌, ◌<◌, Bool, true, false, not, ◌||◌, List, [], ◌∷◌, ◌↔◌, ◌⊎◌, ◌≡◌, refl, T, eqb, ℤ, pos}
+use Rattle.std.specs.Prelude.{negsuc, nat_abs, length, get_or, ◌≤ℤ◌, ◌<ℤ◌}
+use Rattle.vocabulary.specs.{zero-le, suc-le-suc, true≢false, false≢true, inl, inr, ⊎_elim, sym, ap, subst, ◌∙◌, dec_lt, le_of_suc-le-suc}
+use Rattle.vocabulary.specs.{not-suc-le-zero, arith, ltb-true, lt-ltb, eqb-true, eq-eqb, not-true, lt_z, lt_z_yes, lt_z_no, clash_ℤ}
 use Rattle.refusals.specs.Questions.{Question, less, less_signed, unequal, differ, none_of, is_zero, some_one, either, some_at, Holds, IsNoneOf, asked, same_numbers, among, any_one, any_place}
 use Rattle.refusals.proofs.NumberLists.{same_lists, same_itself}
 

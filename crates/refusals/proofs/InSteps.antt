@@ -1,6 +1,7 @@
 -- How the code answers an order: one row after the other, each by its own promise, or one part of the order after the other. Assumes
 -- nothing.
-use Rattle.vocabulary.specs.{List, [], ◌∷◌, ◌++◌, map, map-append, ◌≡◌, sym, ap, ap₂, ◌∙◌}
+use Rattle.std.specs.Prelude.{List, [], ◌∷◌, ◌++◌, map, ◌≡◌}
+use Rattle.vocabulary.specs.{map-append, sym, ap, ap₂, ◌∙◌}
 use Rattle.refusals.specs.{declared.Refusal.Refusal, declared.Verdict.Verdict}
 use Rattle.refusals.specs.declared.Verdict.TheVariants.{Passed, Failed}
 use Rattle.refusals.specs.Order.{Row, answer_of, verdict_of, judged}

@@ -1,6 +1,7 @@
 -- What it says of the values that a row holds nowhere: they are as the table wants them. Assumes nothing.
-use Rattle.vocabulary.specs.{ℕ, zero, suc, ◌*◌, ◌≤◌, ◌<◌, zero-le, suc-le-suc, false, List, [], inl, inr, ◌≡◌, refl, dec_lt, arith}
-use Rattle.vocabulary.specs.{not-false, leb→le, ℤ, pos, negsuc, neg_ℤ, nat_abs, ◌*ℤ◌, length, get_or, list-get_or_eq_default, ◌≤ℤ◌}
+use Rattle.std.specs.Prelude.{ℕ, zero, suc, ◌*◌, ◌≤◌, ◌<◌, false, List, [], ◌≡◌, refl, ℤ, pos, negsuc, neg_ℤ, nat_abs, ◌*ℤ◌, length, get_or}
+use Rattle.std.specs.Prelude.{◌≤ℤ◌}
+use Rattle.vocabulary.specs.{zero-le, suc-le-suc, inl, inr, dec_lt, arith, not-false, leb→le, list-get_or_eq_default}
 use Rattle.refusals.specs.{Numbers.numbered, Order.row, Order.row_at, Order.HoldsNowhere}
 use Rattle.refusals.specs.Questions.{Question, less_signed, unequal, differ, outside, outside_signed, Holds, asked, same_numbers}
 use Rattle.refusals.specs.Ranges.{least_angle, most_angle, least_log_sine, most_log_sine, most_difference, least_rounds}

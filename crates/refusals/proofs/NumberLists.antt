@@ -1,6 +1,6 @@
 -- Lists of numbers, compared and added up one by one. Assumes nothing.
-use Rattle.vocabulary.specs.{◌≡◌, refl, sym, ap, ap₂, ◌∙◌, Bool, true, false, ◌&&◌, false≢true, List, [], ◌∷◌, ℕ, suc, ◌+◌, ◌<◌, add-one}
-use Rattle.vocabulary.specs.{eqb-true, eq-eqb, ne_eqb, eqb, length, get_or, drop, drop-cons, drop-length}
+use Rattle.std.specs.Prelude.{◌≡◌, refl, Bool, true, false, ◌&&◌, List, [], ◌∷◌, ℕ, suc, ◌+◌, ◌<◌, eqb, length, get_or, drop}
+use Rattle.vocabulary.specs.{sym, ap, ap₂, ◌∙◌, false≢true, add-one, eqb-true, eq-eqb, ne_eqb, drop-cons, drop-length}
 use Rattle.refusals.specs.{Questions.same_numbers, Table.sum_of_all}
 
 and-false : (a : Bool) {b : Bool} → b ≡ false → (a && b) ≡ false

@@ -1,5 +1,6 @@
 -- Two results that one promise allows are equal, with everything lent. Assumes nothing.
-use Rattle.vocabulary.specs.{◌≡◌, refl, ◌∙⁻¹◌}
+use Rattle.std.specs.Prelude.{◌≡◌, refl}
+use Rattle.vocabulary.specs.{◌∙⁻¹◌}
 use Rattle.refusals.specs.Promise.{Promised}
 
 pub one_result : {R L : Type 0} {answer : R} {left : L} {r r' : R} {exit exit' : L}

@@ -1,5 +1,6 @@
 -- No order answers a place past the most that its rows have. Assumes nothing.
-use Rattle.vocabulary.specs.{ℕ, ◌≤◌, zero-le, List, [], ◌∷◌, ⊎_elim, refl, sym, subst, le_trans, T}
+use Rattle.std.specs.Prelude.{ℕ, ◌≤◌, List, [], ◌∷◌, refl, T}
+use Rattle.vocabulary.specs.{zero-le, ⊎_elim, sym, subst, le_trans}
 use Rattle.refusals.specs.Numbers.{verdict_told}
 use Rattle.refusals.specs.Order.{Row, row, row_at, HoldsNowhere, Answers, all_in_table, judged}
 use Rattle.refusals.proofs.Rows.{answers_exactly}

@@ -1,7 +1,7 @@
 -- A search for the lowest place says p exactly if the test fails at p and at no lower place, and says that there is none exactly if it
 -- fails at no place. By induction over the count of places; what a search says of the places determines its answer.
-use Rattle.vocabulary.specs.{ℕ, zero, suc, ◌≤◌, ◌<◌, Bool, true, false, true≢false, ◌↔◌, ⊎_elim, ◌≡◌, refl, sym, ap, subst, ◌∙◌}
-use Rattle.vocabulary.specs.{eq-or-lt_of_le, arith}
+use Rattle.std.specs.Prelude.{ℕ, zero, suc, ◌≤◌, ◌<◌, Bool, true, false, ◌↔◌, ◌≡◌, refl}
+use Rattle.vocabulary.specs.{true≢false, ⊎_elim, sym, ap, subst, ◌∙◌, eq-or-lt_of_le, arith}
 use Rattle.refusals.specs.{declared.Lowest.Lowest, declared.Lowest.TheVariants.Nowhere, declared.Lowest.TheVariants.At}
 use Rattle.refusals.specs.Order.{lowest_place, or_here}
 

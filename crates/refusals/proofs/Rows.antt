@@ -1,8 +1,8 @@
 -- The law of every order: number k at place p is answered if and only if its row holds at p, at no lower place, and no row before it
 -- holds anywhere; the operation is done if and only if no row holds; and no number is given that does not stand in the order. Assumes
 -- nothing.
-use Rattle.vocabulary.specs.{ℕ, zero, suc, ◌≤◌, ◌<◌, Bool, true, false, cond, ◌&&◌, List, [], ◌∷◌, map, ◌↔◌, ◌⊎◌, inl, inr, ⊎_elim, ◌≡◌}
-use Rattle.vocabulary.specs.{refl, sym, ap, ap₂, subst, ◌∙◌, arith, T, eqb, eqb→eq, list-get_or_map}
+use Rattle.std.specs.Prelude.{ℕ, zero, suc, ◌≤◌, ◌<◌, Bool, true, false, cond, ◌&&◌, List, [], ◌∷◌, map, ◌↔◌, ◌⊎◌, ◌≡◌, refl, T, eqb}
+use Rattle.vocabulary.specs.{inl, inr, ⊎_elim, sym, ap, ap₂, subst, ◌∙◌, arith, eqb→eq, list-get_or_map}
 use Rattle.refusals.specs.{declared.Refusal.Refusal, declared.Verdict.Verdict, declared.Lowest.Lowest}
 use Rattle.refusals.specs.declared.Verdict.TheVariants.{Passed, Failed}
 use Rattle.refusals.specs.{declared.Lowest.TheVariants.Nowhere, declared.Lowest.TheVariants.At, Questions.Question, Questions.asked}

@@ -1,6 +1,6 @@
 -- The table of document 01, "Numbers given when a sheet is turned back", with what document 02 adds to it: the number of each refusal,
 -- and its place.
-use Rattle.vocabulary.specs.{ℕ, zero, suc, List, [], ◌∷◌, get_or}
+use Rattle.std.specs.Prelude.{ℕ, zero, suc, List, [], ◌∷◌, get_or}
 use Rattle.refusals.specs.{declared.Refusal.Refusal, declared.Verdict.Verdict}
 use Rattle.refusals.specs.declared.Verdict.TheVariants.{Passed, Failed}
 

@@ -1,7 +1,7 @@
 -- How an operation answers: document 01, "Numbers given when a sheet is turned back". Its order is one list of rows, each with its number
 -- and its stated case. The first row that holds anywhere is answered, at its lowest place. Places are counted from 1, as the paper counts
 -- angles and conditions; a row without a place has place 0.
-use Rattle.vocabulary.specs.{ℕ, zero, suc, ◌≤◌, ◌<◌, Bool, true, false, ◌&&◌, List, [], ◌∷◌, map, ◌⊎◌, ◌≡◌, eqb}
+use Rattle.std.specs.Prelude.{ℕ, zero, suc, ◌≤◌, ◌<◌, Bool, true, false, ◌&&◌, List, [], ◌∷◌, map, ◌⊎◌, ◌≡◌, eqb}
 use Rattle.refusals.specs.{declared.Refusal.Refusal, declared.Verdict.Verdict, declared.Lowest.Lowest}
 use Rattle.refusals.specs.declared.Verdict.TheVariants.{Passed, Failed}
 use Rattle.refusals.specs.declared.Lowest.TheVariants.{Nowhere, At}

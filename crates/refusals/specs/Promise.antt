@@ -1,6 +1,6 @@
 -- What a call promises: what it answers, and what everything lent to it holds in the end. Every promise is an instance of this, so that
 -- two results which one promise allows are equal by one law, `one_result` (proofs/OneResult.antt).
-use Rattle.vocabulary.specs.{◌≡◌}
+use Rattle.std.specs.Prelude.{◌≡◌}
 use Rattle.refusals.specs.{declared.Verdict.Verdict, declared.Verdict.TheVariants.Passed, declared.Verdict.TheVariants.Failed}
 
 pub record Promised {R L : Type 0} (answer : R) (left : L) (result : R) (exit : L) : Type 0 where

@@ -1,8 +1,9 @@
 -- What the table asks: document 01, "Numbers given when a sheet is turned back", the column "Given when". A question is data: `Holds`
 -- says what it means that its case holds, and `asked` computes whether it does. That the two agree is one law, `decided`
 -- (proofs/Decided.antt).
-use Rattle.vocabulary.specs.{ℕ, zero, suc, ◌≤◌, ◌<◌, Bool, true, false, not, ◌||◌, ◌&&◌, List, [], ◌∷◌, ◌⊎◌, ◌≡◌, eqb, ltb, ℤ, pos, nat_abs}
-use Rattle.vocabulary.specs.{length, get_or, lt_z, ◌<ℤ◌}
+use Rattle.std.specs.Prelude.{ℕ, zero, suc, ◌≤◌, ◌<◌, Bool, true, false, not, ◌||◌, ◌&&◌, List, [], ◌∷◌, ◌⊎◌, ◌≡◌, eqb, ltb, ℤ, pos}
+use Rattle.std.specs.Prelude.{nat_abs, length, get_or, ◌<ℤ◌}
+use Rattle.vocabulary.specs.{lt_z}
 
 pub data Question : Type 0 where
   -- a number is less than another; the same of signed numbers

@@ -1,5 +1,5 @@
 -- The ranges of document 01, "Units and ranges". Both ends are inside.
-use Rattle.vocabulary.specs.{ℕ}
+use Rattle.std.specs.Prelude.{ℕ}
 
 -- angle, in tenths of an arc second
 abbrev pub least_angle : ℕ

@@ -1,5 +1,5 @@
 -- The rows of the table, each once: document 01, "Numbers given when a sheet is turned back". An operation's order is a list of these.
-use Rattle.vocabulary.specs.{ℕ, ◌+◌, ◌*◌, Bool, cond, List, [], ◌∷◌, eqb, ℤ, pos, neg_ℤ, ◌*ℤ◌, length}
+use Rattle.std.specs.Prelude.{ℕ, ◌+◌, ◌*◌, Bool, cond, List, [], ◌∷◌, eqb, ℤ, pos, neg_ℤ, ◌*ℤ◌, length}
 use Rattle.refusals.specs.{Numbers.numbered, Order.Row, Order.row, Order.row_at}
 use Rattle.refusals.specs.Questions.{Question, less, less_signed, unequal, differ, none_of, is_zero, some_one, either, some_at, outside, outside_signed}
 use Rattle.refusals.specs.Ranges.{least_angle, most_angle, least_log_sine, most_log_sine, most_difference, least_rounds}

@@ -1,6 +1,8 @@
 // The numbers given when a sheet is turned back, with their places, and the order in which an operation's tests are
 // answered (document 01, "Numbers given when a sheet is turned back"). Places are counted from 1, as the paper counts
 // angles, fixed angles and conditions.
+#![tactic(auto)]
+
 ghost use Rattle.std.specs.Prelude.{◌≡◌, [], ◌∷◌};
 ghost use Rattle.refusals.specs.Numbers.{number_of, place_of};
 ghost use Rattle.refusals.specs.Order.{answer_of};
@@ -13,7 +15,7 @@ pub use units::{
 };
 
 // Why a sheet is turned back: a case for each row of the table, in its order, with the place where the table has one.
-#[derive(Drop)]
+#[derive(Clone, Copy)]
 pub enum Refusal {
     // 1: code and n name no figure.
     NoSuchFigure,
@@ -50,14 +52,14 @@ pub enum Refusal {
 }
 
 // What a test says.
-#[derive(Drop)]
+#[derive(Clone, Copy)]
 pub enum Verdict {
     Passed,
     Failed(Refusal),
 }
 
 // What a search says: the lowest place at which a test fails.
-#[derive(Drop)]
+#[derive(Clone, Copy)]
 pub enum Lowest {
     Nowhere,
     At(usize),

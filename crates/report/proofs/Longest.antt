@@ -1,7 +1,7 @@
 -- No bytes have a longer text than `longest_text`: an accepted pass has numbers of few digits, by the passes' theorems, and no refusal a
 -- place past the largest figure's angles. Assumes nothing.
-use Rattle.vocabulary.specs.{◌≡◌, sym, ap, subst, ◌∙◌, List, ⊎_elim, ℕ, ◌^◌, ◌≤◌, ◌<◌, dec_lt, lt_of_le_of_lt, arith, lit<, length, get_or}
-use Rattle.vocabulary.specs.{list-get_or_eq_default, ℤ, pos, nat_abs}
+use Rattle.std.specs.Prelude.{◌≡◌, List, ℕ, ◌^◌, ◌≤◌, ◌<◌, length, get_or, ℤ, pos, nat_abs}
+use Rattle.vocabulary.specs.{sym, ap, subst, ◌∙◌, ⊎_elim, dec_lt, lt_of_le_of_lt, arith, lit<, list-get_or_eq_default}
 use Rattle.whole.specs.{Lists.listed, Sums.vector, Sums.naturals}
 use Rattle.whole.proofs.Lists.{get_or_listed, length_listed}
 use Rattle.refusals.specs.{declared.Refusal.Refusal, Numbers.place_of, Numbers.Told, Numbers.refusal_told, Numbers.verdict_told, Order.judged}

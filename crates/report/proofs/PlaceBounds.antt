@@ -1,6 +1,7 @@
 -- No sheet is turned back at a place past the number of angles of the largest figure, whoever turns it back: the reader, or a pass.
 -- Assumes nothing.
-use Rattle.vocabulary.specs.{ℕ, ◌≤◌, List, [], ◌++◌, le_trans, arith, lit≤, length, length-append}
+use Rattle.std.specs.Prelude.{ℕ, ◌≤◌, List, [], ◌++◌, length}
+use Rattle.vocabulary.specs.{le_trans, arith, lit≤, length-append}
 use Rattle.whole.proofs.Lists.{length_listed}
 use Rattle.refusals.specs.{Order.Row, Order.HoldsNowhere, Table.lengths_row}
 use Rattle.refusals.proofs.PlaceBounds.{PlacesWithin}

@@ -1,7 +1,7 @@
 -- Whether a text that was laid by itself has room in what is lent, told by the position after it; and that 2048 bytes are room for every
 -- text. Assumes nothing.
-use Rattle.vocabulary.specs.{◌≡◌, refl, sym, ap, ◌∙◌, Bool, true, false, List, ◌++◌, ℕ, ◌≤◌, ◌<◌, zero-add, le_trans, arith, le-leb}
-use Rattle.vocabulary.specs.{lt-leb, leb-true, leb, length, take, drop, replicate}
+use Rattle.std.specs.Prelude.{◌≡◌, refl, Bool, true, false, List, ◌++◌, ℕ, ◌≤◌, ◌<◌, leb, length, take, drop, replicate}
+use Rattle.vocabulary.specs.{sym, ap, ◌∙◌, zero-add, le_trans, arith, le-leb, lt-leb, leb-true}
 use Rattle.text.specs.{Text.laid, Holds.Holds}
 use Rattle.text.proofs.Laying.{laid_room, holds_size, holds_length, holds_taken}
 use Rattle.report.specs.declared.reporting.Reported.TheVariants.{Written}

@@ -1,5 +1,5 @@
 -- What the program writes for a sheet: document 01, "Sheets worked through". The lines of the worked sheet, or its refusal.
-use Rattle.vocabulary.specs.{Bool, true, false, List, ◌++◌, ℕ, leb, length, drop}
+use Rattle.std.specs.Prelude.{Bool, true, false, List, ◌++◌, ℕ, leb, length, drop}
 use Rattle.refusals.specs.Promise.{Promised}
 use Rattle.pass_sheet.specs.Texts.{worked_text}
 use Rattle.report.specs.declared.reporting.Reported.{Reported}

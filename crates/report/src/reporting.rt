@@ -8,7 +8,7 @@ use text::put_word;
 pub const LONGEST_TEXT: usize = 2048;
 
 // What became of a text: how many bytes were written, or nothing, for want of room.
-#[derive(Drop)]
+#[derive(Clone, Copy)]
 pub enum Reported {
     Written(usize),
     NoRoom,

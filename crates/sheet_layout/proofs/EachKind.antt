@@ -1,5 +1,5 @@
 -- What every kind passes, every kind and figure pass: tests that antt computes. Assumes nothing.
-use Rattle.vocabulary.specs.{Bool, T}
+use Rattle.std.specs.Prelude.{Bool, T}
 use Rattle.whole.specs.Lists.{every}
 use Rattle.whole.proofs.Computed.{and_left, and_right}
 use Rattle.figures.specs.{declared.Figure.Figure, Figure.all_figures}

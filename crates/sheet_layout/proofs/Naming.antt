@@ -1,6 +1,6 @@
 -- What the numbers of a head name, and what a look answers by its rows. Assumes nothing.
-use Rattle.vocabulary.specs.{ℕ, ◌<◌, ◌≤◌, Bool, true, false, cond, not, ◌&&◌, ◌||◌, List, [], ◌∷◌, map, ◌↔◌, ◌≡◌, refl, sym, ap, ap₂, ◌∙◌}
-use Rattle.vocabulary.specs.{dec_lt, arith, length, lt-ltb, le-ltb, T, eqb, eqb→eq}
+use Rattle.std.specs.Prelude.{ℕ, ◌<◌, ◌≤◌, Bool, true, false, cond, not, ◌&&◌, ◌||◌, List, [], ◌∷◌, map, ◌↔◌, ◌≡◌, refl, length, T, eqb}
+use Rattle.vocabulary.specs.{sym, ap, ap₂, ◌∙◌, dec_lt, arith, lt-ltb, le-ltb, eqb→eq}
 use Rattle.bits.specs.Bits.{field_at}
 use Rattle.refusals.specs.{declared.Refusal.Refusal, declared.Verdict.Verdict, Numbers.verdict_told}
 use Rattle.refusals.specs.declared.Verdict.TheVariants.{Passed, Failed}

@@ -1,5 +1,6 @@
 -- Sizes of sheets, computed over all kinds and figures: document 01, "Packed sheets", and document 02, M-106.
-use Rattle.vocabulary.specs.{ℕ, ◌+◌, ◌*◌, ◌≤◌, ◌<◌, Bool, [], ◌∷◌, map, ◌≡◌, refl, arith, eqb, leb, eqb→eq, leb→le}
+use Rattle.std.specs.Prelude.{ℕ, ◌+◌, ◌*◌, ◌≤◌, ◌<◌, Bool, [], ◌∷◌, map, ◌≡◌, refl, eqb, leb}
+use Rattle.vocabulary.specs.{arith, eqb→eq, leb→le}
 use Rattle.bits.specs.Bits.{total_width, byte_count}
 use Rattle.figures.specs.{declared.Figure.Figure, declared.Counts.Counts, Numerators.most_angles, Numerators.most_sides}
 use Rattle.figures.specs.Figure.{all_figures, angle_count, fixed_count, side_count, counts_of}

@@ -1,6 +1,6 @@
 -- The head of a sheet: document 01, "Packed sheets" and "Numbers given when a sheet is turned back". What its numbers name, and the rows
 -- that reader and writer begin with.
-use Rattle.vocabulary.specs.{ℕ, cond, List, [], ◌∷◌, map, eqb, length}
+use Rattle.std.specs.Prelude.{ℕ, cond, List, [], ◌∷◌, map, eqb, length}
 use Rattle.refusals.specs.{declared.Refusal.Refusal, declared.Verdict.Verdict, Numbers.Told, Numbers.told, Numbers.refusal_told}
 use Rattle.refusals.specs.{declared.Verdict.TheVariants.Passed, declared.Verdict.TheVariants.Failed, Order.Row, Order.judged}
 use Rattle.refusals.specs.Table.{kind_row, figure_row, sheet_short_row}

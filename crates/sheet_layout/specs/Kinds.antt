@@ -1,7 +1,7 @@
 -- The kinds of packed sheets: document 01, "Packed sheets", and document 02, M-102 and M-106. A kind is data: its number, the pass that
 -- it is for and whether each observed angle has its rounds after it, from which its fields follow (specs/Layout.antt), and what L or e of
 -- 0 stands for in it.
-use Rattle.vocabulary.specs.{ℕ, Bool, true, false, List, [], ◌∷◌}
+use Rattle.std.specs.Prelude.{ℕ, Bool, true, false, List, [], ◌∷◌}
 use Rattle.sheet_layout.specs.{declared.Kind.Kind, declared.KindRow.KindRow, declared.Pass.Pass}
 use Rattle.sheet_layout.specs.declared.Kind.TheVariants.{One, Two, Three, Four, Five}
 

@@ -1,7 +1,7 @@
 -- The layout of a packed sheet: document 01, "Packed sheets". "Fields run on without gaps, most significant bit first; zero bits fill the
 -- last byte." A kind's fields are one row of `layout`, by the pass that it is for and whether it carries rounds; the size of a sheet, the
 -- values that are read off it and its bytes all follow from that row.
-use Rattle.vocabulary.specs.{ℕ, ◌+◌, Bool, cond, ◌&&◌, List, [], ◌∷◌, ◌++◌, map, eqb}
+use Rattle.std.specs.Prelude.{ℕ, ◌+◌, Bool, cond, ◌&&◌, List, [], ◌∷◌, ◌++◌, map, eqb}
 use Rattle.figures.specs.{declared.Figure.Figure, Figure.angle_count, Figure.fixed_count, Figure.side_count, Rows.each_of}
 use Rattle.bits.specs.Bits.{field_at, total_width, byte_count}
 use Rattle.sheet_layout.specs.{declared.Kind.Kind, declared.Lengths.Lengths, declared.Pass.Pass}

@@ -9,14 +9,14 @@ use figures::{Figure, Named, figure_of};
 use refusals::Refusal;
 
 // What a kind's number names.
-#[derive(Drop)]
+#[derive(Clone, Copy)]
 pub enum NamedKind {
     Is(Kind),
     NoKind,
 }
 
 // What the head of a sheet says.
-#[derive(Drop)]
+#[derive(Clone, Copy)]
 pub enum Look {
     Head(Kind, Figure),
     Refused(Refusal),

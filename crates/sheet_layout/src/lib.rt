@@ -1,5 +1,7 @@
 // The layout of packed sheets: document 01, "Packed sheets". Which fields a sheet has is the definition `layout` of specs/Layout.antt; what
 // the numbers of its head name stands in specs/Head.antt.
+#![tactic(auto)]
+
 ghost use Rattle.std.specs.Prelude.{◌≡◌};
 ghost use Rattle.sheet_layout.specs.Kinds.{carries_rounds};
 ghost use Rattle.sheet_layout.specs.Layout.{rounds_bits, lengths_of, bit_count, sheet_size};
@@ -13,14 +15,14 @@ pub use head::{Look, NamedKind, look_at, named_head};
 pub use kinds::{carries_rounds, default_of, number_of_kind, pass_of};
 
 // The pass that a kind of sheet is for, and so which values it holds.
-#[derive(Drop)]
+#[derive(Clone, Copy)]
 pub enum Pass {
     First,
     Second,
 }
 
 // Kind 1, kind 2 and so on.
-#[derive(Drop)]
+#[derive(Clone, Copy)]
 pub enum Kind {
     One,
     Two,
@@ -30,7 +32,7 @@ pub enum Kind {
 }
 
 // What a kind is; `default` is what L or e of 0 stands for in it, `rounds` whether each observed angle has its rounds after it.
-#[derive(Drop)]
+#[derive(Clone, Copy)]
 pub struct KindRow {
     pub number: u32,
     pub pass: Pass,
@@ -39,7 +41,7 @@ pub struct KindRow {
 }
 
 // How many values of each sort.
-#[derive(Drop)]
+#[derive(Clone, Copy)]
 pub struct Lengths {
     pub angles: usize,
     pub rounds: usize,

@@ -1,5 +1,6 @@
 -- What the reader promises once kind and figure are known, from what its parts answer. Assumes nothing.
-use Rattle.vocabulary.specs.{ℕ, ◌≤◌, List, ◌≡◌, refl, sym, ap, subst, ◌∙◌, arith, length, get_or}
+use Rattle.std.specs.Prelude.{ℕ, ◌≤◌, List, ◌≡◌, refl, length, get_or}
+use Rattle.vocabulary.specs.{sym, ap, subst, ◌∙◌, arith}
 use Rattle.refusals.specs.{declared.Refusal.Refusal, declared.Verdict.Verdict, Order.judged, Promise.Promised}
 use Rattle.refusals.specs.declared.Verdict.TheVariants.{Passed, Failed}
 use Rattle.refusals.proofs.{Nowhere.same_lengths, Rows.none_holds, InSteps.judged_after_pass, InSteps.judged_after_failure}

@@ -1,7 +1,8 @@
 -- The columns of the reader are those of the layout, by tests that antt computes over all kinds and figures, and hold the values of the
 -- sheet. Assumes nothing.
-use Rattle.vocabulary.specs.{ℕ, suc, ◌+◌, ◌*◌, ◌≤◌, ◌<◌, Bool, true, false, cond, ◌&&◌, List, ◌≡◌, sym, ap, ap₂, subst, ◌∙◌, arith, T, eqb}
-use Rattle.vocabulary.specs.{eqb→eq, ℤ, length, take, get_or, replicate, length-replicate, get_or-replicate, length-take-le}
+use Rattle.std.specs.Prelude.{ℕ, suc, ◌+◌, ◌*◌, ◌≤◌, ◌<◌, Bool, true, false, cond, ◌&&◌, List, ◌≡◌, T, eqb, ℤ, length, take, get_or}
+use Rattle.std.specs.Prelude.{replicate}
+use Rattle.vocabulary.specs.{sym, ap, ap₂, subst, ◌∙◌, arith, eqb→eq, length-replicate, get_or-replicate, length-take-le}
 use Rattle.whole.specs.Lists.{listed, every, every_below}
 use Rattle.whole.proofs.{Computed.and_left, Computed.and_right, Computed.every_below_lem, Lists.listed_ext}
 use Rattle.bits.specs.{Bits.field_at, Complement.signed_of}

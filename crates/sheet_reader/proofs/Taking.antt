@@ -1,6 +1,7 @@
 -- The steps of a loop that takes the values of a column, for values of any sort. Assumes nothing.
-use Rattle.vocabulary.specs.{ℕ, zero, suc, ◌+◌, ◌*◌, ◌≤◌, ◌<◌, List, [], ◌∷◌, ◌≡◌, refl, sym, ap, ◌∙◌, le_of_suc-le-suc, not-suc-le-zero}
-use Rattle.vocabulary.specs.{add_assoc, mul-suc, mul-zero, add-zero, mul-le-mul_left, add-one, arith, ℤ, length, get_or, take, set}
+use Rattle.std.specs.Prelude.{ℕ, zero, suc, ◌+◌, ◌*◌, ◌≤◌, ◌<◌, List, [], ◌∷◌, ◌≡◌, refl, ℤ, length, get_or, take, set}
+use Rattle.vocabulary.specs.{sym, ap, ◌∙◌, le_of_suc-le-suc, not-suc-le-zero, add_assoc, mul-suc, mul-zero, add-zero, mul-le-mul_left}
+use Rattle.vocabulary.specs.{add-one, arith}
 use Rattle.whole.specs.Lists.{listed}
 use Rattle.whole.proofs.Lists.{Filled, filled_none, filled_more, filled_all, listed_get_or}
 use Rattle.sheet_rules.specs.Promises.{slices}

@@ -1,6 +1,6 @@
 -- Where the reader looks for the values of one sort: at start, start + step, start + 2·step and so on, each in the same width. That
 -- these are where the layout has them is a law (proofs/ColumnLaws.antt).
-use Rattle.vocabulary.specs.{ℕ, ◌+◌, ◌*◌, ◌≤◌, Bool, List, ℤ}
+use Rattle.std.specs.Prelude.{ℕ, ◌+◌, ◌*◌, ◌≤◌, Bool, List, ℤ}
 use Rattle.whole.specs.Lists.{listed}
 use Rattle.figures.specs.{declared.Figure.Figure, Figure.angle_count, Figure.side_count, Numerators.most_angles}
 use Rattle.bits.specs.{Bits.field_at, Complement.signed_of}

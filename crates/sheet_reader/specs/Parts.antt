@@ -1,5 +1,5 @@
 -- What the parts of the reader answer, in the words of the whole (specs/Judging.antt and specs/Promises.antt of `sheet_rules`).
-use Rattle.vocabulary.specs.{ℕ, List, [], ◌∷◌, length}
+use Rattle.std.specs.Prelude.{ℕ, List, [], ◌∷◌, length}
 use Rattle.refusals.specs.{declared.Verdict.Verdict, declared.Verdict.TheVariants.Passed, declared.Verdict.TheVariants.Failed}
 use Rattle.refusals.specs.{Order.Row, Order.judged, Promise.Promised, Table.lengths_row, Table.sheet_size_row, Table.filling_row}
 use Rattle.figures.specs.declared.Figure.{Figure}

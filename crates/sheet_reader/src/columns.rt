@@ -14,7 +14,7 @@ use sheet_layout::{
 };
 
 // They stand at start, start + step, start + 2 * step and so on, each in the same width.
-#[derive(Drop)]
+#[derive(Clone, Copy)]
 pub(crate) struct Column {
     pub(crate) start: usize,
     pub(crate) step: usize,

@@ -1,5 +1,6 @@
 -- What the reader and the writer answer once kind and figure are known, and what an accepted sheet is. Assumes nothing.
-use Rattle.vocabulary.specs.{ℕ, ◌≤◌, List, [], ◌∷◌, ◌++◌, ◌≡◌, refl, sym, ap, ap₂, subst, ◌∙◌, arith, length, get_or, take}
+use Rattle.std.specs.Prelude.{ℕ, ◌≤◌, List, [], ◌∷◌, ◌++◌, ◌≡◌, refl, length, get_or, take}
+use Rattle.vocabulary.specs.{sym, ap, ap₂, subst, ◌∙◌, arith}
 use Rattle.whole.proofs.Lists.{length_listed}
 use Rattle.refusals.specs.{declared.Refusal.Refusal, declared.Verdict.Verdict, Order.Row, Order.HoldsNowhere, Order.NoneHolds, Order.judged}
 use Rattle.refusals.specs.{declared.Verdict.TheVariants.Passed, declared.Verdict.TheVariants.Failed, Table.lengths_row, Table.filling_row}

@@ -1,5 +1,5 @@
 -- The definitions at work: sheets that are read, and sheets that are turned back, each computed.
-use Rattle.vocabulary.specs.{ℕ, List, [], ◌∷◌, ◌++◌, ◌≡◌, refl, pos, neg_ℤ, replicate}
+use Rattle.std.specs.Prelude.{ℕ, List, [], ◌∷◌, ◌++◌, ◌≡◌, refl, pos, neg_ℤ, replicate}
 use Rattle.whole.specs.Lists.{listed}
 use Rattle.refusals.specs.{declared.Refusal.Refusal, declared.Verdict.TheVariants.Failed, Order.answer_of, Order.lowest_place}
 use Rattle.bits.specs.Bits.{odd, bits, digit, value, bits_of, first_byte, bytes_from, byte_count, bytes_of, inside, field_at, packed_bits, total_width}

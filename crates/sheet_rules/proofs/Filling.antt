@@ -1,7 +1,7 @@
 -- Number 13, "a filling bit is 1": some bit after the last field is 1 exactly if the field that they make up does not hold 0. Assumes
 -- nothing.
-use Rattle.vocabulary.specs.{ℕ, ◌+◌, ◌*◌, ◌^◌, ◌<◌, Bool, true, false, not, List, [], ◌∷◌, ◌↔◌, ◌≡◌, refl, sym, ap, ◌∙◌, arith, eqb-true}
-use Rattle.vocabulary.specs.{eq-eqb, ne_eqb, not-false, eqb, length, drop, length-drop, pow_pos, take_all}
+use Rattle.std.specs.Prelude.{ℕ, ◌+◌, ◌*◌, ◌^◌, ◌<◌, Bool, true, false, not, List, [], ◌∷◌, ◌↔◌, ◌≡◌, refl, eqb, length, drop}
+use Rattle.vocabulary.specs.{sym, ap, ◌∙◌, arith, eqb-true, eq-eqb, ne_eqb, not-false, length-drop, pow_pos, take_all}
 use Rattle.refusals.specs.{Order.HoldsNowhere, Questions.some_one, Questions.any_one, Questions.asked, Table.filling_row}
 use Rattle.refusals.proofs.Decided.{decided_not}
 use Rattle.bits.specs.Bits.{digit, value, bits_of, byte_count, filling_width, field_at}

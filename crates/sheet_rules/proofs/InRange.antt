@@ -1,6 +1,6 @@
 -- What the rows of the values let pass: every value lies within its range, and so fits its field. Assumes nothing.
-use Rattle.vocabulary.specs.{ℕ, ◌+◌, ◌≤◌, ◌<◌, ◌^◌, List, ◌++◌, ◌≡◌, subst, arith, leb→le, ℤ, pos, negsuc, neg_ℤ, length, get_or}
-use Rattle.vocabulary.specs.{length-append, list-get_or_append, get_or-append-add, mag, ◌≤ℤ◌}
+use Rattle.std.specs.Prelude.{ℕ, ◌+◌, ◌≤◌, ◌<◌, ◌^◌, List, ◌++◌, ◌≡◌, ℤ, pos, negsuc, neg_ℤ, length, get_or, ◌≤ℤ◌}
+use Rattle.vocabulary.specs.{subst, arith, leb→le, length-append, list-get_or_append, get_or-append-add, mag}
 use Rattle.refusals.specs.Order.{NoneHolds}
 use Rattle.refusals.specs.Ranges.{least_angle, most_angle, least_log_sine, most_log_sine, most_difference, least_rounds}
 use Rattle.refusals.proofs.Nowhere.{limit_within, angles_within, rounds_within, fixed_within, log_sines_within, differences_within}

@@ -1,5 +1,6 @@
 -- The fields of a layout have the widths and the bits that it counts. Assumes nothing.
-use Rattle.vocabulary.specs.{ℕ, List, [], ◌∷◌, map, ◌≡◌, refl, ap}
+use Rattle.std.specs.Prelude.{ℕ, List, [], ◌∷◌, map, ◌≡◌, refl}
+use Rattle.vocabulary.specs.{ap}
 use Rattle.bits.specs.Bits.{widths, total_width}
 use Rattle.figures.specs.declared.Figure.{Figure}
 use Rattle.sheet_layout.specs.{declared.Kind.Kind, Layout.Item, Layout.width_of, Layout.layout, Layout.bit_count}

@@ -1,8 +1,8 @@
 -- Where each item of a layout stands, by tests that antt computes over all kinds and figures: no item stands twice, and each value that
 -- is counted stands there. Assumes nothing.
-use Rattle.vocabulary.specs.{ℕ, suc, ◌+◌, ◌≤◌, ◌<◌, zero-le, suc-le-suc, Bool, true, false, cond, ◌&&◌, List, [], ◌∷◌, map, ◌≡◌, refl, sym}
-use Rattle.vocabulary.specs.{ap, ap₂, ◌∙◌, le_of_suc-le-suc, not-suc-le-zero, arith, T, eqb, leb, ltb, eqb→eq, leb→le, ltb→lt, lit≤}
-use Rattle.vocabulary.specs.{length, get_or, take}
+use Rattle.std.specs.Prelude.{ℕ, suc, ◌+◌, ◌≤◌, ◌<◌, Bool, true, false, cond, ◌&&◌, List, [], ◌∷◌, map, ◌≡◌, refl, T, eqb, leb, ltb, length}
+use Rattle.std.specs.Prelude.{get_or, take}
+use Rattle.vocabulary.specs.{zero-le, suc-le-suc, sym, ap, ap₂, ◌∙◌, le_of_suc-le-suc, not-suc-le-zero, arith, eqb→eq, leb→le, ltb→lt, lit≤}
 use Rattle.whole.specs.Lists.{every, every_below}
 use Rattle.whole.proofs.Computed.{and_left, and_right, every_at, every_below_lem}
 use Rattle.bits.specs.Bits.{total_width}

@@ -1,8 +1,9 @@
 -- An accepted sheet, written again from the values that are read off it, has the same bytes: for every kind and figure, and sheets of
 -- every length.
-use Rattle.vocabulary.specs.{ℕ, zero, suc, ◌*◌, ◌≤◌, ◌<◌, Bool, true, false, cond, ◌&&◌, List, [], ◌∷◌, map, ◌≡◌, refl, sym, ap, ap₂}
-use Rattle.vocabulary.specs.{subst, ◌∙◌, le_of_suc-le-suc, not-suc-le-zero, arith, T, leb, leb→le, lit≤, pos, length, get_or, take, drop}
-use Rattle.vocabulary.specs.{length-map, list-get_or_map, ext_get_or}
+use Rattle.std.specs.Prelude.{ℕ, zero, suc, ◌*◌, ◌≤◌, ◌<◌, Bool, true, false, cond, ◌&&◌, List, [], ◌∷◌, map, ◌≡◌, refl, T, leb, pos}
+use Rattle.std.specs.Prelude.{length, get_or, take, drop}
+use Rattle.vocabulary.specs.{sym, ap, ap₂, subst, ◌∙◌, le_of_suc-le-suc, not-suc-le-zero, arith, leb→le, lit≤, length-map, list-get_or_map}
+use Rattle.vocabulary.specs.{ext_get_or}
 use Rattle.whole.specs.Lists.{listed}
 use Rattle.whole.proofs.{Computed.and_right, Lists.get_or_listed, Lists.get_d_any}
 use Rattle.refusals.specs.{Numbers.numbered, declared.Verdict.TheVariants.Passed}

@@ -1,6 +1,7 @@
 -- The orders of a look, of the reader and of the writer, for demand 1: every row is in the table, what is answered tells what the rows
 -- are judged to be, and a refusal leaves what was lent. Assumes nothing.
-use Rattle.vocabulary.specs.{ℕ, List, [], ◌++◌, ◌≡◌, refl, ap, ◌∙◌, length, T}
+use Rattle.std.specs.Prelude.{ℕ, List, [], ◌++◌, ◌≡◌, refl, length, T}
+use Rattle.vocabulary.specs.{ap, ◌∙◌}
 use Rattle.refusals.specs.{declared.Refusal.Refusal, declared.Verdict.Verdict, Numbers.verdict_told}
 use Rattle.refusals.specs.declared.Verdict.TheVariants.{Passed, Failed}
 use Rattle.refusals.specs.Order.{Row, all_in_table, judged}

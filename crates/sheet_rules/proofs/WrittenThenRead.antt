@@ -1,7 +1,8 @@
 -- A sheet that the writer has accepted reads back as the same kind, figure, L or e and values: for every kind and figure.
-use Rattle.vocabulary.specs.{ℕ, zero, suc, ◌≤◌, ◌<◌, ◌^◌, zero-le, suc-le-suc, Bool, true, false, cond, ◌&&◌, List, [], ◌∷◌, map, ◌≡◌}
-use Rattle.vocabulary.specs.{refl, sym, ap, ap₂, subst, ◌∙◌, lt_of_le_of_lt, arith, T, leb, ltb, leb→le, ltb→lt, lit<, lit≤, pos, length}
-use Rattle.vocabulary.specs.{get_or, take, replicate, length-map, list-get_or_map}
+use Rattle.std.specs.Prelude.{ℕ, zero, suc, ◌≤◌, ◌<◌, ◌^◌, Bool, true, false, cond, ◌&&◌, List, [], ◌∷◌, map, ◌≡◌, refl, T, leb, ltb, pos}
+use Rattle.std.specs.Prelude.{length, get_or, take, replicate}
+use Rattle.vocabulary.specs.{zero-le, suc-le-suc, sym, ap, ap₂, subst, ◌∙◌, lt_of_le_of_lt, arith, leb→le, ltb→lt, lit<, lit≤, length-map}
+use Rattle.vocabulary.specs.{list-get_or_map}
 use Rattle.whole.specs.Lists.{listed}
 use Rattle.whole.proofs.{Computed.and_right, Lists.listed_ext, Lists.listed_get_or}
 use Rattle.refusals.specs.{declared.Verdict.TheVariants.Passed, Numbers.numbered, Order.NoneHolds}

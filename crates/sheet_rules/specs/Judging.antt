@@ -1,7 +1,7 @@
 -- How sheets are turned back: document 01, "Numbers given when a sheet is turned back", and document 02, M-101 for number 14 and M-106 for
 -- number 16. The reader's order and the writer's, each as one list of rows. Both begin with the rows of the head (specs/Head.antt of
 -- `sheet_layout`).
-use Rattle.vocabulary.specs.{ℕ, Bool, cond, List, [], ◌∷◌, ◌++◌, length, drop}
+use Rattle.std.specs.Prelude.{ℕ, Bool, cond, List, [], ◌∷◌, ◌++◌, length, drop}
 use Rattle.refusals.specs.{declared.Verdict.Verdict, declared.Verdict.TheVariants.Passed, declared.Verdict.TheVariants.Failed}
 use Rattle.refusals.specs.{Numbers.Told, Numbers.told, Numbers.refusal_told, Order.Row, Order.judged}
 use Rattle.refusals.specs.Ranges.{most_limit, most_tolerance, most_rounds}

@@ -1,5 +1,5 @@
 -- What the reader and the writer of packed sheets promise: document 01, "Packed sheets" and "What the promises must decide".
-use Rattle.vocabulary.specs.{ℕ, List, [], ◌∷◌, ℤ, length}
+use Rattle.std.specs.Prelude.{ℕ, List, [], ◌∷◌, ℤ, length}
 use Rattle.refusals.specs.{declared.Verdict.Verdict, Promise.Promised}
 use Rattle.sheet_rules.specs.{declared.Reading.Reading, Sheet.Values, Sheet.values_read}
 use Rattle.sheet_rules.specs.Judging.{reading_of, after_reading, writing_of, written_of}

@@ -1,6 +1,6 @@
 -- The values of a packed sheet and its bytes: document 01, "Packed sheets", and document 02, M-106, for the rounds. Both follow from the
 -- layout of its kind and figure.
-use Rattle.vocabulary.specs.{ℕ, suc, cond, List, map, ℤ, pos}
+use Rattle.std.specs.Prelude.{ℕ, suc, cond, List, map, ℤ, pos}
 use Rattle.whole.specs.Lists.{listed}
 use Rattle.refusals.specs.Numbers.{numbered}
 use Rattle.figures.specs.{declared.Figure.Figure, Figure.description, Figure.angle_count}

@@ -1,6 +1,8 @@
 // Packed sheets: document 01, "Packed sheets". The values of a sheet and its bytes are defined in specs/Sheet.antt; what is turned back,
 // and in which order, stands in specs/Judging.antt. The code here is what the reader (`sheet_reader`) and the writer (`sheet_writer`)
 // share.
+#![tactic(auto)]
+
 ghost use Rattle.std.specs.Prelude.{◌≡◌};
 ghost use Rattle.refusals.specs.Order.{judged};
 ghost use Rattle.sheet_rules.specs.Sheet.{values_from};
@@ -17,7 +19,7 @@ pub use sheet_layout::{
 };
 
 // What the reader answers: L or e as packed, so that 0 stays 0.
-#[derive(Drop)]
+#[derive(Clone, Copy)]
 pub enum Reading {
     Read {
         kind: Kind,

@@ -1,5 +1,6 @@
 -- What the writer promises, from what its parts answer. Assumes nothing.
-use Rattle.vocabulary.specs.{ℕ, List, [], ◌∷◌, ◌++◌, ◌≡◌, sym, ap, ◌∙◌, length}
+use Rattle.std.specs.Prelude.{ℕ, List, [], ◌∷◌, ◌++◌, ◌≡◌, length}
+use Rattle.vocabulary.specs.{sym, ap, ◌∙◌}
 use Rattle.refusals.specs.{declared.Refusal.Refusal, declared.Verdict.Verdict, Order.Row, Order.verdict_of, Order.judged, Table.lengths_row}
 use Rattle.refusals.specs.declared.Verdict.TheVariants.{Passed, Failed}
 use Rattle.refusals.proofs.{Answers.answer_of_one, InSteps.judged_after_pass, InSteps.judged_after_failure, Rows.row_passes}

@@ -1,9 +1,10 @@
 -- Fields that are packed one after the other: what is packed so far grows by each field's bits. Assumes nothing.
-use Rattle.vocabulary.specs.{ℕ, ◌+◌, ◌-◌, ◌*◌, ◌/◌, ◌%◌, ◌^◌, ◌≤◌, ◌<◌, Bool, true, false, List, [], ◌∷◌, ◌++◌, append_assoc, append-nil}
-use Rattle.vocabulary.specs.{◌≡◌, refl, sym, ap, ap₂, subst, ◌∙◌, add-zero, add_assoc, mod-lt, add-one, arith, length, length-append}
-use Rattle.vocabulary.specs.{length-set, take, set, get_or, replicate, length-replicate, replicate-append-replicate, eqb-true, eqb-false}
-use Rattle.vocabulary.specs.{digits_lt, eqb, length-take-le, take_all, take-append_seam, take-suc-set, get_or-set_same, get_or-set_other}
-use Rattle.vocabulary.specs.{pow_pos, pow-add, split, low, mod-pow-add, mod-mod-pow, shl_lt, shl-shr}
+use Rattle.std.specs.Prelude.{ℕ, ◌+◌, ◌-◌, ◌*◌, ◌/◌, ◌%◌, ◌^◌, ◌≤◌, ◌<◌, Bool, true, false, List, [], ◌∷◌, ◌++◌, ◌≡◌, refl, length, take}
+use Rattle.std.specs.Prelude.{set, get_or, replicate, eqb}
+use Rattle.vocabulary.specs.{append_assoc, append-nil, sym, ap, ap₂, subst, ◌∙◌, add-zero, add_assoc, mod-lt, add-one, arith, length-append}
+use Rattle.vocabulary.specs.{length-set, length-replicate, replicate-append-replicate, eqb-true, eqb-false, digits_lt, length-take-le}
+use Rattle.vocabulary.specs.{take_all, take-append_seam, take-suc-set, get_or-set_same, get_or-set_other, pow_pos, pow-add, split, low}
+use Rattle.vocabulary.specs.{mod-pow-add, mod-mod-pow, shl_lt, shl-shr}
 use Rattle.bits.specs.Bits.{Field, bits, bits_of, bytes_of, byte_count, filling_width, widths, total_width, packed_bits}
 use Rattle.bits.proofs.Bytes.{AreBytes, length_bits_of, bits_of_append, bits_of_injective, bytes_of_bytes, bits_of_bytes_of}
 use Rattle.bits.proofs.Numbers.{length_bits, bits_append, value_bits_mod, bits_value, bits_zero}

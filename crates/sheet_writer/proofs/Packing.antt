@@ -1,6 +1,6 @@
 -- Rows of fields packed one after the other, as the loops of the writer do it. Assumes nothing.
-use Rattle.vocabulary.specs.{ℕ, zero, suc, ◌+◌, ◌*◌, ◌≤◌, ◌<◌, Bool, true, false, List, [], ◌∷◌, ◌≡◌, refl, sym, ap, ap₂, subst, ◌∙◌}
-use Rattle.vocabulary.specs.{add-zero, mul-zero, mul-suc, mul-le-mul_left, add-one, arith, ℤ, length}
+use Rattle.std.specs.Prelude.{ℕ, zero, suc, ◌+◌, ◌*◌, ◌≤◌, ◌<◌, Bool, true, false, List, [], ◌∷◌, ◌≡◌, refl, ℤ, length}
+use Rattle.vocabulary.specs.{sym, ap, ap₂, subst, ◌∙◌, add-zero, mul-zero, mul-suc, mul-le-mul_left, add-one, arith}
 use Rattle.refusals.specs.Numbers.{numbered}
 use Rattle.bits.specs.Bits.{Field, widths, total_width}
 use Rattle.bits.proofs.Packed.{total_width_append, widths_append}

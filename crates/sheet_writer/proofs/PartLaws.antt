@@ -1,6 +1,6 @@
 -- The fields of a layout, part by part as the writer writes them. Assumes nothing.
-use Rattle.vocabulary.specs.{ℕ, zero, suc, ◌+◌, ◌*◌, ◌≤◌, Bool, true, false, List, [], ◌∷◌, ◌++◌, map, map-append, ◌≡◌, refl, sym, ap, ap₂}
-use Rattle.vocabulary.specs.{subst, ◌∙◌, zero-add, add-zero, arith, pos, length}
+use Rattle.std.specs.Prelude.{ℕ, zero, suc, ◌+◌, ◌*◌, ◌≤◌, Bool, true, false, List, [], ◌∷◌, ◌++◌, map, ◌≡◌, refl, pos, length}
+use Rattle.vocabulary.specs.{map-append, sym, ap, ap₂, subst, ◌∙◌, zero-add, add-zero, arith}
 use Rattle.refusals.specs.Numbers.{numbered}
 use Rattle.bits.specs.Bits.{Field, bits, bits_of, bytes_of, widths, total_width, byte_count}
 use Rattle.figures.specs.{declared.Figure.Figure, Figure.description, Figure.angle_count, Figure.fixed_count, Figure.side_count, Rows.each_of}

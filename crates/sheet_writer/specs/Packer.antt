@@ -1,6 +1,6 @@
 -- Fields packed one after the other, as the writer holds them: whole bytes that are out, and the bits after them that do not yet fill
 -- four bytes.
-use Rattle.vocabulary.specs.{ℕ, ◌+◌, ◌*◌, ◌/◌, ◌%◌, ◌≤◌, ◌<◌, Bool, List, [], ◌∷◌, ◌++◌, ◌≡◌, length, take}
+use Rattle.std.specs.Prelude.{ℕ, ◌+◌, ◌*◌, ◌/◌, ◌%◌, ◌≤◌, ◌<◌, Bool, List, [], ◌∷◌, ◌++◌, ◌≡◌, length, take}
 use Rattle.bits.specs.Bits.{Field, bits, bits_of, widths, total_width, packed_bits}
 use Rattle.sheet_writer.specs.declared.packer.Packer.{Packer}
 

@@ -7,7 +7,7 @@ ghost use Rattle.sheet_writer.specs.Packer.{packed_so_far, packed_count, WellHel
 
 // The last `count` bits of `held` are not out yet, and go to the byte of index `at`. Those before them are of no account: they are shifted
 // out in time.
-#[derive(Drop)]
+#[derive(Clone, Copy)]
 pub(crate) struct Packer {
     pub(crate) held: u64,
     pub(crate) count: u32,

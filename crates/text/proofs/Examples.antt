@@ -1,6 +1,6 @@
 -- The first two lines that document 01, "Sheets worked through", prints, computed from the definitions: "figure 1 0 denominator 8" and
 -- "1 1620004 -12 -2 1620002". And the ends of the range of a 64-bit number. Assumes nothing.
-use Rattle.vocabulary.specs.{◌≡◌, refl, List, [], ◌∷◌, map, ℕ, pos, negsuc, length}
+use Rattle.std.specs.Prelude.{◌≡◌, refl, List, [], ◌∷◌, map, ℕ, pos, negsuc, length}
 use Rattle.text.specs.Text.{decimal, natural, digits, lines, line, spaced}
 
 figure : List ℕ

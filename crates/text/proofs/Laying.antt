@@ -1,6 +1,6 @@
 -- Laws of laying text in a buffer: where it has room and where not, and several texts laid one after the other. Assumes nothing.
-use Rattle.vocabulary.specs.{◌≡◌, refl, sym, ap, ap₂, ◌∙◌, Bool, true, false, cond, List, [], ◌∷◌, ◌++◌, append_assoc, append-nil, ℕ, ◌+◌}
-use Rattle.vocabulary.specs.{◌-◌, ◌≤◌, ◌<◌, zero-add, add-one, arith, le-leb, lt-leb, leb-true, leb-false, leb, length, take, drop, set}
+use Rattle.std.specs.Prelude.{◌≡◌, refl, Bool, true, false, cond, List, [], ◌∷◌, ◌++◌, ℕ, ◌+◌, ◌-◌, ◌≤◌, ◌<◌, leb, length, take, drop, set}
+use Rattle.vocabulary.specs.{sym, ap, ap₂, ◌∙◌, append_assoc, append-nil, zero-add, add-one, arith, le-leb, lt-leb, leb-true, leb-false}
 use Rattle.vocabulary.specs.{length-append, length-take, length-drop, length-set, drop_of_length-le, take_all, take-append_seam}
 use Rattle.vocabulary.specs.{take-append-le, take-append-add, take_at, drop_at, drop-drop, length-take-le, paste, take-length, append_snoc}
 use Rattle.vocabulary.specs.{set_split, take-set-le}

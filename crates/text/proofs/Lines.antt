@@ -1,6 +1,6 @@
 -- Laws of lines: a text split at its line feeds, and each line at its spaces, gives back the parts; how long lines are. Assumes nothing.
-use Rattle.vocabulary.specs.{◌≡◌, refl, sym, ap, ap₂, ◌∙◌, Bool, true, false, not, List, [], ◌∷◌, ◌++◌, map, append_assoc, append-nil, ℕ}
-use Rattle.vocabulary.specs.{zero, suc, ◌+◌, ◌*◌, ◌≤◌, ◌<◌, add-one, arith, eq-eqb, T, eqb, length, length-append, append_snoc}
+use Rattle.std.specs.Prelude.{◌≡◌, refl, Bool, true, false, not, List, [], ◌∷◌, ◌++◌, map, ℕ, zero, suc, ◌+◌, ◌*◌, ◌≤◌, ◌<◌, T, eqb, length}
+use Rattle.vocabulary.specs.{sym, ap, ap₂, ◌∙◌, append_assoc, append-nil, add-one, arith, eq-eqb, length-append, append_snoc}
 use Rattle.whole.specs.Lists.{every, listed}
 use Rattle.whole.proofs.Computed.{and_left, and_right}
 use Rattle.text.specs.Text.{space, line_feed, spaced, line, lines, is_plain, is_word, begun, split, split_lines, parts, read_lines}

@@ -1,9 +1,9 @@
 -- Laws of a number's text: it reads back as the number, so that no two numbers have one text; what its bytes are; how long it is at most.
 -- Each goes by the number without its last digit. Assumes nothing.
-use Rattle.vocabulary.specs.{◌≡◌, refl, sym, ap, ap₂, ◌∙◌, subst⁻¹, Bool, true, false, ◌||◌, List, [], ◌∷◌, ◌++◌, map, ℕ, zero, suc, ◌+◌}
-use Rattle.vocabulary.specs.{◌*◌, ◌-◌, ◌/◌, ◌%◌, ◌^◌, ◌≤◌, ◌<◌, not-suc-le-zero, pow-suc, div-lt_iff_lt-mul, div-eq_of_lt, mod-eq_of_lt}
-use Rattle.vocabulary.specs.{arith, ne_eqb, ltb-true, ltb-false, T, leb, ltb, eqb, leb→le, le→leb, eqb→eq, lit<, ℤ, pos, negsuc, neg_ℤ}
-use Rattle.vocabulary.specs.{nat_abs, length, get_or, length-append, list-get_or_append, mag}
+use Rattle.std.specs.Prelude.{◌≡◌, refl, Bool, true, false, ◌||◌, List, [], ◌∷◌, ◌++◌, map, ℕ, zero, suc, ◌+◌, ◌*◌, ◌-◌, ◌/◌, ◌%◌, ◌^◌, ◌≤◌}
+use Rattle.std.specs.Prelude.{◌<◌, T, leb, ltb, eqb, ℤ, pos, negsuc, neg_ℤ, nat_abs, length, get_or}
+use Rattle.vocabulary.specs.{sym, ap, ap₂, ◌∙◌, subst⁻¹, not-suc-le-zero, pow-suc, div-lt_iff_lt-mul, div-eq_of_lt, mod-eq_of_lt, arith}
+use Rattle.vocabulary.specs.{ne_eqb, ltb-true, ltb-false, leb→le, le→leb, eqb→eq, lit<, length-append, list-get_or_append, mag}
 use Rattle.whole.specs.Lists.{every}
 use Rattle.whole.proofs.Computed.{and_left}
 use Rattle.text.proofs.Tests.{and_both, or_left, or_cases, every_append, every_also}

@@ -1,6 +1,6 @@
 -- A number's digits laid from the last one backwards: what the loop of `text::numerals::put_digits` keeps, and its steps. Assumes nothing.
-use Rattle.vocabulary.specs.{◌≡◌, sym, ap, ap₂, ◌∙◌, List, [], ◌∷◌, ◌++◌, ℕ, ◌+◌, ◌-◌, ◌/◌, ◌%◌, ◌≤◌, ◌<◌, arith, length, set}
-use Rattle.vocabulary.specs.{length-append, length-set}
+use Rattle.std.specs.Prelude.{◌≡◌, List, [], ◌∷◌, ◌++◌, ℕ, ◌+◌, ◌-◌, ◌/◌, ◌%◌, ◌≤◌, ◌<◌, length, set}
+use Rattle.vocabulary.specs.{sym, ap, ap₂, ◌∙◌, arith, length-append, length-set}
 use Rattle.text.specs.Text.{digit, natural, laid}
 use Rattle.text.proofs.{Laying.laid_byte, Laying.laid_last, Numbers.natural_last, Numbers.natural_before, Numbers.natural_some}
 

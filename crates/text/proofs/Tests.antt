@@ -1,5 +1,5 @@
 -- Tests joined, and tests of every entry of a list. Assumes nothing.
-use Rattle.vocabulary.specs.{Bool, true, false, ◌&&◌, ◌||◌, List, [], ◌∷◌, ◌++◌, T}
+use Rattle.std.specs.Prelude.{Bool, true, false, ◌&&◌, ◌||◌, List, [], ◌∷◌, ◌++◌, T}
 use Rattle.whole.specs.Lists.{every}
 use Rattle.whole.proofs.Computed.{and_left, and_right}
 

@@ -1,6 +1,6 @@
 -- What a buffer and a position are after texts were laid one after the other from the start: as if `t`, all of them together, had been laid
 -- at once. `start` is the buffer as it was before the first.
-use Rattle.vocabulary.specs.{◌≡◌, List, ℕ, length}
+use Rattle.std.specs.Prelude.{◌≡◌, List, ℕ, length}
 use Rattle.text.specs.Text.{laid, after}
 
 pub record Holds (start t buffer : List ℕ) (at : ℕ) : Type 0 where

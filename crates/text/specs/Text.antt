@@ -1,7 +1,7 @@
 -- Printed text: document 01, "Sheets worked through". A line's parts are words and numbers with one space between, "every line ends in
 -- one line feed", and a number is decimal, with a minus sign and no plus, and no zeros before it. A text is the list of its bytes.
-use Rattle.vocabulary.specs.{Bool, false, not, cond, ◌&&◌, List, [], ◌∷◌, ◌++◌, map, ℕ, zero, suc, ◌+◌, ◌-◌, ◌*◌, ◌/◌, ◌%◌, leb, eqb, ℤ}
-use Rattle.vocabulary.specs.{pos, negsuc, neg_ℤ, length, take, drop}
+use Rattle.std.specs.Prelude.{Bool, false, not, cond, ◌&&◌, List, [], ◌∷◌, ◌++◌, map, ℕ, zero, suc, ◌+◌, ◌-◌, ◌*◌, ◌/◌, ◌%◌, leb, eqb, ℤ}
+use Rattle.std.specs.Prelude.{pos, negsuc, neg_ℤ, length, take, drop}
 use Rattle.whole.specs.Lists.{every}
 
 -- ---- The bytes, by their codes

@@ -1,5 +1,6 @@
 -- What a test over a whole list or a run of numbers, which antt computes, says of each entry once it has passed. Assumes nothing.
-use Rattle.vocabulary.specs.{Bool, true, false, ◌&&◌, List, [], ◌∷◌, ℕ, zero, suc, ◌<◌, le_of_suc-le-suc, not-suc-le-zero, T, length, get_or}
+use Rattle.std.specs.Prelude.{Bool, true, false, ◌&&◌, List, [], ◌∷◌, ℕ, zero, suc, ◌<◌, T, length, get_or}
+use Rattle.vocabulary.specs.{le_of_suc-le-suc, not-suc-le-zero}
 use Rattle.whole.specs.Lists.{every, every_below}
 
 pub and_left : (a b : Bool) → T (a && b) → T a

@@ -1,8 +1,8 @@
 -- The laws of a commutative ring for ℤ that the kit's `lib.IntN` leaves out: the product distributes over the sum, is associative, and
 -- carries a minus sign. Each goes by one induction, by steps of one up and down from zero. Assumes nothing.
-use Rattle.vocabulary.specs.{◌≡◌, sym, ap, ◌∙◌, ℕ, zero, suc, ℤ, pos, negsuc, one, suc_ℤ, pred_ℤ, neg_ℤ, ◌+ℤ◌, ◌-ℤ◌, ◌*ℤ◌, +ℤ_assoc, +ℤ_comm}
-use Rattle.vocabulary.specs.{+ℤ_idl, suc_ℤ-+ℤ, pred_ℤ-+ℤ, neg_ℤ-+ℤ, neg_ℤ-neg_ℤ, neg_ℤ-suc_ℤ, neg_ℤ-pred_ℤ, *ℤ_comm, *ℤ-one, zero-*ℤ, suc_ℤ-*ℤ}
-use Rattle.vocabulary.specs.{pred_ℤ-*ℤ}
+use Rattle.std.specs.Prelude.{◌≡◌, ℕ, zero, suc, ℤ, pos, negsuc, neg_ℤ, ◌+ℤ◌, ◌-ℤ◌, ◌*ℤ◌}
+use Rattle.vocabulary.specs.{sym, ap, ◌∙◌, one, suc_ℤ, pred_ℤ, +ℤ_assoc, +ℤ_comm, +ℤ_idl, suc_ℤ-+ℤ, pred_ℤ-+ℤ, neg_ℤ-+ℤ, neg_ℤ-neg_ℤ}
+use Rattle.vocabulary.specs.{neg_ℤ-suc_ℤ, neg_ℤ-pred_ℤ, *ℤ_comm, *ℤ-one, zero-*ℤ, suc_ℤ-*ℤ, pred_ℤ-*ℤ}
 
 module _ (P : ℤ → Type 0) (start : P (pos zero)) (up : (k : ℤ) → P k → P (suc_ℤ k)) (down : (k : ℤ) → P k → P (pred_ℤ k)) where
   from_zero_up : (n : ℕ) → P (pos n)

@@ -1,5 +1,6 @@
 -- The first n of an array, lent to a step and put back. Assumes nothing.
-use Rattle.vocabulary.specs.{◌≡◌, sym, ap, ◌∙◌, List, ◌++◌, ℕ, ◌≤◌, arith, length, take, drop, length-append, length-take-le, take_at}
+use Rattle.std.specs.Prelude.{◌≡◌, List, ◌++◌, ℕ, ◌≤◌, length, take, drop}
+use Rattle.vocabulary.specs.{sym, ap, ◌∙◌, arith, length-append, length-take-le, take_at}
 
 module _ {A : Type 0} (n : ℕ) (whole : List A) (few : n ≤ length whole) where
   pub lent_length : n ≡ length (take n whole)

@@ -1,7 +1,7 @@
 -- Laws of lists made by a rule and of padded lists (specs/Lists.antt), and the one law of every loop that fills an array. Assumes nothing.
-use Rattle.vocabulary.specs.{◌≡◌, refl, sym, ap, ap₂, ◌∙◌, List, [], ◌∷◌, ◌++◌, ℕ, zero, suc, ◌+◌, ◌≤◌, ◌<◌, le_of_suc-le-suc}
-use Rattle.vocabulary.specs.{not-suc-le-zero, add-one, arith, length, get_or, take, set, length-set, take-suc, take-suc-set, take_all}
-use Rattle.vocabulary.specs.{get_or-set_other}
+use Rattle.std.specs.Prelude.{◌≡◌, refl, List, [], ◌∷◌, ◌++◌, ℕ, zero, suc, ◌+◌, ◌≤◌, ◌<◌, length, get_or, take, set}
+use Rattle.vocabulary.specs.{sym, ap, ap₂, ◌∙◌, le_of_suc-le-suc, not-suc-le-zero, add-one, arith, length-set, take-suc, take-suc-set}
+use Rattle.vocabulary.specs.{take_all, get_or-set_other}
 use Rattle.whole.specs.Lists.{listed, padded}
 
 module _ {A : Type 0} where

@@ -1,9 +1,9 @@
 -- Laws of magnitudes: of sums, differences and products, of a sign given to one, and from a magnitude to the range of a signed machine
 -- number and back. `omega` reads natural numbers only, so bounds on whole numbers are stated of their magnitudes.
-use Rattle.vocabulary.specs.{◌≡◌, refl, sym, ap, ◌∙◌, subst, Bool, true, false, not, cond, ℕ, zero, suc, ◌+◌, ◌-◌, ◌*◌, ◌^◌, ◌≤◌, ◌<◌}
-use Rattle.vocabulary.specs.{not-suc-le-zero, le_refl, le_of_lt, arith, ltb-true, le-ltb, T, leb, ltb, ltb→lt, nltb→le, ℤ, pos, negsuc}
-use Rattle.vocabulary.specs.{neg_ℤ, nat_abs, sub_ℕ, ◌+ℤ◌, ◌-ℤ◌, ◌*ℤ◌, mag, lt_z, nat_abs-le, Width, SFits, hbits, to_z, of_z, to_z-of_z}
-use Rattle.vocabulary.specs.{sfits_widen}
+use Rattle.std.specs.Prelude.{◌≡◌, refl, Bool, true, false, not, cond, ℕ, zero, suc, ◌+◌, ◌-◌, ◌*◌, ◌^◌, ◌≤◌, ◌<◌, T, leb, ltb, ℤ, pos}
+use Rattle.std.specs.Prelude.{negsuc, neg_ℤ, nat_abs, ◌+ℤ◌, ◌-ℤ◌, ◌*ℤ◌}
+use Rattle.vocabulary.specs.{sym, ap, ◌∙◌, subst, not-suc-le-zero, le_refl, le_of_lt, arith, ltb-true, le-ltb, ltb→lt, nltb→le, sub_ℕ, mag}
+use Rattle.vocabulary.specs.{lt_z, nat_abs-le, Width, SFits, hbits, to_z, of_z, to_z-of_z, sfits_widen}
 use Rattle.whole.specs.Quotient.{with_sign}
 
 -- ---- The sign

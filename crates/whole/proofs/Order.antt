@@ -1,7 +1,8 @@
 -- The order of ℤ and squares: `a ≤ℤ b` is `b ≡ a + n` for a natural n, so that an order is used as an equation. Assumes nothing.
-use Rattle.vocabulary.specs.{◌≡◌, refl, sym, ap, ◌∙◌, subst, Bool, true, false, cond, ℕ, zero, suc, ◌+◌, ◌*◌, ◌-◌, ◌≤◌, ◌<◌, mul-pos}
-use Rattle.vocabulary.specs.{zero-lt-suc, not-suc-le-zero, arith, T, ltb, le→leb, leb→le, ℤ, pos, negsuc, nat_abs, sub_ℕ, ◌+ℤ◌, ◌-ℤ◌, ◌*ℤ◌}
-use Rattle.vocabulary.specs.{le_z, ◌≤ℤ◌, yes_non_neg, pos-nat_abs, le-ltb}
+use Rattle.std.specs.Prelude.{◌≡◌, refl, Bool, true, false, cond, ℕ, zero, suc, ◌+◌, ◌*◌, ◌-◌, ◌≤◌, ◌<◌, T, ltb, ℤ, pos, negsuc, nat_abs}
+use Rattle.std.specs.Prelude.{◌+ℤ◌, ◌-ℤ◌, ◌*ℤ◌, ◌≤ℤ◌}
+use Rattle.vocabulary.specs.{sym, ap, ◌∙◌, subst, mul-pos, zero-lt-suc, not-suc-le-zero, arith, le→leb, leb→le, sub_ℕ, le_z, yes_non_neg}
+use Rattle.vocabulary.specs.{pos-nat_abs, le-ltb}
 use Rattle.whole.proofs.Ring.{ring, ◌≐◌, ◌⊕◌, ◌⊖◌}
 
 pub pos_injective : {m n : ℕ} → pos m ≡ pos n → m ≡ n

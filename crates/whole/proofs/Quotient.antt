@@ -1,10 +1,11 @@
 -- Laws of the rounded quotient, by which other crates know it.
 -- Only `nearest_down`, `nearest_up`, what stands under "The half", and the worked values say which way a half goes: the rest is so of every
 -- rounding to the nearest.
-use Rattle.vocabulary.specs.{Bool, true, false, cond, ⊎_elim, ◌≡◌, refl, sym, ap, ◌∙◌, List, [], ◌∷◌, map, ℕ, zero, suc, ◌+◌, ◌-◌, ◌*◌}
-use Rattle.vocabulary.specs.{◌/◌, ◌%◌, ◌^◌, ◌≤◌, ◌<◌, zero-le, zero-mul, div-add-mod', mod-lt, div-eq_of_lt-le, eq-or-lt_of_le}
-use Rattle.vocabulary.specs.{eq-zero-or-pos, lt_of_mul-lt-mul_right, le-mul_of_pos_right, arith, lt-ltb, le-ltb, eq-eqb, ne_eqb, ℤ, pos}
-use Rattle.vocabulary.specs.{negsuc, neg_ℤ, nat_abs, neg_ℤ-neg_ℤ, neg_ℤ-+ℤ, +ℤ_invr, ◌-ℤ◌, ◌*ℤ◌}
+use Rattle.std.specs.Prelude.{Bool, true, false, cond, ◌≡◌, refl, List, [], ◌∷◌, map, ℕ, zero, suc, ◌+◌, ◌-◌, ◌*◌, ◌/◌, ◌%◌, ◌^◌, ◌≤◌, ◌<◌}
+use Rattle.std.specs.Prelude.{ℤ, pos, negsuc, neg_ℤ, nat_abs, ◌-ℤ◌, ◌*ℤ◌}
+use Rattle.vocabulary.specs.{⊎_elim, sym, ap, ◌∙◌, zero-le, zero-mul, div-add-mod', mod-lt, div-eq_of_lt-le, eq-or-lt_of_le, eq-zero-or-pos}
+use Rattle.vocabulary.specs.{lt_of_mul-lt-mul_right, le-mul_of_pos_right, arith, lt-ltb, le-ltb, eq-eqb, ne_eqb, neg_ℤ-neg_ℤ, neg_ℤ-+ℤ}
+use Rattle.vocabulary.specs.{+ℤ_invr}
 use Rattle.whole.specs.Quotient.{one_more, nearest, with_sign, rounded_quotient}
 use Rattle.whole.proofs.Magnitudes.{nat_abs_neg, nat_abs_with_sign, nat_abs_distance}
 

@@ -1,8 +1,9 @@
 -- Identities of whole numbers by reflection: `ring n (λ x y .. . left ≐ right) tt x y ..` proves `left ≡ right` for the n numbers
 -- named after it, where both sides are sums, differences and products of these and of fixed numbers. antt multiplies out the difference
 -- of the two sides and sees that nothing is left; a false identity leaves something, and `tt` is refused. Assumes nothing.
-use Rattle.vocabulary.specs.{◌≡◌, refl, sym, ap, ap₂, ◌∙◌, Bool, true, false, cond, ◌&&◌, List, [], ◌∷◌, ℕ, zero, suc, T, leb, ltb, eqb}
-use Rattle.vocabulary.specs.{eqb→eq, get_or, ℤ, pos, negsuc, neg_ℤ, ◌+ℤ◌, ◌-ℤ◌, ◌*ℤ◌, +ℤ_assoc, +ℤ_idl, +ℤ_idr, +ℤ_invl, zero-*ℤ, *ℤ-zero}
+use Rattle.std.specs.Prelude.{◌≡◌, refl, Bool, true, false, cond, ◌&&◌, List, [], ◌∷◌, ℕ, zero, suc, T, leb, ltb, eqb, get_or, ℤ, pos}
+use Rattle.std.specs.Prelude.{negsuc, neg_ℤ, ◌+ℤ◌, ◌-ℤ◌, ◌*ℤ◌}
+use Rattle.vocabulary.specs.{sym, ap, ap₂, ◌∙◌, eqb→eq, +ℤ_assoc, +ℤ_idl, +ℤ_idr, +ℤ_invl, zero-*ℤ, *ℤ-zero}
 use Rattle.whole.proofs.Computed.{and_left, and_right}
 use Rattle.whole.proofs.Integers.{*ℤ-unit, unit-*ℤ, +ℤ-left-comm, *ℤ-distribʳ, *ℤ-distribˡ, *ℤ-assoc, *ℤ-left-comm, negℤ-*ℤ}
 

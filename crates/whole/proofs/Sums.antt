@@ -1,8 +1,8 @@
 -- Laws of finite sums and of tables (specs/Sums.antt): sums add, scale and may be taken in either order; a table of a table is applied as
 -- one; a transposed table moves from one side of a sum of products to the other. Assumes nothing.
-use Rattle.vocabulary.specs.{◌≡◌, refl, sym, ap, ap₂, ◌∙◌, subst, ⊎_elim, ℕ, zero, suc, ◌+◌, ◌*◌, ◌≤◌, ◌<◌, zero-le, le_of_suc-le-suc}
-use Rattle.vocabulary.specs.{not-suc-le-zero, eq-or-lt_of_le, add-one, unary_clauses, arith, ℤ, pos, negsuc, neg_ℤ, nat_abs, ◌+ℤ◌, ◌-ℤ◌}
-use Rattle.vocabulary.specs.{◌*ℤ◌, +ℤ_idr, +ℤ_idl, +ℤ_comm, *ℤ-zero, zero-*ℤ, *ℤ_comm, ◌≤ℤ◌, ≤ℤ_refl}
+use Rattle.std.specs.Prelude.{◌≡◌, refl, ℕ, zero, suc, ◌+◌, ◌*◌, ◌≤◌, ◌<◌, ℤ, pos, negsuc, neg_ℤ, nat_abs, ◌+ℤ◌, ◌-ℤ◌, ◌*ℤ◌, ◌≤ℤ◌}
+use Rattle.vocabulary.specs.{sym, ap, ap₂, ◌∙◌, subst, ⊎_elim, zero-le, le_of_suc-le-suc, not-suc-le-zero, eq-or-lt_of_le, add-one}
+use Rattle.vocabulary.specs.{unary_clauses, arith, +ℤ_idr, +ℤ_idl, +ℤ_comm, *ℤ-zero, zero-*ℤ, *ℤ_comm, ≤ℤ_refl}
 use Rattle.whole.specs.Sums.{sum, dot, squares, applied, composed, identity, transposed}
 use Rattle.whole.proofs.{Integers.*ℤ-distribˡ, Integers.unit-*ℤ, Magnitudes.nat_abs_add}
 use Rattle.whole.proofs.Ring.{ring, constant, ◌≐◌, ◌⊕◌, ◌⊖◌, ◌⊗◌, ⊝◌}

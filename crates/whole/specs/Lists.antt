@@ -1,5 +1,5 @@
 -- Lists made by a rule, lists brought to a fixed length as the arrays of the code have it, and tests of every entry.
-use Rattle.vocabulary.specs.{ℕ, zero, suc, Bool, true, ◌&&◌, List, [], ◌∷◌}
+use Rattle.std.specs.Prelude.{ℕ, zero, suc, Bool, true, ◌&&◌, List, [], ◌∷◌}
 
 module _ {A : Type 0} where
   -- f 0, f 1, .., f (n − 1)

@@ -1,7 +1,7 @@
 -- The rounded quotient: "nearest tenth", and "a half to the even tenth". Here document 02, M-105 overrides document 01, which has halves go
 -- away from zero.
 -- The exact value is a fraction, numerator over denominator, counted in tenths; what is nearest to it is a whole number of tenths.
-use Rattle.vocabulary.specs.{Bool, cond, ◌||◌, ◌&&◌, ℕ, zero, suc, ◌+◌, ◌*◌, ◌/◌, ◌%◌, ltb, eqb, ℤ, pos, negsuc, neg_ℤ, nat_abs}
+use Rattle.std.specs.Prelude.{Bool, cond, ◌||◌, ◌&&◌, ℕ, zero, suc, ◌+◌, ◌*◌, ◌/◌, ◌%◌, ltb, eqb, ℤ, pos, negsuc, neg_ℤ, nat_abs}
 
 -- Whether what a quotient leaves out counts as one more: where the remainder is more than half of the denominator d, or exactly half of
 -- it and the quotient is odd.

@@ -1,4 +1,6 @@
 // Whole numbers: the magnitude of a signed number, the rounded quotient, and a hundredfold compared.
+#![tactic(auto)]
+
 ghost use Rattle.std.specs.Prelude.{◌≡◌, ◌≤◌, ◌*◌, ltb, nat_abs};
 ghost use Rattle.whole.specs.Quotient.{with_sign, rounded_quotient};
 ghost use Rattle.whole.specs.Quotient.{nearest as Quotient·nearest};

@@ -2,8 +2,9 @@
 -- multiplied out by antt, as `ring` of `whole` multiplies out an identity. `stays n (λ x y .. . result) x bound within y bound within ..
 -- tt` says `held result ≡ result` of the n numbers named after it, each with its bound and a proof of it. A result that could pass two
 -- words is refused at `tt`.
-use Rattle.vocabulary.specs.{◌≡◌, ap, List, [], ◌∷◌, ℕ, zero, suc, ◌+◌, ◌*◌, ◌^◌, ◌≤◌, ◌<◌, le_refl, le_trans, add-le-add, mul-le-mul}
-use Rattle.vocabulary.specs.{lt_of_le_of_lt, T, ltb, ltb→lt, ℤ, pos, negsuc, neg_ℤ, nat_abs, ◌-ℤ◌, ◌*ℤ◌, get_or}
+use Rattle.std.specs.Prelude.{◌≡◌, List, [], ◌∷◌, ℕ, zero, suc, ◌+◌, ◌*◌, ◌^◌, ◌≤◌, ◌<◌, T, ltb, ℤ, pos, negsuc, neg_ℤ, nat_abs, ◌-ℤ◌, ◌*ℤ◌}
+use Rattle.std.specs.Prelude.{get_or}
+use Rattle.vocabulary.specs.{ap, le_refl, le_trans, add-le-add, mul-le-mul, lt_of_le_of_lt, ltb→lt}
 use Rattle.whole.proofs.Magnitudes.{nat_abs_neg, nat_abs_add, nat_abs_mul}
 use Rattle.whole.proofs.Ring.{Expression, variable, constant, ⊝◌, ◌⊕◌, ◌⊖◌, ◌⊗◌, meaning}
 use Rattle.wide.specs.{Wide.limit, Wide.size_of, Wide.value_of, Wide.held, declared.Wide.Wide}

@@ -1,8 +1,9 @@
 -- Laws of the division of sizes: the leading bits of two sizes, how often the one goes into the other at least, and what a turn leaves.
-use Rattle.vocabulary.specs.{◌≡◌, sym, ap, ◌∙◌, subst, ℕ, zero, suc, ◌+◌, ◌-◌, ◌*◌, ◌/◌, ◌%◌, ◌^◌, ◌≤◌, ◌<◌, add_comm, mul-le-mul_right}
-use Rattle.vocabulary.specs.{mul-le-mul_left, lt_of_mul-lt-mul_right, div-mul-le_self, lt-div-mul-add, mod-lt, mod-eq_of_lt}
-use Rattle.vocabulary.specs.{mul-add-div_right, div-add-mod', mul_assoc, mul_comm, zero-mul, zero-add, le-div_iff_mul-le, mul-zero}
-use Rattle.vocabulary.specs.{not-suc-le-zero, arith, digits_lt, digits_div, digits_mod, pow_pos, pow-add, shl_lt, shr_lt, shr-shr}
+use Rattle.std.specs.Prelude.{◌≡◌, ℕ, zero, suc, ◌+◌, ◌-◌, ◌*◌, ◌/◌, ◌%◌, ◌^◌, ◌≤◌, ◌<◌}
+use Rattle.vocabulary.specs.{sym, ap, ◌∙◌, subst, add_comm, mul-le-mul_right, mul-le-mul_left, lt_of_mul-lt-mul_right, div-mul-le_self}
+use Rattle.vocabulary.specs.{lt-div-mul-add, mod-lt, mod-eq_of_lt, mul-add-div_right, div-add-mod', mul_assoc, mul_comm, zero-mul, zero-add}
+use Rattle.vocabulary.specs.{le-div_iff_mul-le, mul-zero, not-suc-le-zero, arith, digits_lt, digits_div, digits_mod, pow_pos, pow-add}
+use Rattle.vocabulary.specs.{shl_lt, shr_lt, shr-shr}
 use Rattle.whole.specs.Quotient.{nearest}
 use Rattle.whole.proofs.Quotient.{nearest_down, nearest_up}
 use Rattle.wide.specs.{Wide.radix, Wide.size_of, declared.Size.Size}

@@ -1,6 +1,6 @@
 -- Laws of narrowing to one word with a sign. A caller whose number has a magnitude below 2 ^ 63 gets the number.
-use Rattle.vocabulary.specs.{◌≡◌, refl, ap, ◌∙◌, ℕ, zero, suc, ◌-◌, ◌^◌, ◌≤◌, ◌<◌, lt_of_le_of_lt, le_refl, le-suc, arith, lt-ltb, le-ltb}
-use Rattle.vocabulary.specs.{ℤ, pos, negsuc, neg_ℤ, nat_abs, mag}
+use Rattle.std.specs.Prelude.{◌≡◌, refl, ℕ, zero, suc, ◌-◌, ◌^◌, ◌≤◌, ◌<◌, ℤ, pos, negsuc, neg_ℤ, nat_abs}
+use Rattle.vocabulary.specs.{ap, ◌∙◌, lt_of_le_of_lt, le_refl, le-suc, arith, lt-ltb, le-ltb, mag}
 use Rattle.wide.specs.{Wide.radix, Wide.size_of, Wide.narrowed, declared.Size.Size}
 
 narrowed_fits : (z : ℤ) → mag z < 2 ^ 63 → narrowed z ≡ z

@@ -1,6 +1,6 @@
 -- The product of two words by halves, column by column: no column passes a word, and together they are the product.
-use Rattle.vocabulary.specs.{◌≡◌, sym, ap, ◌∙◌, ℕ, zero, suc, ◌+◌, ◌*◌, ◌/◌, ◌%◌, ◌^◌, ◌≤◌, ◌<◌, mul-le-mul, lt_of_mul-lt-mul_right}
-use Rattle.vocabulary.specs.{div-add-mod', not-suc-le-zero, arith}
+use Rattle.std.specs.Prelude.{◌≡◌, ℕ, zero, suc, ◌+◌, ◌*◌, ◌/◌, ◌%◌, ◌^◌, ◌≤◌, ◌<◌}
+use Rattle.vocabulary.specs.{sym, ap, ◌∙◌, mul-le-mul, lt_of_mul-lt-mul_right, div-add-mod', not-suc-le-zero, arith}
 use Rattle.wide.specs.Wide.{radix, size_of}
 
 -- a product of two halves, and two carries

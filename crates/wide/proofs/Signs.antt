@@ -1,7 +1,8 @@
 -- Laws of signed sizes: what their sums, products, order, rounded quotients and what is held of them are, by the two signs.
-use Rattle.vocabulary.specs.{◌≡◌, refl, sym, ap, ◌∙◌, Bool, true, false, not, bool-beq, ℕ, zero, suc, ◌+◌, ◌-◌, ◌*◌, ◌≤◌, ◌<◌}
-use Rattle.vocabulary.specs.{sub-add_cancel, sub-le, lt_of_le_of_lt, arith, lt-ltb, le-ltb, eqb, ltb, leb-suc-suc, lit<, eqb-suc-zero, ℤ}
-use Rattle.vocabulary.specs.{pos, negsuc, neg_ℤ, nat_abs, neg_ℤ-neg_ℤ, neg_ℤ-+ℤ, +ℤ-neg_ℤ_cancel, *ℤ_comm, ◌+ℤ◌, ◌-ℤ◌, ◌*ℤ◌, lt_z}
+use Rattle.std.specs.Prelude.{◌≡◌, refl, Bool, true, false, not, ℕ, zero, suc, ◌+◌, ◌-◌, ◌*◌, ◌≤◌, ◌<◌, eqb, ltb, ℤ, pos, negsuc, neg_ℤ}
+use Rattle.std.specs.Prelude.{nat_abs, ◌+ℤ◌, ◌-ℤ◌, ◌*ℤ◌}
+use Rattle.vocabulary.specs.{sym, ap, ◌∙◌, bool-beq, sub-add_cancel, sub-le, lt_of_le_of_lt, arith, lt-ltb, le-ltb, leb-suc-suc, lit<}
+use Rattle.vocabulary.specs.{eqb-suc-zero, neg_ℤ-neg_ℤ, neg_ℤ-+ℤ, +ℤ-neg_ℤ_cancel, *ℤ_comm, lt_z}
 use Rattle.whole.specs.Quotient.{nearest, rounded_quotient}
 use Rattle.whole.proofs.{Integers.negℤ-*ℤ, Magnitudes.nat_abs_neg, Quotient.rounded_odd}
 use Rattle.wide.specs.Wide.{limit, signed, held_size, held}

@@ -1,7 +1,8 @@
 -- Laws of sizes of two words: what their words make of them, with the radix as a number of which only its square is known. `omega` stops at
 -- numbers of 39 digits, which 2 ^ 128 has, so no law here opens the radix where its square stands.
-use Rattle.vocabulary.specs.{◌≡◌, refl, sym, ap, ◌∙◌, Bool, true, false, ℕ, ◌+◌, ◌-◌, ◌*◌, ◌^◌, ◌≤◌, ◌<◌, mul-le-mul_right, sub-add_cancel}
-use Rattle.vocabulary.specs.{arith, ltb-true, ltb-false, lt-ltb, le-ltb, ne_eqb, digits_lt, lt_of_le-ne, ltb, eqb}
+use Rattle.std.specs.Prelude.{◌≡◌, refl, Bool, true, false, ℕ, ◌+◌, ◌-◌, ◌*◌, ◌^◌, ◌≤◌, ◌<◌, ltb, eqb}
+use Rattle.vocabulary.specs.{sym, ap, ◌∙◌, mul-le-mul_right, sub-add_cancel, arith, ltb-true, ltb-false, lt-ltb, le-ltb, ne_eqb, digits_lt}
+use Rattle.vocabulary.specs.{lt_of_le-ne}
 use Rattle.wide.specs.{Wide.radix, Wide.limit, Wide.size_of, Wide.held_size, declared.Size.Size}
 
 -- ---- Words, and the size of two

@@ -1,6 +1,7 @@
 -- Whole numbers wider than 64 bits: a sign, and a size of two words. What such a number is worth, and what is held of a result that two
 -- words cannot hold.
-use Rattle.vocabulary.specs.{Bool, true, false, cond, ℕ, ◌+◌, ◌*◌, ◌^◌, ltb, ℤ, pos, neg_ℤ, nat_abs, mag}
+use Rattle.std.specs.Prelude.{Bool, true, false, cond, ℕ, ◌+◌, ◌*◌, ◌^◌, ltb, ℤ, pos, neg_ℤ, nat_abs}
+use Rattle.vocabulary.specs.{mag}
 use Rattle.whole.specs.Quotient.{with_sign}
 use Rattle.wide.specs.{declared.Size.Size, declared.Wide.Wide}
 

@@ -8,14 +8,14 @@ use crate::Size;
 use crate::words::{is_nothing, size_scaled, sizes_difference, sizes_less, sizes_sum};
 
 // A quotient of one word, and what is left.
-#[derive(Drop)]
+#[derive(Clone, Copy)]
 struct WordQuotient {
     word: u64,
     rest: Size,
 }
 
 // A quotient, and what is left.
-#[derive(Drop)]
+#[derive(Clone, Copy)]
 struct Quotient {
     size: Size,
     rest: Size,

@@ -1,5 +1,7 @@
 // Whole numbers wider than 64 bits, as a sign and a size of two words. Every function answers every input, and its promise speaks of the
 // numbers that the words are worth; where a result has no room in two words, it is 0, as `held` of specs/Wide.antt says.
+#![tactic(auto)]
+
 ghost use Rattle.std.specs.Prelude.{◌≡◌, eqb, pos, neg_ℤ, nat_abs, ◌+ℤ◌, ◌-ℤ◌, ◌*ℤ◌};
 ghost use Rattle.std.specs.Int.Signed.{lt_z};
 ghost use Rattle.whole.specs.Quotient.{rounded_quotient};
@@ -15,14 +17,14 @@ use words::{is_nothing, size_scaled, sizes_difference, sizes_less, sizes_sum, wo
 const SIGNED_REACH: u64 = 9223372036854775808;
 
 // A number from 0 up, high·2^64 + low.
-#[derive(Drop)]
+#[derive(Clone, Copy)]
 pub struct Size {
     pub high: u64,
     pub low: u64,
 }
 
 // A number below zero, or not, of this size. Of the two ways to write 0 neither is wrong.
-#[derive(Drop)]
+#[derive(Clone, Copy)]
 pub struct Wide {
     pub negative: bool,
     pub size: Size,

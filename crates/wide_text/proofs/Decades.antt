@@ -1,6 +1,6 @@
 -- A size as tens and units, found by words: the radix is 10 · 1844674407370955161 + 6. Assumes nothing.
-use Rattle.vocabulary.specs.{◌≡◌, sym, ap, ◌∙◌, false, ℕ, ◌+◌, ◌*◌, ◌/◌, ◌%◌, ◌^◌, ◌≤◌, ◌<◌, mod-lt, lt_trans, arith, le-ltb, digits_div}
-use Rattle.vocabulary.specs.{digits_mod, ltb, lit<}
+use Rattle.std.specs.Prelude.{◌≡◌, false, ℕ, ◌+◌, ◌*◌, ◌/◌, ◌%◌, ◌^◌, ◌≤◌, ◌<◌, ltb}
+use Rattle.vocabulary.specs.{sym, ap, ◌∙◌, mod-lt, lt_trans, arith, le-ltb, digits_div, digits_mod, lit<}
 use Rattle.wide.specs.{Wide.radix, Wide.limit, Wide.size_of, declared.Size.Size}
 use Rattle.wide.proofs.Sizes.{low_word, in_words, size_within}
 

@@ -1,5 +1,6 @@
 -- The decimal text of a wide number, by its sign and size. Assumes nothing.
-use Rattle.vocabulary.specs.{◌≡◌, refl, ap, ◌∙◌, subst, true, false, ◌∷◌, ℕ, not-suc-le-zero, ltb-true, T, ℤ, pos, negsuc, nat_abs, lt_z}
+use Rattle.std.specs.Prelude.{◌≡◌, refl, true, false, ◌∷◌, ℕ, T, ℤ, pos, negsuc, nat_abs}
+use Rattle.vocabulary.specs.{ap, ◌∙◌, subst, not-suc-le-zero, ltb-true, lt_z}
 use Rattle.text.specs.Text.{minus, natural, decimal}
 use Rattle.wide.specs.{Wide.size_of, Wide.value_of, declared.Wide.Wide}
 use Rattle.wide.proofs.Bounds.{value_size}

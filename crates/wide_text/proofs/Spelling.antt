@@ -1,8 +1,8 @@
 -- A number's digits spelled at the end of a room of 39 bytes, from the last one backwards: what the loop of `wide_text::spell` keeps, and
 -- its steps. Assumes nothing.
-use Rattle.vocabulary.specs.{◌≡◌, sym, ap, ◌∙◌, List, [], ◌∷◌, ◌++◌, append-nil, ℕ, suc, ◌+◌, ◌-◌, ◌/◌, ◌%◌, ◌^◌, ◌≤◌, ◌<◌, add-one, arith}
-use Rattle.vocabulary.specs.{lit<, length, take, drop, set, length-append, length-set, drop_of_length-le, append_snoc, set_split, drop_at}
-use Rattle.vocabulary.specs.{length-take-le}
+use Rattle.std.specs.Prelude.{◌≡◌, List, [], ◌∷◌, ◌++◌, ℕ, suc, ◌+◌, ◌-◌, ◌/◌, ◌%◌, ◌^◌, ◌≤◌, ◌<◌, length, take, drop, set}
+use Rattle.vocabulary.specs.{sym, ap, ◌∙◌, append-nil, add-one, arith, lit<, length-append, length-set, drop_of_length-le, append_snoc}
+use Rattle.vocabulary.specs.{set_split, drop_at, length-take-le}
 use Rattle.text.specs.Text.{digit, natural}
 use Rattle.text.proofs.Numbers.{natural_last, natural_before, natural_some, length_natural}
 

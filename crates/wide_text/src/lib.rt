@@ -1,5 +1,7 @@
 // Numbers wider than 64 bits laid as decimal text in a lent byte slice: document 01, "Sheets worked through". What a number's text is, and
 // what a text without room leaves, are definitions of `text`, and every public function answers every input as they say.
+#![tactic(auto)]
+
 ghost use Rattle.std.specs.Prelude.{◌≡◌, ◌/◌, ◌%◌, ◌<◌, ltb, length, drop};
 ghost use Rattle.text.specs.Text.{laid, after, natural};
 ghost use Rattle.text.specs.Text.{decimal as Text·decimal, digit as Text·digit};
@@ -16,7 +18,7 @@ const RADIX_TENS: u64 = 1844674407370955161;
 const RADIX_UNITS: u64 = 6;
 
 // A size as tens and what is left of them.
-#[derive(Drop)]
+#[derive(Clone, Copy)]
 struct Tens {
     count: Size,
     units: u64,

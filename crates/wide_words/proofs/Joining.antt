@@ -1,7 +1,7 @@
 -- Two words and the number that they are worth: the words of a number, joined, are the number, and two words are those of what they
 -- join to. Assumes nothing.
-use Rattle.vocabulary.specs.{◌≡◌, refl, sym, ap, ◌∙◌, ℕ, suc, ◌+◌, ◌-◌, ◌*◌, ◌/◌, ◌%◌, ◌^◌, ◌<◌, div-add-mod', mod-lt, arith, digits_div}
-use Rattle.vocabulary.specs.{digits_mod, lit<, ℤ, pos, negsuc, neg_ℤ, ◌+ℤ◌}
+use Rattle.std.specs.Prelude.{◌≡◌, refl, ℕ, suc, ◌+◌, ◌-◌, ◌*◌, ◌/◌, ◌%◌, ◌^◌, ◌<◌, ℤ, pos, negsuc, neg_ℤ, ◌+ℤ◌}
+use Rattle.vocabulary.specs.{sym, ap, ◌∙◌, div-add-mod', mod-lt, arith, digits_div, digits_mod, lit<}
 use Rattle.whole.proofs.Ring.{ring, ◌≐◌, ◌⊕◌, ⊝◌}
 use Rattle.wide.specs.{Wide.radix, Wide.size_of, declared.Size.Size}
 use Rattle.wide.proofs.Sizes.{word, radix_is}

@@ -1,7 +1,7 @@
 -- What two words reach, and the words that are found for it. Assumes nothing.
-use Rattle.vocabulary.specs.{◌≡◌, refl, sym, ap, ◌∙◌, subst, true, false, ℕ, suc, ◌+◌, ◌-◌, ◌*◌, ◌%◌, ◌^◌, ◌≤◌, ◌<◌, lt_of_le_of_lt}
-use Rattle.vocabulary.specs.{le_refl, le-suc, mul-le-mul_right, le_trans, le-add_right, div-eq_of_lt, mod-eq_of_lt, not-suc-le-zero, arith}
-use Rattle.vocabulary.specs.{ltb-true, lt-ltb, le-ltb, digits_lt, T, ℤ, pos, negsuc, nat_abs, mag, lt_z}
+use Rattle.std.specs.Prelude.{◌≡◌, refl, true, false, ℕ, suc, ◌+◌, ◌-◌, ◌*◌, ◌%◌, ◌^◌, ◌≤◌, ◌<◌, T, ℤ, pos, negsuc, nat_abs}
+use Rattle.vocabulary.specs.{sym, ap, ◌∙◌, subst, lt_of_le_of_lt, le_refl, le-suc, mul-le-mul_right, le_trans, le-add_right, div-eq_of_lt}
+use Rattle.vocabulary.specs.{mod-eq_of_lt, not-suc-le-zero, arith, ltb-true, lt-ltb, le-ltb, digits_lt, mag, lt_z}
 use Rattle.wide.specs.{Wide.radix, Wide.size_of, Wide.value_of, declared.Size.Size, declared.Wide.Wide}
 use Rattle.wide.proofs.{Bounds.value_size, Sizes.word, Sizes.radix_is}
 use Rattle.wide_words.specs.Words.{high_word, low_word, words_from, reached}

@@ -1,6 +1,7 @@
 -- A whole number as two words in two's complement: a high word with a sign, a low word without. What two words are worth, and which two
 -- a number is.
-use Rattle.vocabulary.specs.{cond, ℕ, ◌-◌, ◌/◌, ◌%◌, ◌^◌, ltb, ℤ, pos, negsuc, ◌+ℤ◌, ◌*ℤ◌, mag}
+use Rattle.std.specs.Prelude.{cond, ℕ, ◌-◌, ◌/◌, ◌%◌, ◌^◌, ltb, ℤ, pos, negsuc, ◌+ℤ◌, ◌*ℤ◌}
+use Rattle.vocabulary.specs.{mag}
 use Rattle.wide.specs.Wide.{radix}
 use Rattle.wide_words.specs.declared.Words.{Words}
 

@@ -1,5 +1,7 @@
 // Wide numbers as two words in two's complement, as a caller from C has them: high·2^64 + low, the high word with a sign. Every function
 // answers every input; a number that two such words do not hold is answered as 0, as `reached` of specs/Words.antt says.
+#![tactic(auto)]
+
 ghost use Rattle.std.specs.Prelude.{◌≡◌, ◌+◌, ◌-◌, ◌*◌, ◌<◌, pos, negsuc};
 ghost use Rattle.wide.specs.Wide.{radix, size_of, value_of};
 ghost use Rattle.wide_words.specs.Words.{joined, reached, words_from};
@@ -10,7 +12,7 @@ use wide::{Size, Wide};
 const SIGNED_REACH: u64 = 9223372036854775808;
 
 // The number high·2^64 + low.
-#[derive(Drop)]
+#[derive(Clone, Copy)]
 pub struct Words {
     pub high: i64,
     pub low: u64,

@@ -1,5 +1,6 @@
 -- `bits::field` meets its contract: the field is a part of the number of the bytes that were taken, eight or as many as it straddles.
-use Rattle.vocabulary.specs.{sym, ◌∙◌, ◌+◌, ◌*◌, ◌/◌, ◌%◌, ◌≤◌, arith, needs, not-true, not-false, length}
+use Rattle.std.specs.Prelude.{◌+◌, ◌*◌, ◌/◌, ◌%◌, ◌≤◌, length}
+use Rattle.vocabulary.specs.{sym, ◌∙◌, arith, needs, not-true, not-false}
 use Rattle.bits.proofs.{Fields.inside_within, Fields.inside_wide, Fields.field_at_outside, Fields.field_at_empty, Runs.field_part}
 use Rattle.bits.proofs.field.Statement.{statement}
 use Rattle.bits.proofs.field.Tie as tie

@@ -1,7 +1,7 @@
 -- `bits::is_inside` meets its contract: a field ends within the bytes exactly where the bytes that it spans, from the one in which it
 -- starts, are no more than are left from there.
-use Rattle.vocabulary.specs.{◌≡◌, ◌∙◌, sym, List, ℕ, ◌+◌, ◌-◌, ◌/◌, ◌%◌, ◌≤◌, dec_le, lt_of_not-le, arith, needs, le-leb, lt-leb, leb}
-use Rattle.vocabulary.specs.{length}
+use Rattle.std.specs.Prelude.{◌≡◌, List, ℕ, ◌+◌, ◌-◌, ◌/◌, ◌%◌, ◌≤◌, leb, length}
+use Rattle.vocabulary.specs.{◌∙◌, sym, dec_le, lt_of_not-le, arith, needs, le-leb, lt-leb}
 use Rattle.bits.specs.Bits.{inside}
 use Rattle.bits.proofs.Fields.{is_inside, inside_past, inside_wide}
 use Rattle.bits.proofs.is_inside.Statement.{statement}

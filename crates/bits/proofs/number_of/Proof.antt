@@ -1,6 +1,7 @@
 -- `bits::number_of` meets its contract. The loop's invariant: what is held is the number of the bytes taken so far.
 -- The measure is how many are left.
-use Rattle.vocabulary.specs.{◌≡◌, refl, sym, ap, ◌∙◌, ℕ, ◌+◌, ◌-◌, ◌*◌, ◌^◌, ◌≤◌, ◌<◌, arith, get_or}
+use Rattle.std.specs.Prelude.{◌≡◌, refl, ℕ, ◌+◌, ◌-◌, ◌*◌, ◌^◌, ◌≤◌, ◌<◌, get_or}
+use Rattle.vocabulary.specs.{sym, ap, ◌∙◌, arith}
 use Rattle.bits.specs.Bits.{value, bits_of}
 use Rattle.bits.proofs.Runs.{run, run_more, run_short}
 use Rattle.bits.proofs.number_of.Statement.{statement}

@@ -1,5 +1,6 @@
 -- `bits::part` meets its contract: what a quotient leaves over 2 ^ 32 at most fits in 32 bits.
-use Rattle.vocabulary.specs.{ap₂, ℕ, ◌/◌, ◌%◌, ◌^◌, ◌<◌, mod-lt, lt_of_lt_of_le, arith, needs, pow_pos, pow_mono}
+use Rattle.std.specs.Prelude.{ℕ, ◌/◌, ◌%◌, ◌^◌, ◌<◌}
+use Rattle.vocabulary.specs.{ap₂, mod-lt, lt_of_lt_of_le, arith, needs, pow_pos, pow_mono}
 use Rattle.bits.proofs.Places.{power_pos}
 use Rattle.bits.proofs.part.Statement.{statement}
 use Rattle.bits.proofs.part.Tie as tie

@@ -1,5 +1,6 @@
 -- `bits::power_of_two` meets its contract: below 64 a shift of 1 loses no bit.
-use Rattle.vocabulary.specs.{◌∙◌, ◌^◌, one-mul, arith, needs, shl_exact}
+use Rattle.std.specs.Prelude.{◌^◌}
+use Rattle.vocabulary.specs.{◌∙◌, one-mul, arith, needs, shl_exact}
 use Rattle.bits.proofs.power_of_two.Statement.{statement}
 use Rattle.bits.proofs.power_of_two.Tie as tie
 

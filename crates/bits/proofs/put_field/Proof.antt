@@ -1,7 +1,7 @@
 -- `bits::put_field` meets its contract. The bits are written from the field's last one on. The loop's invariant: with those left of the
 -- value laid over the field, the bytes are what is wanted. The measure is how many are left.
-use Rattle.vocabulary.specs.{Bool, true, List, ◌≡◌, refl, sym, ap, ◌∙◌, subst, ℕ, ◌+◌, ◌-◌, ◌*◌, ◌/◌, ◌%◌, ◌≤◌, ◌<◌, arith, needs}
-use Rattle.vocabulary.specs.{not-true, not-false, length, set}
+use Rattle.std.specs.Prelude.{Bool, true, List, ◌≡◌, refl, ℕ, ◌+◌, ◌-◌, ◌*◌, ◌/◌, ◌%◌, ◌≤◌, ◌<◌, length, set}
+use Rattle.vocabulary.specs.{sym, ap, ◌∙◌, subst, arith, needs, not-true, not-false}
 use Rattle.bits.specs.Bits.{odd, bits_of, bytes_of, inside, with_field}
 use Rattle.bits.proofs.{Bytes.AreBytes, Bytes.length_bits_of, Bytes.bytes_of_bits_of, Places.lay_last, Places.lay_none}
 use Rattle.bits.proofs.Fields.{inside_within, inside_narrow, laid, with_field_is, with_field_outside}

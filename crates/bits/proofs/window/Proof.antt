@@ -1,5 +1,6 @@
 -- `bits::window` meets its contract: four bytes before four count 2 ^ 32 times as much.
-use Rattle.vocabulary.specs.{ap₂, sym, ◌∙◌, ℕ, ◌+◌, ◌*◌, needs}
+use Rattle.std.specs.Prelude.{ℕ, ◌+◌, ◌*◌}
+use Rattle.vocabulary.specs.{ap₂, sym, ◌∙◌, needs}
 use Rattle.bits.proofs.Runs.{run_add}
 use Rattle.bits.proofs.window.Statement.{statement}
 use Rattle.bits.proofs.window.Tie as tie

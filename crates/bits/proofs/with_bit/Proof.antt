@@ -1,5 +1,6 @@
 -- `bits::with_bit` meets its contract: the bits above the place, the new bit and the bits below it make a byte again.
-use Rattle.vocabulary.specs.{◌+◌, ◌*◌, ◌/◌, ◌%◌, ◌<◌, div-le_self, arith, needs}
+use Rattle.std.specs.Prelude.{◌+◌, ◌*◌, ◌/◌, ◌%◌, ◌<◌}
+use Rattle.vocabulary.specs.{div-le_self, arith, needs}
 use Rattle.bits.proofs.Places.{power_pos, byte_with_bit, byte_with_bit_lt}
 use Rattle.bits.proofs.with_bit.Statement.{statement}
 use Rattle.bits.proofs.with_bit.Tie as tie

@@ -1,5 +1,6 @@
 -- `bits::word` meets its contract: each byte is below 256, so the four fit in 32 bits.
-use Rattle.vocabulary.specs.{◌+◌, arith, needs}
+use Rattle.std.specs.Prelude.{◌+◌}
+use Rattle.vocabulary.specs.{arith, needs}
 use Rattle.bits.proofs.Runs.{run_four}
 use Rattle.bits.proofs.word.Statement.{statement}
 use Rattle.bits.proofs.word.Tie as tie

@@ -1,5 +1,6 @@
 -- `figure_tables::side_signs_of` meets its contract: of the figures one alone has a side condition.
-use Rattle.vocabulary.specs.{◌≡◌, refl, List, [], ◌∷◌, ℕ, needs, tag_of, pos, take, replicate, OneOf, miss}
+use Rattle.std.specs.Prelude.{◌≡◌, refl, List, [], ◌∷◌, ℕ, pos, take, replicate}
+use Rattle.vocabulary.specs.{needs, tag_of, OneOf, miss}
 use Rattle.figures.specs.contracts.Figure.{the_type}
 use Rattle.figures.specs.{declared.Figure.Figure, Figure.angle_count, Figure.side, Numerators.most_angles}
 use Rattle.figures.specs.declared.Figure.TheVariants.{Quadrilateral, PointInTriangle, PointInQuadrilateral, CentralTriangle, CentralQuadrilateral, CentralPentagon, CentralHexagon, CentralHeptagon, CentralOctagon}

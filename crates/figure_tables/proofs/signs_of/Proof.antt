@@ -1,5 +1,6 @@
 -- `figure_tables::signs_of` meets its contract: the triangles of a figure are the first of the largest figure's.
-use Rattle.vocabulary.specs.{◌≡◌, refl, ap, ◌∙◌, List, [], ◌∷◌, ℕ, needs, tag_of, ℤ, take, OneOf, miss}
+use Rattle.std.specs.Prelude.{◌≡◌, refl, List, [], ◌∷◌, ℕ, ℤ, take}
+use Rattle.vocabulary.specs.{ap, ◌∙◌, needs, tag_of, OneOf, miss}
 use Rattle.figures.specs.contracts.Figure.{the_type}
 use Rattle.figures.specs.{declared.Figure.Figure, Figure.angle_count, Figure.pole, Rows.triangle_signs}
 use Rattle.figures.specs.declared.Figure.TheVariants.{Quadrilateral, PointInTriangle, PointInQuadrilateral, CentralTriangle, CentralQuadrilateral, CentralPentagon, CentralHexagon, CentralHeptagon, CentralOctagon}

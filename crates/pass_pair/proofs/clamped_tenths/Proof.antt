@@ -1,6 +1,6 @@
 -- `pass_pair::clamped_tenths` meets its contract: the size is clamped, which 32 bits hold, and the sign stays.
-use Rattle.vocabulary.specs.{◌≡◌, ap, ◌∙◌, ◌^◌, ◌<◌, lt_of_le_of_lt, needs, lit<, ℤ, pos, neg_ℤ, ◌-ℤ◌, +ℤ_idl, w32, SFits, to_z, to_z-of_z}
-use Rattle.vocabulary.specs.{to_z_pos}
+use Rattle.std.specs.Prelude.{◌≡◌, ◌^◌, ◌<◌, ℤ, pos, neg_ℤ, ◌-ℤ◌}
+use Rattle.vocabulary.specs.{ap, ◌∙◌, lt_of_le_of_lt, needs, lit<, +ℤ_idl, w32, SFits, to_z, to_z-of_z, to_z_pos}
 use Rattle.whole.proofs.Magnitudes.{magnitude_fits, nat_abs_neg}
 use Rattle.wide.specs.Wide.{size_of, value_of}
 use Rattle.wide.proofs.Signs.{signed_above, signed_below}

@@ -1,5 +1,6 @@
 -- `pass_pair::pair_correction` meets its contract: each step is that of the definition.
-use Rattle.vocabulary.specs.{◌≡◌, sym, ap, ap₂, ◌∙◌, needs, ℤ, ◌*ℤ◌, to_z-of_z}
+use Rattle.std.specs.Prelude.{◌≡◌, ℤ, ◌*ℤ◌}
+use Rattle.vocabulary.specs.{sym, ap, ap₂, ◌∙◌, needs, to_z-of_z}
 use Rattle.whole.specs.Quotient.{rounded_quotient}
 use Rattle.wide.specs.Wide.{value_of, held}
 use Rattle.wide.proofs.Bounds.{value_size}

@@ -1,5 +1,6 @@
 -- `pass_pair::products_difference` meets its contract: a product of two 64-bit numbers is at most 2^126 either way.
-use Rattle.vocabulary.specs.{◌≡◌, ap, ap₂, ◌∙◌, needs, ◌-ℤ◌, ◌*ℤ◌, w64, to_z-of_z}
+use Rattle.std.specs.Prelude.{◌≡◌, ◌-ℤ◌, ◌*ℤ◌}
+use Rattle.vocabulary.specs.{ap, ap₂, ◌∙◌, needs, w64, to_z-of_z}
 use Rattle.whole.proofs.Magnitudes.{fits_magnitude}
 use Rattle.wide.specs.Wide.{value_of, held}
 use Rattle.pass_pair.proofs.Exact.{products_stay}

@@ -1,5 +1,6 @@
 -- `pass_rules::in_force` meets its contract: only 0 stands for the default.
-use Rattle.vocabulary.specs.{◌≡◌, refl, sym, ap, ℕ, zero, suc}
+use Rattle.std.specs.Prelude.{◌≡◌, refl, ℕ, zero, suc}
+use Rattle.vocabulary.specs.{sym, ap}
 use Rattle.pass_rules.specs.Pass.{in_force}
 use Rattle.pass_rules.proofs.in_force.Statement.{statement}
 use Rattle.pass_rules.proofs.in_force.Tie as tie

@@ -1,7 +1,7 @@
 -- `pass_sheet::body_lines` meets its contract: the reader keeps its promise on the parts that are lent to it, and its values are worked
 -- from there.
-use Rattle.vocabulary.specs.{◌≡◌, refl, sym, ap, ◌∙◌, subst, List, [], ◌∷◌, ◌++◌, ℕ, ◌≤◌, needs, ℤ, pos, length, take, drop, replicate}
-use Rattle.vocabulary.specs.{now, length-take-le, take_at}
+use Rattle.std.specs.Prelude.{◌≡◌, refl, List, [], ◌∷◌, ◌++◌, ℕ, ◌≤◌, ℤ, pos, length, take, drop, replicate}
+use Rattle.vocabulary.specs.{sym, ap, ◌∙◌, subst, needs, now, length-take-le, take_at}
 use Rattle.whole.proofs.Lending.{still_few}
 use Rattle.figures.specs.{declared.Figure.Figure, Numerators.most_angles, Numerators.most_fixed, Numerators.most_sides}
 use Rattle.sheet_layout.specs.{declared.Lengths.Lengths, declared.Kind.Kind}

@@ -1,5 +1,6 @@
 -- `pass_sheet::first_sheet` meets its contract: the lines of what the pass left, or its refusal.
-use Rattle.vocabulary.specs.{◌≡◌, sym, ◌∙◌, subst, List, [], ◌∷◌, ◌++◌, ℕ, needs, now, ℤ, pos, length, take, drop, replicate}
+use Rattle.std.specs.Prelude.{◌≡◌, List, [], ◌∷◌, ◌++◌, ℕ, ℤ, pos, length, take, drop, replicate}
+use Rattle.vocabulary.specs.{sym, ◌∙◌, subst, needs, now}
 use Rattle.whole.specs.Sums.{vector, naturals}
 use Rattle.text.specs.Holds.{Holds}
 use Rattle.lines.specs.Lines.{first_text}

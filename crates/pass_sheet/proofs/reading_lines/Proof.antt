@@ -1,5 +1,6 @@
 -- `pass_sheet::reading_lines` meets its contract: the pass of the kind that was read.
-use Rattle.vocabulary.specs.{◌≡◌, sym, ap, ap₂, ◌∙◌, subst, ℕ, List, needs, now}
+use Rattle.std.specs.Prelude.{◌≡◌, ℕ, List}
+use Rattle.vocabulary.specs.{sym, ap, ap₂, ◌∙◌, subst, needs, now}
 use Rattle.text.specs.Holds.{Holds}
 use Rattle.figures.specs.declared.Figure.{Figure}
 use Rattle.sheet_layout.specs.{declared.Kind.Kind, declared.Pass.Pass, Kinds.pass_of, Kinds.default_of}

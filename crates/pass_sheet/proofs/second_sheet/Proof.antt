@@ -1,6 +1,6 @@
 -- `pass_sheet::second_sheet` meets its contract: the lines of what the pass left, or its refusal.
-use Rattle.vocabulary.specs.{Bool, true, false, cond, ◌≡◌, sym, ap, ◌∙◌, subst, List, [], ◌∷◌, ◌++◌, ℕ, ◌≤◌, zero-le, arith, needs, now, ℤ}
-use Rattle.vocabulary.specs.{pos, w64, to_z_of_z_at, get_or, take, drop, replicate}
+use Rattle.std.specs.Prelude.{Bool, true, false, cond, ◌≡◌, List, [], ◌∷◌, ◌++◌, ℕ, ◌≤◌, ℤ, pos, get_or, take, drop, replicate}
+use Rattle.vocabulary.specs.{sym, ap, ◌∙◌, subst, zero-le, arith, needs, now, w64, to_z_of_z_at}
 use Rattle.whole.specs.Sums.{vector, naturals}
 use Rattle.wide_words.specs.Words.{joined}
 use Rattle.text.specs.Holds.{Holds}

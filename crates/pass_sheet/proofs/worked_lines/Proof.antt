@@ -1,5 +1,6 @@
 -- `pass_sheet::worked_lines` meets its contract: the look, and then the reading, and then the pass.
-use Rattle.vocabulary.specs.{◌≡◌, sym, ◌∙◌, subst, List, ℕ, needs, now}
+use Rattle.std.specs.Prelude.{◌≡◌, List, ℕ}
+use Rattle.vocabulary.specs.{sym, ◌∙◌, subst, needs, now}
 use Rattle.figures.specs.declared.Figure.{Figure}
 use Rattle.sheet_layout.specs.{declared.Kind.Kind, declared.head.Look.Look, declared.head.Look.TheVariants.Head, Head.look_of}
 use Rattle.text.specs.Holds.{Holds}

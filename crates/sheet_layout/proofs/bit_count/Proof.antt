@@ -1,6 +1,7 @@
 -- `sheet_layout::bit_count` meets its contract: what the arms compute is the width of the layout, for every figure, and a figure has few
 -- angles.
-use Rattle.vocabulary.specs.{ℕ, ◌+◌, ◌*◌, ◌≡◌, sym, ap, ap₂, ◌∙◌, arith, needs}
+use Rattle.std.specs.Prelude.{ℕ, ◌+◌, ◌*◌, ◌≡◌}
+use Rattle.vocabulary.specs.{sym, ap, ap₂, ◌∙◌, arith, needs}
 use Rattle.figures.specs.{declared.Counts.Counts, declared.Figure.Figure, Figure.counts_of}
 use Rattle.sheet_layout.specs.{declared.Kind.Kind, declared.Pass.Pass, Kinds.pass_of, Kinds.carries_rounds, Kinds.of_pass}
 use Rattle.sheet_layout.specs.Layout.{rounds_bits, bit_count}

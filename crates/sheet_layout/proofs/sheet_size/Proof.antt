@@ -1,5 +1,6 @@
 -- `sheet_layout::sheet_size` meets its contract: it rounds the count of bits up to whole bytes, as `byte_count` does.
-use Rattle.vocabulary.specs.{ℕ, ◌+◌, ◌/◌, ap, arith, needs}
+use Rattle.std.specs.Prelude.{ℕ, ◌+◌, ◌/◌}
+use Rattle.vocabulary.specs.{ap, arith, needs}
 use Rattle.bits.specs.Bits.{byte_count}
 use Rattle.sheet_layout.specs.Layout.{sheet_size}
 use Rattle.sheet_layout.proofs.Sizes.{few_bits}

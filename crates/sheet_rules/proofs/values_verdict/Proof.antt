@@ -1,5 +1,6 @@
 -- `sheet_rules::values_verdict` meets its contract: the rows in turn, each by its own promise.
-use Rattle.vocabulary.specs.{List, [], ◌∷◌, ◌++◌, ◌≡◌, ap, ◌∙◌, needs, ℕ, now}
+use Rattle.std.specs.Prelude.{List, [], ◌∷◌, ◌++◌, ◌≡◌, ℕ}
+use Rattle.vocabulary.specs.{ap, ◌∙◌, needs, now}
 use Rattle.refusals.specs.{declared.Verdict.Verdict, Order.Row, Order.verdict_of}
 use Rattle.refusals.specs.Table.{limit_or_tolerance_row, angles_row, rounds_row, fixed_row, fixed_sum_row, sine_entries_row}
 use Rattle.refusals.proofs.InSteps.{Answered, last_row, row_fails, row_passes}

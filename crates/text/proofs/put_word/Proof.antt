@@ -1,7 +1,7 @@
 -- `text::put_word` meets its contract: the bytes before `done` are in place and every other byte of the buffer is as it was; a turn lays
 -- the next one (`paste-suc`), until the word or the room is at its end.
-use Rattle.vocabulary.specs.{◌≡◌, sym, ap, ◌∙◌, ℕ, ◌+◌, ◌-◌, ◌≤◌, add-one, arith, List, length, get_or, set, length-set, paste, paste-zero}
-use Rattle.vocabulary.specs.{paste-suc}
+use Rattle.std.specs.Prelude.{◌≡◌, ℕ, ◌+◌, ◌-◌, ◌≤◌, List, length, get_or, set}
+use Rattle.vocabulary.specs.{sym, ap, ◌∙◌, add-one, arith, length-set, paste, paste-zero, paste-suc}
 use Rattle.text.proofs.Laying.{laid_past, laid_whole, laid_cut, after_none, after_room}
 use Rattle.text.proofs.put_word.Statement.{statement}
 use Rattle.text.proofs.put_word.Tie as tie

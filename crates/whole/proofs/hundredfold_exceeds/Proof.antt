@@ -1,5 +1,6 @@
 -- `whole::hundredfold_exceeds` meets its contract: past the guard a hundredfold is more than any number of 64 bits.
-use Rattle.vocabulary.specs.{sym, ◌*◌, arith, needs, lt-ltb}
+use Rattle.std.specs.Prelude.{◌*◌}
+use Rattle.vocabulary.specs.{sym, arith, needs, lt-ltb}
 use Rattle.whole.proofs.hundredfold_exceeds.Statement.{statement}
 use Rattle.whole.proofs.hundredfold_exceeds.Tie as tie
 

@@ -1,6 +1,6 @@
 -- `whole::magnitude` meets its contract: below zero, −1 − z is one less than the magnitude and in range, also for the smallest number.
-use Rattle.vocabulary.specs.{◌≡◌, ap, subst⁻¹, ◌∙◌, arith, needs, ℤ, pos, negsuc, nat_abs, ◌-ℤ◌, mag, w64, SFits, to_z, of_z, to_z-of_z}
-use Rattle.vocabulary.specs.{Fits-nat_abs}
+use Rattle.std.specs.Prelude.{◌≡◌, ℤ, pos, negsuc, nat_abs, ◌-ℤ◌}
+use Rattle.vocabulary.specs.{ap, subst⁻¹, ◌∙◌, arith, needs, mag, w64, SFits, to_z, of_z, to_z-of_z, Fits-nat_abs}
 use Rattle.whole.proofs.Magnitudes.{below_zero, not_below_zero, minus_one_more}
 use Rattle.whole.proofs.magnitude.Statement.{statement}
 use Rattle.whole.proofs.magnitude.Tie as tie

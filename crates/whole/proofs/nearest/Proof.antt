@@ -1,6 +1,7 @@
 -- `whole::nearest` meets its contract: the remainder tells on which side of the half n / d lies, the quotient which way a half goes, and
 -- rounding up never passes n.
-use Rattle.vocabulary.specs.{sym, ◌<◌, mod-lt, arith, needs}
+use Rattle.std.specs.Prelude.{◌<◌}
+use Rattle.vocabulary.specs.{sym, mod-lt, arith, needs}
 use Rattle.whole.proofs.Quotient.{nearest_none, nearest_down, nearest_up, nearest_within}
 use Rattle.whole.proofs.nearest.Statement.{statement}
 use Rattle.whole.proofs.nearest.Tie as tie

@@ -1,6 +1,6 @@
 -- `whole::with_sign` meets its contract: the size is no greater than the number's magnitude, so −1 − (size − 1) is in range.
-use Rattle.vocabulary.specs.{◌≡◌, ap, ◌∙◌, ℕ, suc, ◌-◌, arith, needs, ℤ, pos, negsuc, neg_ℤ, nat_abs, ◌-ℤ◌, mag, w64, SFits, to_z, to_z-of_z}
-use Rattle.vocabulary.specs.{to_z_pos}
+use Rattle.std.specs.Prelude.{◌≡◌, ℕ, suc, ◌-◌, ℤ, pos, negsuc, neg_ℤ, nat_abs, ◌-ℤ◌}
+use Rattle.vocabulary.specs.{ap, ◌∙◌, arith, needs, mag, w64, SFits, to_z, to_z-of_z, to_z_pos}
 use Rattle.whole.specs.Quotient.{with_sign}
 use Rattle.whole.proofs.Magnitudes.{below_zero, not_below_zero, minus_one_less}
 use Rattle.whole.proofs.with_sign.Statement.{statement}

@@ -1,5 +1,6 @@
 -- `wide::difference` meets its contract: the sum with the other sign.
-use Rattle.vocabulary.specs.{ap, ◌∙◌, needs, ℤ, ◌+ℤ◌}
+use Rattle.std.specs.Prelude.{ℤ, ◌+ℤ◌}
+use Rattle.vocabulary.specs.{ap, ◌∙◌, needs}
 use Rattle.wide.specs.Wide.{value_of, held}
 use Rattle.wide.proofs.difference.Statement.{statement}
 use Rattle.wide.proofs.difference.Tie as tie

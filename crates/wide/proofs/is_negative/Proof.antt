@@ -1,5 +1,6 @@
 -- `wide::is_negative` meets its contract: marked so, and not 0.
-use Rattle.vocabulary.specs.{ap, ◌∙◌, not, needs}
+use Rattle.std.specs.Prelude.{not}
+use Rattle.vocabulary.specs.{ap, ◌∙◌, needs}
 use Rattle.wide.specs.Wide.{size_of, value_of}
 use Rattle.wide.proofs.Signs.{marked_negative, unmarked_negative}
 use Rattle.wide.proofs.is_negative.Statement.{statement}

@@ -1,5 +1,6 @@
 -- `wide::is_zero` meets its contract: the size is the magnitude.
-use Rattle.vocabulary.specs.{sym, ap, ◌∙◌, ℕ, needs, eqb}
+use Rattle.std.specs.Prelude.{ℕ, eqb}
+use Rattle.vocabulary.specs.{sym, ap, ◌∙◌, needs}
 use Rattle.wide.specs.Wide.{size_of, value_of}
 use Rattle.wide.proofs.Signs.{signed_size}
 use Rattle.wide.proofs.is_zero.Statement.{statement}

@@ -1,6 +1,7 @@
 -- `wide::less` meets its contract: by sizes where the signs are the same, the larger size the lesser below zero; else by the sign, unless
 -- both are 0.
-use Rattle.vocabulary.specs.{sym, ap, ◌∙◌, not, needs, eqb-true, eqb-false}
+use Rattle.std.specs.Prelude.{not}
+use Rattle.vocabulary.specs.{sym, ap, ◌∙◌, needs, eqb-true, eqb-false}
 use Rattle.wide.specs.Wide.{size_of, value_of}
 use Rattle.wide.proofs.Signs.{less_plain, less_turned, less_none, less_across, less_never}
 use Rattle.wide.proofs.less.Statement.{statement}

@@ -1,5 +1,6 @@
 -- `wide::narrow_above` meets its contract: a size below 2 ^ 63 is the number.
-use Rattle.vocabulary.specs.{sym, ◌∙◌, needs, pos, w64, to_z_pos}
+use Rattle.std.specs.Prelude.{pos}
+use Rattle.vocabulary.specs.{sym, ◌∙◌, needs, w64, to_z_pos}
 use Rattle.wide.proofs.Narrowing.{above_within, narrowed_none}
 use Rattle.wide.proofs.narrow_above.Statement.{statement}
 use Rattle.wide.proofs.narrow_above.Tie as tie

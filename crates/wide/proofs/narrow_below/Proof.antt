@@ -1,5 +1,6 @@
 -- `wide::narrow_below` meets its contract: one less than the size is in range, and −1 − that is the number.
-use Rattle.vocabulary.specs.{◌≡◌, sym, ap, ◌∙◌, ℕ, ◌-◌, needs, lit<, ℤ, pos, negsuc, neg_ℤ, ◌-ℤ◌, w64, SFits, to_z, to_z-of_z, to_z_pos}
+use Rattle.std.specs.Prelude.{◌≡◌, ℕ, ◌-◌, ℤ, pos, negsuc, neg_ℤ, ◌-ℤ◌}
+use Rattle.vocabulary.specs.{sym, ap, ◌∙◌, needs, lit<, w64, SFits, to_z, to_z-of_z, to_z_pos}
 use Rattle.whole.proofs.Magnitudes.{minus_one_less}
 use Rattle.wide.specs.Wide.{narrowed}
 use Rattle.wide.proofs.Narrowing.{above_within, below_within, below_none}

@@ -1,5 +1,6 @@
 -- `wide::product` meets its contract: the product of the magnitudes, below zero where one factor is.
-use Rattle.vocabulary.specs.{ap₂, ◌∙◌, needs, pos, nat_abs, ◌*ℤ◌, lt_z, to_z-of_z}
+use Rattle.std.specs.Prelude.{pos, nat_abs, ◌*ℤ◌}
+use Rattle.vocabulary.specs.{ap₂, ◌∙◌, needs, lt_z, to_z-of_z}
 use Rattle.wide.specs.Wide.{value_of}
 use Rattle.wide.proofs.Signs.{signed_own, signed_product}
 use Rattle.wide.proofs.product.Statement.{statement}

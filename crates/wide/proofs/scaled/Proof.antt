@@ -1,5 +1,6 @@
 -- `wide::scaled` meets its contract: the size times the factor's magnitude, below zero where one of the two is.
-use Rattle.vocabulary.specs.{sym, ap, ◌∙◌, needs, ℤ, pos, nat_abs, ◌*ℤ◌, lt_z, to_z-of_z, ◌*◌}
+use Rattle.std.specs.Prelude.{ℤ, pos, nat_abs, ◌*ℤ◌, ◌*◌}
+use Rattle.vocabulary.specs.{sym, ap, ◌∙◌, needs, lt_z, to_z-of_z}
 use Rattle.wide.specs.Wide.{size_of, signed, value_of, held}
 use Rattle.wide.proofs.Signs.{signed_own, signed_product, held_signed}
 use Rattle.wide.proofs.scaled.Statement.{statement}

@@ -1,6 +1,7 @@
 -- `wide::sum` meets its contract: with one sign the sizes add up, and with two the larger size keeps its own and loses the other, which
 -- two words hold.
-use Rattle.vocabulary.specs.{sym, ap, ◌∙◌, ◌≤◌, ◌<◌, le_of_lt, arith, needs, ltb-true, ltb-false, +ℤ_comm}
+use Rattle.std.specs.Prelude.{◌≤◌, ◌<◌}
+use Rattle.vocabulary.specs.{sym, ap, ◌∙◌, le_of_lt, arith, needs, ltb-true, ltb-false, +ℤ_comm}
 use Rattle.wide.specs.Wide.{limit, size_of, signed, value_of, held}
 use Rattle.wide.proofs.{Sizes.in_words, Sizes.size_within, Signs.sum_along, Signs.sum_across, Signs.turned}
 use Rattle.wide.proofs.sum.Statement.{statement}

@@ -1,5 +1,6 @@
 -- `wide_text::put_size` meets its contract: the part of the room from the first digit on is the number's text.
-use Rattle.vocabulary.specs.{◌≡◌, ap, ◌∙◌, ◌-◌, arith, needs, length, take, drop, length-drop, take_all}
+use Rattle.std.specs.Prelude.{◌≡◌, ◌-◌, length, take, drop}
+use Rattle.vocabulary.specs.{ap, ◌∙◌, arith, needs, length-drop, take_all}
 use Rattle.text.specs.Text.{natural, laid, after}
 use Rattle.wide.specs.Wide.{size_of}
 use Rattle.wide_text.proofs.put_size.Statement.{statement}

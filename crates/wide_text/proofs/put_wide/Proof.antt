@@ -1,5 +1,6 @@
 -- `wide_text::put_wide` meets its contract: the digits of the size, and below zero a minus sign before them.
-use Rattle.vocabulary.specs.{sym, ◌∙◌, [], ◌∷◌, needs}
+use Rattle.std.specs.Prelude.{[], ◌∷◌}
+use Rattle.vocabulary.specs.{sym, ◌∙◌, needs}
 use Rattle.text.specs.Text.{minus}
 use Rattle.text.proofs.Laying.{laid_more}
 use Rattle.wide_text.proofs.Decimals.{decimal_below, decimal_other}

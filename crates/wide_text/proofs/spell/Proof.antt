@@ -1,5 +1,6 @@
 -- `wide_text::spell` meets its contract: each turn stores the last digit that is left to spell (`spelling_more`).
-use Rattle.vocabulary.specs.{sym, ap, ◌∙◌, ◌≤◌, ◌<◌, ◌^◌, arith, needs, ltb-true, ltb-false, not-true, not-false, length-set}
+use Rattle.std.specs.Prelude.{◌≤◌, ◌<◌, ◌^◌}
+use Rattle.vocabulary.specs.{sym, ap, ◌∙◌, arith, needs, ltb-true, ltb-false, not-true, not-false, length-set}
 use Rattle.text.specs.Text.{digit}
 use Rattle.wide.specs.Wide.{size_of}
 use Rattle.wide_text.proofs.Decades.{size_digits, digit_is_low}

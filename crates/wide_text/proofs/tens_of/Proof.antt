@@ -1,5 +1,6 @@
 -- `wide_text::tens_of` meets its contract: the tens and units of the radix, as often as the high word leaves it, and those of the low word.
-use Rattle.vocabulary.specs.{◌%◌, mod-lt, arith, needs, lit<}
+use Rattle.std.specs.Prelude.{◌%◌}
+use Rattle.vocabulary.specs.{mod-lt, arith, needs, lit<}
 use Rattle.wide_text.proofs.Decades.{low_fits, tens_are, units_are}
 use Rattle.wide_text.proofs.tens_of.Statement.{statement}
 use Rattle.wide_text.proofs.tens_of.Tie as tie

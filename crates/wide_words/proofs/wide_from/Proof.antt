@@ -1,5 +1,6 @@
 -- `wide_words::wide_from` meets its contract: below zero the low word is taken from the high word's size, moved up by a word.
-use Rattle.vocabulary.specs.{◌≡◌, sym, ap, ◌∙◌, ℕ, suc, ◌*◌, arith, needs, ℤ, pos, negsuc, nat_abs, mag, w64, to_z-of_z}
+use Rattle.std.specs.Prelude.{◌≡◌, ℕ, suc, ◌*◌, ℤ, pos, negsuc, nat_abs}
+use Rattle.vocabulary.specs.{sym, ap, ◌∙◌, arith, needs, mag, w64, to_z-of_z}
 use Rattle.whole.proofs.Magnitudes.{below_zero, not_below_zero}
 use Rattle.wide.specs.Wide.{radix, size_of, value_of}
 use Rattle.wide.proofs.Signs.{signed_above, signed_below}

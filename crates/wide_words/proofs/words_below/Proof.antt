@@ -1,5 +1,6 @@
 -- `wide_words::words_below` meets its contract: −1 less a word is its complement, in range where the high word has room for a sign.
-use Rattle.vocabulary.specs.{◌≡◌, ap, ◌∙◌, arith, needs, ℤ, negsuc, ◌-ℤ◌, w64, SFits, to_z, to_z-of_z, to_z_pos}
+use Rattle.std.specs.Prelude.{◌≡◌, ℤ, negsuc, ◌-ℤ◌}
+use Rattle.vocabulary.specs.{ap, ◌∙◌, arith, needs, w64, SFits, to_z, to_z-of_z, to_z_pos}
 use Rattle.whole.proofs.Magnitudes.{minus_one_less}
 use Rattle.wide_words.proofs.Reaching.{words_below, words_past_below}
 use Rattle.wide_words.proofs.words_below.Statement.{statement}

@@ -1,5 +1,6 @@
 -- `wide_words::words_of` meets its contract: a number below zero is −1 less one less than its size.
-use Rattle.vocabulary.specs.{◌≡◌, sym, ap, ◌∙◌, ℕ, needs, ℤ, negsuc}
+use Rattle.std.specs.Prelude.{◌≡◌, ℕ, ℤ, negsuc}
+use Rattle.vocabulary.specs.{sym, ap, ◌∙◌, needs}
 use Rattle.wide.specs.{Wide.value_of, declared.Wide.Wide}
 use Rattle.wide_words.specs.Words.{words_from, reached}
 use Rattle.wide_words.proofs.Reaching.{value_some, value_below, value_above}

@@ -1,6 +1,6 @@
 -- `wide_words::words_of_signed` meets its contract: below zero the low word is what −1 − a lacks of 2^64 − 1.
-use Rattle.vocabulary.specs.{◌≡◌, sym, ap, subst⁻¹, ◌∙◌, arith, ℤ, pos, negsuc, nat_abs, ◌-ℤ◌, mag, w64, SFits, to_z, of_z, to_z-of_z}
-use Rattle.vocabulary.specs.{Fits-nat_abs}
+use Rattle.std.specs.Prelude.{◌≡◌, ℤ, pos, negsuc, nat_abs, ◌-ℤ◌}
+use Rattle.vocabulary.specs.{sym, ap, subst⁻¹, ◌∙◌, arith, mag, w64, SFits, to_z, of_z, to_z-of_z, Fits-nat_abs}
 use Rattle.whole.proofs.Magnitudes.{below_zero, not_below_zero, minus_one_more}
 use Rattle.wide_words.specs.Words.{words_from}
 use Rattle.wide_words.proofs.Reaching.{signed_above, signed_below}

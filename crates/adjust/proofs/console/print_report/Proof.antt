@@ -1,5 +1,6 @@
 -- `adjust::console::print_report` meets its contract: every text has room in 2048 bytes, and what is written out is what the report wrote.
-use Rattle.vocabulary.specs.{◌≡◌, sym, ◌∙◌, List, ℕ, ◌≤◌, le_of_eq, arith, needs, now, length, replicate, length-replicate, length-take-le}
+use Rattle.std.specs.Prelude.{◌≡◌, List, ℕ, ◌≤◌, length, replicate}
+use Rattle.vocabulary.specs.{sym, ◌∙◌, le_of_eq, arith, needs, now, length-replicate, length-take-le}
 use Rattle.lines.specs.Lines.{longest_text}
 use Rattle.report.specs.declared.reporting.Reported.TheVariants.{Written, NoRoom}
 use Rattle.report.specs.Report.{report_text, has_room, reported_of}

@@ -1,6 +1,6 @@
 -- `adjust::console::work_input` is safe and ends: every turn of its loop but the last reads at least one byte of the room that is left.
-use Rattle.vocabulary.specs.{◌≡◌, sym, ◌∙◌, List, ℕ, ◌≤◌, ◌-◌, ◌*◌, ◌+◌, le_of_eq, arith, needs, mid_of, put_mid, same_len_mid, length}
-use Rattle.vocabulary.specs.{length-take-le}
+use Rattle.std.specs.Prelude.{◌≡◌, List, ℕ, ◌≤◌, ◌-◌, ◌*◌, ◌+◌, length}
+use Rattle.vocabulary.specs.{sym, ◌∙◌, le_of_eq, arith, needs, mid_of, put_mid, same_len_mid, length-take-le}
 use Rattle.adjust.proofs.console.work_input.Statement.{statement}
 use Rattle.adjust.proofs.console.work_input.Tie as tie
 

@@ -1,6 +1,7 @@
 -- `bits::signed_fields::half_range` meets its contract: 2 to one less than the width, at a width from 1 to 32, where a shift of 1 loses
 -- no bit.
-use Rattle.vocabulary.specs.{◌∙◌, sym, ap, ◌-◌, ◌^◌, one-mul, arith, needs, shl_exact}
+use Rattle.std.specs.Prelude.{◌-◌, ◌^◌}
+use Rattle.vocabulary.specs.{◌∙◌, sym, ap, one-mul, arith, needs, shl_exact}
 use Rattle.bits.specs.Complement.{half_range}
 use Rattle.bits.proofs.Complement.{half_none, half_wide, half_is}
 use Rattle.bits.proofs.signed_fields.half_range.Statement.{statement}

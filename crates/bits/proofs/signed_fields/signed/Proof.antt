@@ -1,7 +1,7 @@
 -- `bits::signed_fields::signed` meets its contract: the lower half of the range stands for itself, and the upper half for as many numbers
 -- below 0.
-use Rattle.vocabulary.specs.{◌≡◌, refl, sym, ap, ◌∙◌, subst, ℕ, zero, suc, ◌-◌, ◌*◌, ◌^◌, ◌<◌, zero-add, arith, needs, ℤ, pos, negsuc}
-use Rattle.vocabulary.specs.{◌-ℤ◌, w32, SFits, to_z, of_z, to_z_of_z_at, to_z_pos_at}
+use Rattle.std.specs.Prelude.{◌≡◌, refl, ℕ, zero, suc, ◌-◌, ◌*◌, ◌^◌, ◌<◌, ℤ, pos, negsuc, ◌-ℤ◌}
+use Rattle.vocabulary.specs.{sym, ap, ◌∙◌, subst, zero-add, arith, needs, w32, SFits, to_z, of_z, to_z_of_z_at, to_z_pos_at}
 use Rattle.bits.specs.Complement.{half_range}
 use Rattle.bits.proofs.Complement.{half_small, signed_low, signed_high, signed_beyond}
 use Rattle.bits.proofs.signed_fields.signed.Statement.{statement}

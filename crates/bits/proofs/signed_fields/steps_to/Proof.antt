@@ -1,6 +1,6 @@
 -- `bits::signed_fields::steps_to` meets its contract: a number read back from its machine word is the number itself.
-use Rattle.vocabulary.specs.{Bool, cond, false, ◌≡◌, sym, ap, ◌∙◌, subst, ℕ, suc, ◌-◌, arith, le-ltb, T, ℤ, pos, negsuc, ◌-ℤ◌, nat_abs, mag}
-use Rattle.vocabulary.specs.{le_z, non_neg, w32, Fits, SFits, to_z, of_z, to_z_of_z_at}
+use Rattle.std.specs.Prelude.{Bool, cond, false, ◌≡◌, ℕ, suc, ◌-◌, T, ℤ, pos, negsuc, ◌-ℤ◌, nat_abs}
+use Rattle.vocabulary.specs.{sym, ap, ◌∙◌, subst, arith, le-ltb, mag, le_z, non_neg, w32, Fits, SFits, to_z, of_z, to_z_of_z_at}
 use Rattle.bits.proofs.Complement.{not_negative, negative}
 use Rattle.bits.proofs.signed_fields.steps_to.Statement.{statement}
 use Rattle.bits.proofs.signed_fields.steps_to.Tie as tie

@@ -1,6 +1,7 @@
 -- `bits::signed_fields::twos_complement` meets its contract: a number that is not negative stands for itself, and one below 0 for what is
 -- left of the range above −1 − it.
-use Rattle.vocabulary.specs.{Bool, ◌≡◌, sym, ap, ◌∙◌, arith, needs, ℤ, pos, mag, le_z, w32, to_z, of_z, to_z_of_z_at}
+use Rattle.std.specs.Prelude.{Bool, ◌≡◌, ℤ, pos}
+use Rattle.vocabulary.specs.{sym, ap, ◌∙◌, arith, needs, mag, le_z, w32, to_z, of_z, to_z_of_z_at}
 use Rattle.bits.specs.Complement.{half_range, twos_complement}
 use Rattle.bits.proofs.Complement.{half_small, complement_pos, complement_neg, complement_beyond, not_negative, negative}
 use Rattle.bits.proofs.signed_fields.twos_complement.Statement.{statement}

@@ -1,5 +1,6 @@
 -- `closing::check::choice_verdict` meets its contract: the row asks both rules, the first before the second.
-use Rattle.vocabulary.specs.{ℕ, true, false, ◌≡◌, sym, ap, ◌∙◌, arith, now}
+use Rattle.std.specs.Prelude.{ℕ, true, false, ◌≡◌}
+use Rattle.vocabulary.specs.{sym, ap, ◌∙◌, arith, now}
 use Rattle.figures.specs.Figure.{denominator}
 use Rattle.figures.proofs.Figures.{denominator_positive}
 use Rattle.closing.specs.Steps.{some_strays}

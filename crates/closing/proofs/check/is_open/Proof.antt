@@ -1,6 +1,7 @@
 -- `closing::check::is_open` meets its contract: where the first comparison holds both sides are true, and where it fails both are the
 -- second.
-use Rattle.vocabulary.specs.{Bool, ◌||◌, sym, ap, ◌∙◌, ℤ, pos, lt_z, to_z-of_z}
+use Rattle.std.specs.Prelude.{Bool, ◌||◌, ℤ, pos}
+use Rattle.vocabulary.specs.{sym, ap, ◌∙◌, lt_z, to_z-of_z}
 use Rattle.closing.proofs.check.is_open.Statement.{statement}
 use Rattle.closing.proofs.check.is_open.Tie as tie
 

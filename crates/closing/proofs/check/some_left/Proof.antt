@@ -1,6 +1,6 @@
 -- `closing::check::some_left` meets its contract. The invariant: every rest passed so far is 0.
-use Rattle.vocabulary.specs.{ℕ, suc, ◌-◌, ◌≤◌, Bool, false, List, ◌≡◌, sym, ap, ap₂, ◌∙◌, arith, now, ℤ, pos, ◌+ℤ◌, length, w32, SFits}
-use Rattle.vocabulary.specs.{to_z, of_z, to_z-of_z}
+use Rattle.std.specs.Prelude.{ℕ, suc, ◌-◌, ◌≤◌, Bool, false, List, ◌≡◌, ℤ, pos, ◌+ℤ◌, length}
+use Rattle.vocabulary.specs.{sym, ap, ap₂, ◌∙◌, arith, now, w32, SFits, to_z, of_z, to_z-of_z}
 use Rattle.whole.specs.Sums.{vector}
 use Rattle.whole.proofs.{Lists.length_listed, Magnitudes.nat_abs_add, Magnitudes.magnitude_fits}
 use Rattle.refusals.specs.{Numbers.numbered, Questions.asked, Questions.outside_signed, Questions.any_place}

@@ -1,5 +1,6 @@
 -- `closing::check::some_open` meets its contract: small corrections have sums that are held, and each with its misclosure is the rest.
-use Rattle.vocabulary.specs.{ℕ, ◌≤◌, List, ◌++◌, ◌≡◌, refl, sym, ap, ◌∙◌, arith, needs, now, ℤ, pos, ◌+ℤ◌, length, take, drop, replicate}
+use Rattle.std.specs.Prelude.{ℕ, ◌≤◌, List, ◌++◌, ◌≡◌, refl, ℤ, pos, ◌+ℤ◌, length, take, drop, replicate}
+use Rattle.vocabulary.specs.{sym, ap, ◌∙◌, arith, needs, now}
 use Rattle.whole.specs.{Lists.listed, Sums.vector}
 use Rattle.figures.specs.{Figure.condition_count, Numerators.condition_sum}
 use Rattle.figures.proofs.Figures.{condition_bound}

@@ -1,5 +1,6 @@
 -- `closing::check::some_strays` meets its contract. The invariant: no correction passed so far strays.
-use Rattle.vocabulary.specs.{ℕ, suc, ◌-◌, ◌≤◌, Bool, false, List, ◌≡◌, sym, ap₂, ◌∙◌, arith, now, ℤ, pos, length, to_z-of_z}
+use Rattle.std.specs.Prelude.{ℕ, suc, ◌-◌, ◌≤◌, Bool, false, List, ◌≡◌, ℤ, pos, length}
+use Rattle.vocabulary.specs.{sym, ap₂, ◌∙◌, arith, now, to_z-of_z}
 use Rattle.whole.specs.Sums.{vector}
 use Rattle.refusals.specs.{Numbers.numbered, Questions.asked, Questions.outside_signed, Questions.any_place}
 use Rattle.closing.specs.Floor.{floor_quotient, ceiling_quotient}

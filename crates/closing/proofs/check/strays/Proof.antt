@@ -1,6 +1,7 @@
 -- `closing::check::strays` meets its contract: where the first comparison holds both sides are true, and where it fails both are the
 -- second.
-use Rattle.vocabulary.specs.{ℕ, Bool, ◌||◌, ◌≡◌, sym, ap, ap₂, ◌∙◌, needs, ℤ, lt_z, w32, w64, to_z, of_z, to_z-of_z}
+use Rattle.std.specs.Prelude.{ℕ, Bool, ◌||◌, ◌≡◌, ℤ}
+use Rattle.vocabulary.specs.{sym, ap, ap₂, ◌∙◌, needs, lt_z, w32, w64, to_z, of_z, to_z-of_z}
 use Rattle.whole.proofs.Magnitudes.{widened, widens}
 use Rattle.closing.specs.Floor.{floor_quotient, ceiling_quotient}
 use Rattle.closing.proofs.check.strays.Statement.{statement}

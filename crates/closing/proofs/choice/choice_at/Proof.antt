@@ -1,6 +1,6 @@
 -- `closing::choice::choice_at` meets its contract: where the angle ends and where it starts are small, so that each step keeps its width.
-use Rattle.vocabulary.specs.{ℕ, ◌*◌, ◌^◌, ◌≤◌, ◌<◌, ◌≡◌, sym, ap, ap₂, ◌∙◌, arith, needs, now, ℤ, nat_abs, ◌+ℤ◌, ◌-ℤ◌, w32, w64, SFits, to_z}
-use Rattle.vocabulary.specs.{of_z, to_z-of_z}
+use Rattle.std.specs.Prelude.{ℕ, ◌*◌, ◌^◌, ◌≤◌, ◌<◌, ◌≡◌, ℤ, nat_abs, ◌+ℤ◌, ◌-ℤ◌}
+use Rattle.vocabulary.specs.{sym, ap, ap₂, ◌∙◌, arith, needs, now, w32, w64, SFits, to_z, of_z, to_z-of_z}
 use Rattle.whole.specs.Sums.{vector}
 use Rattle.whole.proofs.Magnitudes.{nat_abs_add, nat_abs_sub, magnitude_fits, widened, widens}
 use Rattle.figures.specs.{declared.Figure.Figure, Figure.denominator}

@@ -1,5 +1,6 @@
 -- `closing::choice::choice_into` meets its contract. The invariant: the corrections passed are filled in.
-use Rattle.vocabulary.specs.{◌-◌, ◌∙◌, arith, to_z-of_z}
+use Rattle.std.specs.Prelude.{◌-◌}
+use Rattle.vocabulary.specs.{◌∙◌, arith, to_z-of_z}
 use Rattle.whole.specs.Sums.{vector}
 use Rattle.whole.proofs.Lists.{Filled, filled_none, filled_more, filled_all}
 use Rattle.figures.specs.Figure.{angle_count}

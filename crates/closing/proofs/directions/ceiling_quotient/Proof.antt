@@ -1,6 +1,7 @@
 -- `closing::directions::ceiling_quotient` meets its contract: the negation of a number of 32 bits is in range, and so is that of its
 -- quotient.
-use Rattle.vocabulary.specs.{ℕ, ◌≡◌, ap, ◌∙◌, arith, needs, ℤ, pos, neg_ℤ, ◌-ℤ◌, +ℤ_idl, w32, w64, SFits, to_z, of_z, to_z-of_z}
+use Rattle.std.specs.Prelude.{ℕ, ◌≡◌, ℤ, pos, neg_ℤ, ◌-ℤ◌}
+use Rattle.vocabulary.specs.{ap, ◌∙◌, arith, needs, +ℤ_idl, w32, w64, SFits, to_z, of_z, to_z-of_z}
 use Rattle.whole.proofs.Magnitudes.{nat_abs_neg, fits_magnitude, magnitude_fits, widened, widens}
 use Rattle.closing.specs.Floor.{floor_quotient, ceiling_quotient}
 use Rattle.closing.proofs.FloorLaws.{ceiling_small}

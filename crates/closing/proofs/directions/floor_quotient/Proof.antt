@@ -1,7 +1,8 @@
 -- `closing::directions::floor_quotient` meets its contract: below zero −1 − z is in range and not below zero, and so is −1 less its
 -- quotient.
-use Rattle.vocabulary.specs.{ℕ, ◌/◌, ◌^◌, ◌<◌, ◌≡◌, sym, ap, subst, subst⁻¹, ◌∙◌, lt_of_le_of_lt, arith, needs, ℤ, pos, negsuc, nat_abs}
-use Rattle.vocabulary.specs.{◌-ℤ◌, mag, w64, SFits, to_z, of_z, to_z-of_z, to_z_pos, Fits-nat_abs}
+use Rattle.std.specs.Prelude.{ℕ, ◌/◌, ◌^◌, ◌<◌, ◌≡◌, ℤ, pos, negsuc, nat_abs, ◌-ℤ◌}
+use Rattle.vocabulary.specs.{sym, ap, subst, subst⁻¹, ◌∙◌, lt_of_le_of_lt, arith, needs, mag, w64, SFits, to_z, of_z, to_z-of_z, to_z_pos}
+use Rattle.vocabulary.specs.{Fits-nat_abs}
 use Rattle.whole.proofs.Magnitudes.{below_zero, not_below_zero, minus_one_less, minus_one_more}
 use Rattle.closing.specs.Floor.{floor_quotient}
 use Rattle.closing.proofs.FloorLaws.{quotient_small}

@@ -1,6 +1,6 @@
 -- `closing::directions::start_of` meets its contract. The invariant: the total and what is left of the way sum to the start.
-use Rattle.vocabulary.specs.{ℕ, ◌+◌, ◌-◌, ◌*◌, ◌≤◌, ◌<◌, ◌≡◌, sym, ap, ap₂, ◌∙◌, arith, now, ℤ, nat_abs, ◌+ℤ◌, +ℤ_idl, +ℤ_idr, length, get_or}
-use Rattle.vocabulary.specs.{w32, w64, SFits, to_z, of_z, to_z-of_z}
+use Rattle.std.specs.Prelude.{ℕ, ◌+◌, ◌-◌, ◌*◌, ◌≤◌, ◌<◌, ◌≡◌, ℤ, nat_abs, ◌+ℤ◌, length, get_or}
+use Rattle.vocabulary.specs.{sym, ap, ap₂, ◌∙◌, arith, now, +ℤ_idl, +ℤ_idr, w32, w64, SFits, to_z, of_z, to_z-of_z}
 use Rattle.whole.specs.Sums.{vector}
 use Rattle.whole.proofs.Magnitudes.{nat_abs_add, magnitude_fits, widened, widens}
 use Rattle.whole.proofs.Ring.{◌⊕◌, ◌≐◌, ring}

@@ -1,5 +1,6 @@
 -- `closing::directions::starts_at` meets its contract: the data of each family, by the index.
-use Rattle.vocabulary.specs.{Bool, cond, ◌≡◌, sym, ap, ◌∙◌, ℕ, ◌+◌, ◌-◌, ◌%◌, arith, needs, eq-eqb, ne_eqb, eqb, get_or}
+use Rattle.std.specs.Prelude.{Bool, cond, ◌≡◌, ℕ, ◌+◌, ◌-◌, ◌%◌, eqb, get_or}
+use Rattle.vocabulary.specs.{sym, ap, ◌∙◌, arith, needs, eq-eqb, ne_eqb}
 use Rattle.figures.proofs.Figures.{angle_bound}
 use Rattle.pass_steps.proofs.Polygons.{is_point_inside_lem, is_polygon_lem}
 use Rattle.closing.specs.Choice.{starts_at}

@@ -1,5 +1,6 @@
 -- `closing::exact::exact_into` meets its contract: the first pass, with arrays of its own for the other results.
-use Rattle.vocabulary.specs.{ℕ, ◌≤◌, [], ◌∷◌, ◌≡◌, sym, ◌∙◌, arith, needs, now, pos, length, take, replicate}
+use Rattle.std.specs.Prelude.{ℕ, ◌≤◌, [], ◌∷◌, ◌≡◌, pos, length, take, replicate}
+use Rattle.vocabulary.specs.{sym, ◌∙◌, arith, needs, now}
 use Rattle.figures.proofs.Figures.{angle_bound, condition_bound}
 use Rattle.pass_rules.specs.{FirstPass.first_result_lengths, Promises.FirstLent, Promises.first_lent, Promises.first_results_lent}
 use Rattle.whole.proofs.Lending.{lent_length}

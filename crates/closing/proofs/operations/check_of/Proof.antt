@@ -1,5 +1,6 @@
 -- `closing::operations::check_of` meets its contract: the rows in their order, the first pass's before number 15.
-use Rattle.vocabulary.specs.{ℕ, List, ◌++◌, ◌≡◌, sym, ap, ap₂, ◌∙◌, needs, now, ℤ, pos, length, take, drop, replicate}
+use Rattle.std.specs.Prelude.{ℕ, List, ◌++◌, ◌≡◌, ℤ, pos, length, take, drop, replicate}
+use Rattle.vocabulary.specs.{sym, ap, ap₂, ◌∙◌, needs, now}
 use Rattle.refusals.specs.{declared.Verdict.TheVariants.Passed, Order.verdict_of, Order.judged, Table.choice_row}
 use Rattle.figures.specs.{declared.Counts.Counts, Figure.angle_count}
 use Rattle.pass_rules.specs.FirstPass.{misclosures_of, numerators_of}

@@ -1,6 +1,7 @@
 -- `closing::operations::closing_of` meets its contract: the rows in their order, and the choice from the numerators that the first pass
 -- left.
-use Rattle.vocabulary.specs.{ℕ, List, ◌++◌, ◌≡◌, sym, ap, ◌∙◌, needs, now, ℤ, pos, length, take, drop, replicate}
+use Rattle.std.specs.Prelude.{ℕ, List, ◌++◌, ◌≡◌, ℤ, pos, length, take, drop, replicate}
+use Rattle.vocabulary.specs.{sym, ap, ◌∙◌, needs, now}
 use Rattle.figures.specs.{declared.Counts.Counts, Figure.angle_count}
 use Rattle.pass_steps.proofs.{Again.Again, Again.again, Counted.Counted, Counted.counted}
 use Rattle.closing.proofs.Promised.{refused_length, refused_by_pass, chosen_by_pass, numerators_are, numerators_small}

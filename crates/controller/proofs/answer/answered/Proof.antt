@@ -1,5 +1,6 @@
 -- `controller::answer::answered` meets its contract.
-use Rattle.vocabulary.specs.{ℕ, ◌<◌, sym, ap, subst, ◌∙◌, needs}
+use Rattle.std.specs.Prelude.{ℕ, ◌<◌}
+use Rattle.vocabulary.specs.{sym, ap, subst, ◌∙◌, needs}
 use Rattle.refusals.specs.{declared.Verdict.Verdict, Numbers.verdict_told}
 use Rattle.controller.specs.Answer.{place_step, answer_number}
 use Rattle.controller.proofs.Answers.{done_number}

@@ -1,5 +1,6 @@
 -- `controller::answer::refused` meets its contract: a number of the table and a place below 256 fit 32 bits.
-use Rattle.vocabulary.specs.{ℕ, ◌+◌, ◌*◌, ap₂, arith, needs}
+use Rattle.std.specs.Prelude.{ℕ, ◌+◌, ◌*◌}
+use Rattle.vocabulary.specs.{ap₂, arith, needs}
 use Rattle.refusals.proofs.Rows.{number_range}
 use Rattle.controller.specs.Answer.{place_step, answer_number}
 use Rattle.controller.proofs.answer.refused.Statement.{statement}

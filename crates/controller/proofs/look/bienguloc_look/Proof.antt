@@ -1,5 +1,6 @@
 -- `controller::look::bienguloc_look` meets its contract.
-use Rattle.vocabulary.specs.{sym, ap, ◌∙◌, needs, now, length}
+use Rattle.std.specs.Prelude.{length}
+use Rattle.vocabulary.specs.{sym, ap, ◌∙◌, needs, now}
 use Rattle.controller.specs.Promises.{look_rows}
 use Rattle.controller.proofs.{Answers.refusal_small, Looked.look_refusal, Looked.look_refused, Looked.look_wrong, Looked.look_done}
 use Rattle.controller.proofs.PlaceBounds.{look_in_table, look_within}

@@ -1,5 +1,6 @@
 -- `controller::look::head_of` meets its contract: no figure has more than 24 of anything.
-use Rattle.vocabulary.specs.{ℕ, ◌≤◌, List, [], ◌∷◌, ap, ap₂, ◌∙◌, arith, needs}
+use Rattle.std.specs.Prelude.{ℕ, ◌≤◌, List, [], ◌∷◌}
+use Rattle.vocabulary.specs.{ap, ap₂, ◌∙◌, arith, needs}
 use Rattle.figures.specs.{declared.Name.Name, declared.Counts.Counts}
 use Rattle.figures.proofs.Figures.{angle_bound, condition_bound}
 use Rattle.sheet_layout.specs.declared.Lengths.{Lengths}

@@ -1,5 +1,6 @@
 -- `controller::read::bienguloc_read` meets its contract.
-use Rattle.vocabulary.specs.{sym, ap, ◌∙◌, needs, now, length}
+use Rattle.std.specs.Prelude.{length}
+use Rattle.vocabulary.specs.{sym, ap, ◌∙◌, needs, now}
 use Rattle.sheet_rules.specs.Promises.{Slices, slices}
 use Rattle.controller.specs.Promises.{ReadLent, read_lent}
 use Rattle.controller.proofs.SheetsRead.{wrong_head_small, wrong_head, right_refusal_small, right_refused, right_read}

@@ -1,5 +1,6 @@
 -- `controller::read::head_of` meets its contract.
-use Rattle.vocabulary.specs.{ℕ, [], ◌∷◌, ap₂, needs}
+use Rattle.std.specs.Prelude.{ℕ, [], ◌∷◌}
+use Rattle.vocabulary.specs.{ap₂, needs}
 use Rattle.figures.specs.declared.Name.{Name}
 use Rattle.controller.proofs.read.head_of.Statement.{statement}
 use Rattle.controller.proofs.read.head_of.Tie as tie

@@ -1,5 +1,6 @@
 -- `controller::read::refusal_of_lengths` meets its contract: the rows before number 2, and number 2, which no sheet without lengths passes.
-use Rattle.vocabulary.specs.{[], sym, ◌∙◌, needs, now}
+use Rattle.std.specs.Prelude.{[]}
+use Rattle.vocabulary.specs.{sym, ◌∙◌, needs, now}
 use Rattle.sheet_rules.proofs.Accepted.{head_found, head_refused}
 use Rattle.controller.proofs.SheetsRead.{size_refused, lengths_refused}
 use Rattle.controller.proofs.read.refusal_of_lengths.Statement.{statement}

@@ -1,5 +1,6 @@
 -- `controller::rounding::bienguloc_check_closing` meets its contract.
-use Rattle.vocabulary.specs.{sym, ap, subst, ◌∙◌, needs, now, ◌<◌}
+use Rattle.std.specs.Prelude.{◌<◌}
+use Rattle.vocabulary.specs.{sym, ap, subst, ◌∙◌, needs, now}
 use Rattle.refusals.specs.{declared.Verdict.Verdict, Numbers.verdict_told}
 use Rattle.pass_rules.specs.Promises.{FirstGiven, first_given}
 use Rattle.closing.specs.Promises.{check_rows}

@@ -1,5 +1,6 @@
 -- `controller::rounding::bienguloc_closing` meets its contract.
-use Rattle.vocabulary.specs.{ℕ, ◌<◌, List, ◌≡◌, sym, ap, subst, ◌∙◌, needs, now, ℤ}
+use Rattle.std.specs.Prelude.{ℕ, ◌<◌, List, ◌≡◌, ℤ}
+use Rattle.vocabulary.specs.{sym, ap, subst, ◌∙◌, needs, now}
 use Rattle.refusals.specs.{declared.Verdict.Verdict, Numbers.verdict_told}
 use Rattle.pass_rules.specs.Promises.{FirstGiven, first_given}
 use Rattle.closing.specs.Promises.{closing_rows, ClosingPromise}

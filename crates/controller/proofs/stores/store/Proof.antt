@@ -1,5 +1,6 @@
 -- `controller::stores::store` meets its contract. The invariant: the places passed hold the values.
-use Rattle.vocabulary.specs.{refl, ◌∙◌, ◌-◌, arith, length, get_or}
+use Rattle.std.specs.Prelude.{refl, ◌-◌, length, get_or}
+use Rattle.vocabulary.specs.{◌∙◌, arith}
 use Rattle.whole.proofs.Lists.{Filled, filled_none, filled_more, filled_all, listed_get_or}
 use Rattle.controller.proofs.stores.store.Statement.{statement}
 use Rattle.controller.proofs.stores.store.Tie as tie

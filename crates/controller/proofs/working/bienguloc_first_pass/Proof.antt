@@ -1,5 +1,6 @@
 -- `controller::working::bienguloc_first_pass` meets its contract.
-use Rattle.vocabulary.specs.{ℕ, ◌<◌, ◌≡◌, sym, ap, subst, ◌∙◌, needs, now}
+use Rattle.std.specs.Prelude.{ℕ, ◌<◌, ◌≡◌}
+use Rattle.vocabulary.specs.{sym, ap, subst, ◌∙◌, needs, now}
 use Rattle.refusals.specs.{declared.Verdict.Verdict, Numbers.verdict_told}
 use Rattle.pass_rules.specs.FirstPass.{first_pass_verdict}
 use Rattle.pass_rules.specs.Promises.{FirstGiven, first_given, FirstLent, first_lent, first_lengths_lent, first_rows_of, FirstPromise}

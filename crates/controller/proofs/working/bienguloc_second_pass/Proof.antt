@@ -1,6 +1,6 @@
 -- `controller::working::bienguloc_second_pass` meets its contract.
-use Rattle.vocabulary.specs.{◌<◌, true, false, [], ◌∷◌, ◌≡◌, sym, ap, ap₂, subst, ◌∙◌, arith, needs, not-true, not-false, now, ℤ, length}
-use Rattle.vocabulary.specs.{length-set, take, to_z-of_z}
+use Rattle.std.specs.Prelude.{◌<◌, true, false, [], ◌∷◌, ◌≡◌, ℤ, length, take}
+use Rattle.vocabulary.specs.{sym, ap, ap₂, subst, ◌∙◌, arith, needs, not-true, not-false, now, length-set, to_z-of_z}
 use Rattle.refusals.specs.{declared.Refusal.Refusal, Numbers.place_of, Numbers.refusal_told}
 use Rattle.pass_rules.specs.{SecondPass.sine_entries, Promises.SecondGiven, Promises.second_given, Promises.SecondLent, Promises.second_lent}
 use Rattle.controller.specs.{Answer.place_step, Answer.answer_number, Promises.SumsLent, Promises.sums_lent}

@@ -1,5 +1,6 @@
 -- `controller::working::sine_count` meets its contract.
-use Rattle.vocabulary.specs.{ℕ, Bool, cond, ◌≡◌, sym, ap, ◌∙◌, needs, eq-eqb, ne_eqb, length}
+use Rattle.std.specs.Prelude.{ℕ, Bool, cond, ◌≡◌, length}
+use Rattle.vocabulary.specs.{sym, ap, ◌∙◌, needs, eq-eqb, ne_eqb}
 use Rattle.figures.specs.{declared.Named.Named, declared.Named.TheVariants.As, declared.Counts.Counts, declared.Figure.Figure}
 use Rattle.figures.specs.Figure.{description, counts_of, figure_of, of_named}
 use Rattle.controller.proofs.SecondSums.{sines_by_sides, sines_by_sides_lem}

@@ -1,5 +1,6 @@
 -- `controller::working::store_misclosures` meets its contract.
-use Rattle.vocabulary.specs.{ℕ, ◌<◌, ◌≤◌, ap, ap₂, subst, ◌∙◌, needs, now, ℤ, length, set, length-set, to_z-of_z}
+use Rattle.std.specs.Prelude.{ℕ, ◌<◌, ◌≤◌, ℤ, length, set}
+use Rattle.vocabulary.specs.{ap, ap₂, subst, ◌∙◌, needs, now, length-set, to_z-of_z}
 use Rattle.controller.proofs.Lists.{first_of_two, both_of_two}
 use Rattle.controller.proofs.working.store_misclosures.Statement.{statement}
 use Rattle.controller.proofs.working.store_misclosures.Tie as tie

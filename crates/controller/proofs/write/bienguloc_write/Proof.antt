@@ -1,5 +1,6 @@
 -- `controller::write::bienguloc_write` meets its contract.
-use Rattle.vocabulary.specs.{ℕ, ◌<◌, List, ◌≡◌, sym, ap, subst, ◌∙◌, needs, now, length}
+use Rattle.std.specs.Prelude.{ℕ, ◌<◌, List, ◌≡◌, length}
+use Rattle.vocabulary.specs.{sym, ap, subst, ◌∙◌, needs, now}
 use Rattle.refusals.specs.{declared.Verdict.Verdict, Numbers.verdict_told}
 use Rattle.sheet_rules.specs.{Judging.writer_rows, Judging.writing_of, Promises.WriterPromise, Sheet.Values, Sheet.values_from}
 use Rattle.sheet_rules.proofs.Refusals.{writer_in_table}

@@ -1,6 +1,7 @@
 -- `judging::search::is_entry_outside` meets its contract: where the log-sine is outside both sides are true, and else both are what is
 -- said of the difference.
-use Rattle.vocabulary.specs.{Bool, ◌||◌, sym, ap, ◌∙◌, ℤ, pos, negsuc, w32, to_z_of_z_at}
+use Rattle.std.specs.Prelude.{Bool, ◌||◌, ℤ, pos, negsuc}
+use Rattle.vocabulary.specs.{sym, ap, ◌∙◌, w32, to_z_of_z_at}
 use Rattle.refusals.specs.Questions.{asked, outside_signed}
 use Rattle.judging.proofs.search.is_entry_outside.Statement.{statement}
 use Rattle.judging.proofs.search.is_entry_outside.Tie as tie

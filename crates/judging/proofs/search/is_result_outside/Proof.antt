@@ -1,5 +1,6 @@
 -- `judging::search::is_result_outside` meets its contract: an angle and a correction of 32 bits sum to less than 64.
-use Rattle.vocabulary.specs.{◌≡◌, ap, ap₂, ◌∙◌, arith, needs, ℤ, pos, ◌+ℤ◌, w32, w64, SFits, to_z, of_z, to_z_pos, to_z_of_z_at}
+use Rattle.std.specs.Prelude.{◌≡◌, ℤ, pos, ◌+ℤ◌}
+use Rattle.vocabulary.specs.{ap, ap₂, ◌∙◌, arith, needs, w32, w64, SFits, to_z, of_z, to_z_pos, to_z_of_z_at}
 use Rattle.whole.proofs.Magnitudes.{nat_abs_add, fits_magnitude, magnitude_fits, widened, widens}
 use Rattle.refusals.specs.{Questions.asked, Questions.outside_signed, Ranges.least_angle, Ranges.most_angle}
 use Rattle.judging.proofs.search.is_result_outside.Statement.{statement}

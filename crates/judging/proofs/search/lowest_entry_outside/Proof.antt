@@ -1,5 +1,6 @@
 -- `judging::search::lowest_entry_outside` meets its contract as `lowest_outside` does; a difference is read back from its bits.
-use Rattle.vocabulary.specs.{ℕ, suc, ◌≤◌, ◌-◌, Bool, List, ◌++◌, ◌≡◌, sym, ap₂, ◌∙◌, arith, ℤ, pos, length-append, w32, to_z_of_z_at}
+use Rattle.std.specs.Prelude.{ℕ, suc, ◌≤◌, ◌-◌, Bool, List, ◌++◌, ◌≡◌, ℤ, pos}
+use Rattle.vocabulary.specs.{sym, ap₂, ◌∙◌, arith, length-append, w32, to_z_of_z_at}
 use Rattle.refusals.specs.{declared.Lowest.TheVariants.Nowhere, Numbers.numbered, Order.lowest_place, Questions.asked}
 use Rattle.refusals.specs.Table.{sine_entry_outside}
 use Rattle.judging.proofs.Asking.{none_asked, one_passes, one_fails, all_asked}

@@ -1,5 +1,6 @@
 -- `judging::search::lowest_outside` meets its contract. The loop's invariant: no value passed so far lies outside.
-use Rattle.vocabulary.specs.{ℕ, ◌≤◌, ◌-◌, Bool, List, ◌≡◌, sym, ◌∙◌, arith, needs, length}
+use Rattle.std.specs.Prelude.{ℕ, ◌≤◌, ◌-◌, Bool, List, ◌≡◌, length}
+use Rattle.vocabulary.specs.{sym, ◌∙◌, arith, needs}
 use Rattle.refusals.specs.{declared.Lowest.TheVariants.Nowhere, Order.lowest_place, Numbers.numbered, Questions.asked, Questions.outside}
 use Rattle.judging.proofs.Asking.{none_asked, one_passes, one_fails, all_asked}
 use Rattle.judging.proofs.search.lowest_outside.Statement.{statement}

@@ -1,5 +1,6 @@
 -- `judging::search::lowest_result_outside` meets its contract as `lowest_outside` does, of each angle with its correction.
-use Rattle.vocabulary.specs.{ℕ, suc, ◌≤◌, ◌-◌, Bool, List, ◌≡◌, sym, ap, ◌∙◌, arith, needs, ℤ, pos, ◌+ℤ◌, length, get_or, w32, to_z_of_z_at}
+use Rattle.std.specs.Prelude.{ℕ, suc, ◌≤◌, ◌-◌, Bool, List, ◌≡◌, ℤ, pos, ◌+ℤ◌, length, get_or}
+use Rattle.vocabulary.specs.{sym, ap, ◌∙◌, arith, needs, w32, to_z_of_z_at}
 use Rattle.whole.proofs.Lists.{length_listed, get_or_listed}
 use Rattle.refusals.specs.{declared.Lowest.TheVariants.Nowhere, Numbers.numbered, Order.lowest_place, Ranges.least_angle, Ranges.most_angle}
 use Rattle.refusals.specs.Questions.{asked, outside_signed}

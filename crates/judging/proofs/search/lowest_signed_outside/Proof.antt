@@ -1,6 +1,6 @@
 -- `judging::search::lowest_signed_outside` meets its contract as `lowest_outside` does; each value is read back from its bits.
-use Rattle.vocabulary.specs.{ℕ, suc, ◌≤◌, ◌-◌, Bool, List, ◌≡◌, sym, ap, ap₂, ◌∙◌, arith, needs, ℤ, pos, length, get_or, w32, w64, to_z, of_z}
-use Rattle.vocabulary.specs.{SFits, to_z_of_z_at}
+use Rattle.std.specs.Prelude.{ℕ, suc, ◌≤◌, ◌-◌, Bool, List, ◌≡◌, ℤ, pos, length, get_or}
+use Rattle.vocabulary.specs.{sym, ap, ap₂, ◌∙◌, arith, needs, w32, w64, to_z, of_z, SFits, to_z_of_z_at}
 use Rattle.whole.proofs.Magnitudes.{widened, widens}
 use Rattle.refusals.specs.{declared.Lowest.TheVariants.Nowhere, Order.lowest_place, Numbers.numbered}
 use Rattle.refusals.specs.Questions.{asked, outside_signed}

@@ -1,5 +1,6 @@
 -- `judging::search::signed_at` meets its contract: past the end the definition reads 0.
-use Rattle.vocabulary.specs.{sym, needs, pos, list-get_or_eq_default}
+use Rattle.std.specs.Prelude.{pos}
+use Rattle.vocabulary.specs.{sym, needs, list-get_or_eq_default}
 use Rattle.judging.proofs.search.signed_at.Statement.{statement}
 use Rattle.judging.proofs.search.signed_at.Tie as tie
 

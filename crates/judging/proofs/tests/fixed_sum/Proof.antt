@@ -1,5 +1,6 @@
 -- `judging::tests::fixed_sum` meets its contract, case by case.
-use Rattle.vocabulary.specs.{sym, ap, ◌∙◌, Bool, cond, ℕ, eqb, eq-eqb, ne_eqb}
+use Rattle.std.specs.Prelude.{Bool, cond, ℕ, eqb}
+use Rattle.vocabulary.specs.{sym, ap, ◌∙◌, eq-eqb, ne_eqb}
 use Rattle.judging.proofs.tests.fixed_sum.Statement.{statement}
 use Rattle.judging.proofs.tests.fixed_sum.Tie as tie
 

@@ -1,5 +1,6 @@
 -- `judging::tests::fixed_sum_verdict` meets its contract, by what the fixed angles sum to.
-use Rattle.vocabulary.specs.{◌≡◌, sym, ap, ◌∙◌, Bool, not, eqb, length, now}
+use Rattle.std.specs.Prelude.{◌≡◌, Bool, not, eqb, length}
+use Rattle.vocabulary.specs.{sym, ap, ◌∙◌, now}
 use Rattle.refusals.specs.{declared.Refusal.Refusal, Order.fails_if, Table.fixed_sum, Table.sum_of_all}
 use Rattle.judging.proofs.tests.fixed_sum_verdict.Statement.{statement}
 use Rattle.judging.proofs.tests.fixed_sum_verdict.Tie as tie

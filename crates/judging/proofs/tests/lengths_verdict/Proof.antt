@@ -1,5 +1,6 @@
 -- `judging::tests::lengths_verdict` meets its contract, by the comparison.
-use Rattle.vocabulary.specs.{sym, ap, ◌∙◌, Bool, not}
+use Rattle.std.specs.Prelude.{Bool, not}
+use Rattle.vocabulary.specs.{sym, ap, ◌∙◌}
 use Rattle.refusals.specs.{declared.Refusal.Refusal, Order.fails_if}
 use Rattle.judging.proofs.tests.lengths_verdict.Statement.{statement}
 use Rattle.judging.proofs.tests.lengths_verdict.Tie as tie

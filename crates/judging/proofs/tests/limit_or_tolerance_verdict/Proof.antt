@@ -1,5 +1,6 @@
 -- `judging::tests::limit_or_tolerance_verdict` meets its contract, by the test.
-use Rattle.vocabulary.specs.{sym, ap, Bool, lt-ltb, le-ltb}
+use Rattle.std.specs.Prelude.{Bool}
+use Rattle.vocabulary.specs.{sym, ap, lt-ltb, le-ltb}
 use Rattle.refusals.specs.{declared.Refusal.Refusal, Order.fails_if}
 use Rattle.judging.proofs.tests.limit_or_tolerance_verdict.Statement.{statement}
 use Rattle.judging.proofs.tests.limit_or_tolerance_verdict.Tie as tie

@@ -1,5 +1,6 @@
 -- `judging::tests::misclosures_verdict` meets its contract: the search's answer between −L and L, as a verdict.
-use Rattle.vocabulary.specs.{◌≡◌, sym, ap, ap₂, ◌∙◌, arith, needs, ℤ, pos, neg_ℤ, ◌-ℤ◌, +ℤ_idl, w64, to_z, to_z-of_z, to_z_pos}
+use Rattle.std.specs.Prelude.{◌≡◌, ℤ, pos, neg_ℤ, ◌-ℤ◌}
+use Rattle.vocabulary.specs.{sym, ap, ap₂, ◌∙◌, arith, needs, +ℤ_idl, w64, to_z, to_z-of_z, to_z_pos}
 use Rattle.whole.proofs.Magnitudes.{nat_abs_neg, magnitude_fits}
 use Rattle.refusals.specs.{declared.Refusal.Refusal, Order.fails_at}
 use Rattle.judging.specs.Searches.{lowest_signed_outside}

@@ -1,5 +1,6 @@
 -- `judging::tests::same_numbers` meets its contract. The invariant: the lists are the same exactly if what is left of them is.
-use Rattle.vocabulary.specs.{◌≡◌, refl, sym, ap, ◌∙◌, ℕ, ◌≤◌, ◌-◌, arith, needs, length, drop, now}
+use Rattle.std.specs.Prelude.{◌≡◌, refl, ℕ, ◌≤◌, ◌-◌, length, drop}
+use Rattle.vocabulary.specs.{sym, ap, ◌∙◌, arith, needs, now}
 use Rattle.refusals.specs.Questions.{same_numbers}
 use Rattle.refusals.proofs.NumberLists.{lengths_differ, one_same, one_differs, all_same}
 use Rattle.judging.proofs.tests.same_numbers.Statement.{statement}

@@ -1,5 +1,6 @@
 -- `judging::tests::squares_verdict` meets its contract: a number is 0 exactly if both words are.
-use Rattle.vocabulary.specs.{◌≡◌, sym, ap, Bool, ◌+◌, ◌*◌, ◌^◌, arith, eq-eqb, ne_eqb}
+use Rattle.std.specs.Prelude.{◌≡◌, Bool, ◌+◌, ◌*◌, ◌^◌}
+use Rattle.vocabulary.specs.{sym, ap, arith, eq-eqb, ne_eqb}
 use Rattle.refusals.specs.{declared.Refusal.Refusal, Order.fails_if}
 use Rattle.judging.proofs.tests.squares_verdict.Statement.{statement}
 use Rattle.judging.proofs.tests.squares_verdict.Tie as tie

@@ -1,5 +1,6 @@
 -- `judging::tests::sums_to` meets its contract. The invariant: what the values taken so far have taken off the sum is what they add up to.
-use Rattle.vocabulary.specs.{◌≡◌, sym, ap, ◌∙◌, ℕ, zero, suc, ◌+◌, ◌-◌, ◌≤◌, arith, needs, eq-eqb, ne_eqb, eqb, length, drop, now}
+use Rattle.std.specs.Prelude.{◌≡◌, ℕ, zero, suc, ◌+◌, ◌-◌, ◌≤◌, eqb, length, drop}
+use Rattle.vocabulary.specs.{sym, ap, ◌∙◌, arith, needs, eq-eqb, ne_eqb, now}
 use Rattle.refusals.specs.Table.{sum_of_all}
 use Rattle.refusals.proofs.NumberLists.{sum_next, sum_past}
 use Rattle.judging.proofs.tests.sums_to.Statement.{statement}

@@ -1,6 +1,7 @@
 -- `lines::first::first_lines` meets its contract: the figure's line and those of its angles and of its conditions make the text
 -- (`text_laid_lem`).
-use Rattle.vocabulary.specs.{◌≤◌, needs}
+use Rattle.std.specs.Prelude.{◌≤◌}
+use Rattle.vocabulary.specs.{needs}
 use Rattle.lines.specs.Lines.{first_lines, first_text}
 use Rattle.lines.proofs.Texts.{few_lines, text_laid_lem}
 use Rattle.lines.proofs.first.first_lines.Statement.{statement}

@@ -1,5 +1,6 @@
 -- `lines::first::put_angle` meets its contract: its numbers are the angle's own number and what the slices have for it.
-use Rattle.vocabulary.specs.{ap, arith, List, needs, ℤ, w64, to_z_pos}
+use Rattle.std.specs.Prelude.{List, ℤ}
+use Rattle.vocabulary.specs.{ap, arith, needs, w64, to_z_pos}
 use Rattle.whole.specs.Lists.{listed}
 use Rattle.text.specs.Text.{line_feed, line}
 use Rattle.lines.specs.Lays.{numbers_ended}

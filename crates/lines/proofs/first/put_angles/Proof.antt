@@ -1,5 +1,6 @@
 -- `lines::first::put_angles` meets its contract: each turn lays one line more (`printing_more`).
-use Rattle.vocabulary.specs.{◌-◌, arith, needs}
+use Rattle.std.specs.Prelude.{◌-◌}
+use Rattle.vocabulary.specs.{arith, needs}
 use Rattle.whole.specs.Sums.{naturals, vector}
 use Rattle.lines.specs.Lines.{first_angle}
 use Rattle.lines.proofs.Laid.{Printing, printing_none, printing_more, printing_all}

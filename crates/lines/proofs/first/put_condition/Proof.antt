@@ -1,5 +1,6 @@
 -- `lines::first::put_condition` meets its contract: the word, the condition's own number and what the slices have for it.
-use Rattle.vocabulary.specs.{refl, ap, ◌∙◌, List, [], ◌∷◌, ◌++◌, arith, needs, ℤ, pos, w64, to_z_pos}
+use Rattle.std.specs.Prelude.{refl, List, [], ◌∷◌, ◌++◌, ℤ, pos}
+use Rattle.vocabulary.specs.{ap, ◌∙◌, arith, needs, w64, to_z_pos}
 use Rattle.whole.specs.Lists.{listed}
 use Rattle.text.specs.Text.{space, line_feed, line}
 use Rattle.lines.specs.{Lays.numbers_ended, Lines.condition_word}

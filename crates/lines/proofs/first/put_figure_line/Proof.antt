@@ -1,5 +1,6 @@
 -- `lines::first::put_figure_line` meets its contract: the denominator's word and number are laid after the figure's name.
-use Rattle.vocabulary.specs.{ap, ◌∙◌, [], ◌∷◌, ◌++◌, arith, needs, ℤ, pos, w64, to_z_pos}
+use Rattle.std.specs.Prelude.{[], ◌∷◌, ◌++◌, ℤ, pos}
+use Rattle.vocabulary.specs.{ap, ◌∙◌, arith, needs, w64, to_z_pos}
 use Rattle.whole.specs.Lists.{listed}
 use Rattle.figures.specs.{declared.Counts.Counts, Figure.denominator}
 use Rattle.text.specs.Text.{space, line_feed, decimal, line}

@@ -1,5 +1,6 @@
 -- `lines::put::put_figure_start` meets its contract: the word, the code and n, each with the space after it.
-use Rattle.vocabulary.specs.{ap, [], ◌∷◌, needs, pos}
+use Rattle.std.specs.Prelude.{[], ◌∷◌, pos}
+use Rattle.vocabulary.specs.{ap, needs}
 use Rattle.text.specs.Text.{decimal}
 use Rattle.figures.specs.declared.Name.{Name}
 use Rattle.lines.specs.{Lays.line_start, Lines.figure_word}

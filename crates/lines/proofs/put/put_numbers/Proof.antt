@@ -1,6 +1,7 @@
 -- `lines::put::put_numbers` meets its contract: each turn lays one number more with a space after it (`number_started`), and the last has
 -- the byte that ends them (`number_ended`).
-use Rattle.vocabulary.specs.{◌≡◌, ap, ◌∙◌, List, [], ◌∷◌, ◌++◌, ℕ, ◌+◌, ◌-◌, ◌≤◌, arith, needs, ℤ, length, to_z-of_z}
+use Rattle.std.specs.Prelude.{◌≡◌, List, [], ◌∷◌, ◌++◌, ℕ, ◌+◌, ◌-◌, ◌≤◌, ℤ, length}
+use Rattle.vocabulary.specs.{ap, ◌∙◌, arith, needs, to_z-of_z}
 use Rattle.whole.specs.{Lists.listed, Sums.vector}
 use Rattle.text.specs.Text.{space, decimal}
 use Rattle.lines.specs.{Lays.Lays, Lays.line_start, Lays.numbers_ended, Lines.numbers}

@@ -1,5 +1,6 @@
 -- `lines::put::put_part` meets its contract: the byte is laid after the number.
-use Rattle.vocabulary.specs.{ap, [], ◌∷◌, ◌++◌, needs, ℤ, to_z-of_z}
+use Rattle.std.specs.Prelude.{[], ◌∷◌, ◌++◌, ℤ}
+use Rattle.vocabulary.specs.{ap, needs, to_z-of_z}
 use Rattle.text.specs.Text.{decimal}
 use Rattle.lines.proofs.Laid.{lays_laid, lays_then, lays_as}
 use Rattle.lines.proofs.put.put_part.Statement.{statement}

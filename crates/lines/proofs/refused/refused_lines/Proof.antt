@@ -1,5 +1,6 @@
 -- `lines::refused::refused_lines` meets its contract: the word, the number and the place make the text (`refused_text_lem`).
-use Rattle.vocabulary.specs.{ap₂, ◌∙◌, [], ◌∷◌, ◌++◌, ℕ, needs, pos}
+use Rattle.std.specs.Prelude.{[], ◌∷◌, ◌++◌, ℕ, pos}
+use Rattle.vocabulary.specs.{ap₂, ◌∙◌, needs}
 use Rattle.text.specs.Text.{space, line_feed, decimal}
 use Rattle.lines.specs.Lines.{refused_word}
 use Rattle.lines.proofs.{Laid.lays_then, Laid.lays_as, Laid.lays_start, Texts.refused_text_lem}

@@ -1,5 +1,6 @@
 -- `lines::second::has_side` meets its contract: the figures with a side condition are those with known sides (`side_known`).
-use Rattle.vocabulary.specs.{ap, ◌∙◌, needs, ltb}
+use Rattle.std.specs.Prelude.{ltb}
+use Rattle.vocabulary.specs.{ap, ◌∙◌, needs}
 use Rattle.figures.specs.declared.Counts.{Counts}
 use Rattle.lines.proofs.Texts.{side_known}
 use Rattle.lines.proofs.second.has_side.Statement.{statement}

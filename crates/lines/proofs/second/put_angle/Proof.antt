@@ -1,5 +1,6 @@
 -- `lines::second::put_angle` meets its contract: numerator, rounded correction, result and rounds are laid after the angle's other numbers.
-use Rattle.vocabulary.specs.{refl, sym, ap, List, [], ◌∷◌, ◌++◌, map-append, ◌+◌, needs, now, ℤ, pos}
+use Rattle.std.specs.Prelude.{refl, List, [], ◌∷◌, ◌++◌, ◌+◌, ℤ, pos}
+use Rattle.vocabulary.specs.{sym, ap, map-append, needs, now}
 use Rattle.whole.specs.{Lists.listed, Sums.naturals, Sums.vector}
 use Rattle.figures.specs.Figure.{has_side}
 use Rattle.text.specs.Text.{space, line_feed, decimal, line}

@@ -1,5 +1,6 @@
 -- `lines::second::put_conditions` meets its contract: each turn lays one line more (`printing_more`).
-use Rattle.vocabulary.specs.{◌-◌, arith, needs}
+use Rattle.std.specs.Prelude.{◌-◌}
+use Rattle.vocabulary.specs.{arith, needs}
 use Rattle.whole.specs.Sums.{vector}
 use Rattle.lines.specs.Lines.{second_condition}
 use Rattle.lines.proofs.Laid.{Printing, printing_none, printing_more, printing_all}

@@ -1,5 +1,6 @@
 -- `lines::second::put_divisor_words` meets its contract: with a side condition its misclosure and the determinant's word, else the word S.
-use Rattle.vocabulary.specs.{sym, ap, ◌∙◌, Bool, [], ◌∷◌, ◌++◌, needs, ℤ, to_z-of_z}
+use Rattle.std.specs.Prelude.{Bool, [], ◌∷◌, ◌++◌, ℤ}
+use Rattle.vocabulary.specs.{sym, ap, ◌∙◌, needs, to_z-of_z}
 use Rattle.text.specs.Text.{space, decimal}
 use Rattle.lines.specs.{Lays.line_start, Lines.s_word, Lines.determinant_word, Lines.divisor_words}
 use Rattle.lines.proofs.Laid.{lays_as, lays_parts, part_start}

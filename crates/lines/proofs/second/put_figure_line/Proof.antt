@@ -1,5 +1,6 @@
 -- `lines::second::put_figure_line` meets its contract: its parts are laid one after the other, the divisor last.
-use Rattle.vocabulary.specs.{◌≡◌, ap, ◌∙◌, false, [], ◌∷◌, ◌++◌, ℕ, needs, ℤ, pos, to_z-of_z}
+use Rattle.std.specs.Prelude.{◌≡◌, false, [], ◌∷◌, ◌++◌, ℕ, ℤ, pos}
+use Rattle.vocabulary.specs.{ap, ◌∙◌, needs, to_z-of_z}
 use Rattle.wide.specs.Wide.{size_of, value_of}
 use Rattle.wide.proofs.Signs.{signed_above}
 use Rattle.wide_words.specs.Words.{joined}

@@ -1,6 +1,7 @@
 -- `lines::second::put_reduced` meets its contract: its numbers are the angle's own number and what the slices have for it, the last one
 -- where the figure has a side condition.
-use Rattle.vocabulary.specs.{◌≡◌, refl, sym, ap, ◌∙◌, Bool, List, [], ◌∷◌, ℕ, suc, ◌+◌, arith, needs, now, ℤ, pos, w64, to_z_pos, to_z, of_z}
+use Rattle.std.specs.Prelude.{◌≡◌, refl, Bool, List, [], ◌∷◌, ℕ, suc, ◌+◌, ℤ, pos}
+use Rattle.vocabulary.specs.{sym, ap, ◌∙◌, arith, needs, now, w64, to_z_pos, to_z, of_z}
 use Rattle.whole.specs.{Lists.listed, Sums.naturals, Sums.vector}
 use Rattle.text.specs.Text.{space, decimal}
 use Rattle.lines.specs.{Lays.line_start, Lays.numbers_ended, Lines.numbers, Lines.coefficients}

@@ -1,6 +1,7 @@
 -- `lines::second::second_lines` meets its contract: the figure's line and those of its angles and of its conditions make the text
 -- (`text_laid_lem`).
-use Rattle.vocabulary.specs.{ap₂, ◌≤◌, needs, ℤ, pos, to_z-of_z}
+use Rattle.std.specs.Prelude.{◌≤◌, ℤ, pos}
+use Rattle.vocabulary.specs.{ap₂, needs, to_z-of_z}
 use Rattle.wide_words.specs.Words.{joined}
 use Rattle.text.specs.Text.{line}
 use Rattle.lines.specs.Lines.{second_figure, second_lines, second_text}

@@ -1,5 +1,6 @@
 -- `lines::values::count_at` meets its contract: an 8-bit value fits 64 bits, and past the end the definition reads 0.
-use Rattle.vocabulary.specs.{sym, ap, arith, needs, list-get_or_eq_default, ℤ, pos, w64, to_z_pos}
+use Rattle.std.specs.Prelude.{ℤ, pos}
+use Rattle.vocabulary.specs.{sym, ap, arith, needs, list-get_or_eq_default, w64, to_z_pos}
 use Rattle.lines.proofs.values.count_at.Statement.{statement}
 use Rattle.lines.proofs.values.count_at.Tie as tie
 

@@ -1,5 +1,6 @@
 -- `lines::values::signed_at` meets its contract: a 32-bit value fits 64 bits, and past the end the definition reads 0.
-use Rattle.vocabulary.specs.{sym, needs, get_or, list-get_or_eq_default, pos, w32, w64, SFits, to_z-of_z, sfits_widen}
+use Rattle.std.specs.Prelude.{get_or, pos}
+use Rattle.vocabulary.specs.{sym, needs, list-get_or_eq_default, w32, w64, SFits, to_z-of_z, sfits_widen}
 use Rattle.whole.proofs.Magnitudes.{widened}
 use Rattle.lines.proofs.values.signed_at.Statement.{statement}
 use Rattle.lines.proofs.values.signed_at.Tie as tie

@@ -1,5 +1,6 @@
 -- `lines::values::signed_word_at` meets its contract: past the end the definition reads 0.
-use Rattle.vocabulary.specs.{sym, needs, pos, list-get_or_eq_default}
+use Rattle.std.specs.Prelude.{pos}
+use Rattle.vocabulary.specs.{sym, needs, list-get_or_eq_default}
 use Rattle.lines.proofs.values.signed_word_at.Statement.{statement}
 use Rattle.lines.proofs.values.signed_word_at.Tie as tie
 

@@ -1,6 +1,7 @@
 -- `pass_first::corrections::add_misclosures` meets its contract. The invariant: the rests passed are worked over, and the sums after them
 -- as they were.
-use Rattle.vocabulary.specs.{◌≡◌, ap₂, ◌∙◌, ℕ, ◌-◌, le_refl, arith, now, ℤ, pos, ◌+ℤ◌, length, w32, SFits, to_z, of_z, to_z_of_z_at}
+use Rattle.std.specs.Prelude.{◌≡◌, ℕ, ◌-◌, ℤ, pos, ◌+ℤ◌, length}
+use Rattle.vocabulary.specs.{ap₂, ◌∙◌, le_refl, arith, now, w32, SFits, to_z, of_z, to_z_of_z_at}
 use Rattle.whole.specs.Sums.{vector}
 use Rattle.whole.proofs.Lists.{Replaced, replaced_none, replaced_more, filled_all}
 use Rattle.whole.proofs.Magnitudes.{nat_abs_add, magnitude_fits}

@@ -1,5 +1,6 @@
 -- `pass_first::corrections::corrections_into` meets its contract: each step takes what the step before it gave.
-use Rattle.vocabulary.specs.{◌≡◌, sym, ◌∙◌, le_trans, needs, now, lit≤}
+use Rattle.std.specs.Prelude.{◌≡◌}
+use Rattle.vocabulary.specs.{sym, ◌∙◌, le_trans, needs, now, lit≤}
 use Rattle.pass_steps.specs.{Premises.most_rounded, Premises.most_applied, Steps.numerators_from}
 use Rattle.pass_steps.proofs.{Fitting.fits, Judged.misclosures_pass, Judged.taken, StepLaws.length_of}
 use Rattle.pass_first.proofs.FirstSteps.{exact_within, tenths_are}

@@ -1,6 +1,7 @@
 -- `pass_first::corrections::first_corrected` meets its contract: number 7 is asked of the results, and everything is stored where it
 -- passes.
-use Rattle.vocabulary.specs.{◌≡◌, sym, ap, ◌∙◌, List, [], ◌∷◌, ◌++◌, ℕ, ◌≤◌, arith, now, lit≤, ℤ, pos, length, get_or, take, drop, replicate}
+use Rattle.std.specs.Prelude.{◌≡◌, List, [], ◌∷◌, ◌++◌, ℕ, ◌≤◌, ℤ, pos, length, get_or, take, drop, replicate}
+use Rattle.vocabulary.specs.{sym, ap, ◌∙◌, arith, now, lit≤}
 use Rattle.refusals.specs.{declared.Verdict.Verdict, Order.verdict_of, Order.judged, Table.lengths_row, Table.results_row}
 use Rattle.judging.specs.Searches.{results_of}
 use Rattle.figures.proofs.Figures.{angle_bound}

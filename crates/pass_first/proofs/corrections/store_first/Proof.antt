@@ -1,5 +1,6 @@
 -- `pass_first::corrections::store_first` meets its contract: each slice has the length of what it is to hold.
-use Rattle.vocabulary.specs.{◌≡◌, refl, sym, ◌∙◌, needs, now, ◌+ℤ◌}
+use Rattle.std.specs.Prelude.{◌≡◌, refl, ◌+ℤ◌}
+use Rattle.vocabulary.specs.{sym, ◌∙◌, needs, now}
 use Rattle.whole.specs.{Lists.listed, Sums.vector}
 use Rattle.figures.specs.{Figure.condition_count, Numerators.condition_sum}
 use Rattle.pass_steps.proofs.{Fitting.copied, Held.totals_within, Held.sums_are, StepLaws.listed_after, StepLaws.length_of}

@@ -1,5 +1,6 @@
 -- `pass_first::first::first_pass_of` meets its contract: each row in its order, and a refusal before any store.
-use Rattle.vocabulary.specs.{◌≡◌, sym, ◌∙◌, List, [], ◌∷◌, ◌++◌, ℕ, ◌≤◌, arith, now, ℤ, pos, length, take, drop, replicate}
+use Rattle.std.specs.Prelude.{◌≡◌, List, [], ◌∷◌, ◌++◌, ℕ, ◌≤◌, ℤ, pos, length, take, drop, replicate}
+use Rattle.vocabulary.specs.{sym, ◌∙◌, arith, now}
 use Rattle.refusals.specs.{declared.Verdict.TheVariants.Passed, declared.Verdict.Verdict, Order.verdict_of, Order.judged}
 use Rattle.refusals.specs.Table.{misclosures_row}
 use Rattle.figures.specs.Figure.{condition_count}

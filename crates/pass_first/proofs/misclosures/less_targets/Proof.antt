@@ -1,6 +1,7 @@
 -- `pass_first::misclosures::less_targets` meets its contract. The invariant: the misclosures passed are worked over, and the sums after
 -- them as they were.
-use Rattle.vocabulary.specs.{◌≡◌, ap₂, ◌∙◌, ℕ, suc, ◌-◌, le_refl, arith, now, ℤ, pos, ◌-ℤ◌, w32, SFits, to_z, of_z, to_z_of_z_at}
+use Rattle.std.specs.Prelude.{◌≡◌, ℕ, suc, ◌-◌, ℤ, pos, ◌-ℤ◌}
+use Rattle.vocabulary.specs.{ap₂, ◌∙◌, le_refl, arith, now, w32, SFits, to_z, of_z, to_z_of_z_at}
 use Rattle.whole.specs.Sums.{vector}
 use Rattle.whole.proofs.Lists.{Replaced, replaced_none, replaced_more, filled_all}
 use Rattle.whole.proofs.Magnitudes.{nat_abs_sub, magnitude_fits}

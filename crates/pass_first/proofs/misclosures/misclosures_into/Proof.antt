@@ -1,6 +1,6 @@
 -- `pass_first::misclosures::misclosures_into` meets its contract: the sums of the angles as they were given, less what they should be.
-use Rattle.vocabulary.specs.{◌≡◌, refl, sym, ap, ◌∙◌, List, ◌++◌, ℕ, suc, ◌≤◌, arith, needs, now, ℤ, pos, ◌-ℤ◌, length, take, drop}
-use Rattle.vocabulary.specs.{replicate}
+use Rattle.std.specs.Prelude.{◌≡◌, refl, List, ◌++◌, ℕ, suc, ◌≤◌, ℤ, pos, ◌-ℤ◌, length, take, drop, replicate}
+use Rattle.vocabulary.specs.{sym, ap, ◌∙◌, arith, needs, now}
 use Rattle.whole.specs.{Lists.listed, Sums.vector}
 use Rattle.whole.proofs.{Lists.listed_ext, Lending.lent_length, Lending.part_again, Lending.still_few, Lending.again_length}
 use Rattle.figures.specs.{declared.Figure.Figure, Figure.angle_count, Figure.condition_count, Figure.target_of, Numerators.condition_sum}

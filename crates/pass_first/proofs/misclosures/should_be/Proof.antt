@@ -1,5 +1,6 @@
 -- `pass_first::misclosures::should_be` meets its contract: the targets of each family.
-use Rattle.vocabulary.specs.{◌≡◌, sym, ap, ◌∙◌, subst, List, ℕ, suc, ◌+◌, ◌-◌, ◌≤◌, ◌<◌, arith, needs, now, T, length, w32, to_z_pos}
+use Rattle.std.specs.Prelude.{◌≡◌, List, ℕ, suc, ◌+◌, ◌-◌, ◌≤◌, ◌<◌, T, length}
+use Rattle.vocabulary.specs.{sym, ap, ◌∙◌, subst, arith, needs, now, w32, to_z_pos}
 use Rattle.figures.specs.{declared.Figure.Figure, declared.Figure.TheVariants.Quadrilateral, declared.Target.Target}
 use Rattle.figures.specs.declared.Target.TheVariants.{HalfTurn, FullTurn, FixedAngle}
 use Rattle.figures.specs.Figure.{description, target_of, condition_count, fixed_count}

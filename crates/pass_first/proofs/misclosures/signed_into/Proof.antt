@@ -1,5 +1,6 @@
 -- `pass_first::misclosures::signed_into` meets its contract. The invariant: the angles passed are filled in.
-use Rattle.vocabulary.specs.{◌-◌, arith, length, w32, to_z_pos}
+use Rattle.std.specs.Prelude.{◌-◌, length}
+use Rattle.vocabulary.specs.{arith, w32, to_z_pos}
 use Rattle.pass_rules.specs.Pass.{given}
 use Rattle.whole.proofs.Lists.{Filled, filled_none, filled_more, filled_all}
 use Rattle.pass_first.proofs.misclosures.signed_into.Statement.{statement}

@@ -1,5 +1,6 @@
 -- `pass_first::quotients::over` meets its contract. The invariant: the quotients passed are filled in; none is greater than its numerator.
-use Rattle.vocabulary.specs.{◌≡◌, ap, ◌∙◌, ℕ, ◌-◌, ◌≤◌, le_trans, arith, needs, now, ℤ, nat_abs, length, w32, w64, SFits}
+use Rattle.std.specs.Prelude.{◌≡◌, ℕ, ◌-◌, ◌≤◌, ℤ, nat_abs, length}
+use Rattle.vocabulary.specs.{ap, ◌∙◌, le_trans, arith, needs, now, w32, w64, SFits}
 use Rattle.whole.specs.{Quotient.rounded_quotient, Sums.vector}
 use Rattle.whole.proofs.{Lists.Filled, Lists.filled_none, Lists.filled_more, Lists.filled_all, Magnitudes.widened, Magnitudes.widens}
 use Rattle.whole.proofs.Quotient.{rounded_within}

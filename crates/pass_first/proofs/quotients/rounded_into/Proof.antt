@@ -1,5 +1,6 @@
 -- `pass_first::quotients::rounded_into` meets its contract: each figure's denominator is its type's.
-use Rattle.vocabulary.specs.{◌≡◌, sym, ap, ◌∙◌, List, needs, now, ℤ, length}
+use Rattle.std.specs.Prelude.{◌≡◌, List, ℤ, length}
+use Rattle.vocabulary.specs.{sym, ap, ◌∙◌, needs, now}
 use Rattle.whole.specs.{Lists.listed, Quotient.rounded_quotient, Sums.vector}
 use Rattle.figures.specs.{declared.Figure.Figure, Figure.denominator}
 use Rattle.pass_first.proofs.quotients.rounded_into.Statement.{statement}

@@ -1,5 +1,6 @@
 -- `pass_rules::first::first_given_verdict` meets its contract: the rows in their order, each by its own promise.
-use Rattle.vocabulary.specs.{List, ◌∷◌, ◌≡◌, ap₂, ◌∙◌, ℕ, needs, now, length}
+use Rattle.std.specs.Prelude.{List, ◌∷◌, ◌≡◌, ℕ, length}
+use Rattle.vocabulary.specs.{ap₂, ◌∙◌, needs, now}
 use Rattle.refusals.specs.{Order.verdict_of, Ranges.most_limit, Ranges.most_rounds}
 use Rattle.refusals.specs.Table.{lengths_row, limit_or_tolerance_row, angles_row, rounds_row, fixed_row, fixed_sum_row}
 use Rattle.refusals.proofs.InSteps.{last_row, next_row}

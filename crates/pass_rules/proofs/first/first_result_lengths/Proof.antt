@@ -1,5 +1,6 @@
 -- `pass_rules::first::first_result_lengths` meets its contract: the figure's counts, as the slices of the first pass stand.
-use Rattle.vocabulary.specs.{ap, [], ◌∷◌, needs}
+use Rattle.std.specs.Prelude.{[], ◌∷◌}
+use Rattle.vocabulary.specs.{ap, needs}
 use Rattle.figures.specs.declared.Counts.{Counts}
 use Rattle.pass_rules.proofs.first.first_result_lengths.Statement.{statement}
 use Rattle.pass_rules.proofs.first.first_result_lengths.Tie as tie

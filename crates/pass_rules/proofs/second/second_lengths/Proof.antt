@@ -1,5 +1,6 @@
 -- `pass_rules::second::second_lengths` meets its contract: the results' lengths one by one.
-use Rattle.vocabulary.specs.{List, ◌∷◌, ap, ℕ, arith, needs}
+use Rattle.std.specs.Prelude.{List, ◌∷◌, ℕ}
+use Rattle.vocabulary.specs.{ap, arith, needs}
 use Rattle.whole.specs.Lists.{listed}
 use Rattle.pass_rules.proofs.ResultLengths.{one_by_one}
 use Rattle.pass_rules.proofs.second.second_lengths.Statement.{statement}

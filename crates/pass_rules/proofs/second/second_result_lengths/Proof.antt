@@ -1,5 +1,6 @@
 -- `pass_rules::second::second_result_lengths` meets its contract: the figure's counts, as the slices of the second pass stand.
-use Rattle.vocabulary.specs.{cond, ap, ap₂, ◌∙◌, [], ◌∷◌, ℕ, needs, eqb}
+use Rattle.std.specs.Prelude.{cond, [], ◌∷◌, ℕ, eqb}
+use Rattle.vocabulary.specs.{ap, ap₂, ◌∙◌, needs}
 use Rattle.figures.specs.declared.Counts.{Counts}
 use Rattle.pass_rules.proofs.SideCounts.{side_reduced_count_lem}
 use Rattle.pass_rules.proofs.second.second_result_lengths.Statement.{statement}

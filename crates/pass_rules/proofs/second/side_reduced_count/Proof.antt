@@ -1,5 +1,6 @@
 -- `pass_rules::second::side_reduced_count` meets its contract: the branch asks what the contract does.
-use Rattle.vocabulary.specs.{Bool, cond, sym, ap, eq-eqb, ne_eqb}
+use Rattle.std.specs.Prelude.{Bool, cond}
+use Rattle.vocabulary.specs.{sym, ap, eq-eqb, ne_eqb}
 use Rattle.pass_rules.proofs.second.side_reduced_count.Statement.{statement}
 use Rattle.pass_rules.proofs.second.side_reduced_count.Tie as tie
 

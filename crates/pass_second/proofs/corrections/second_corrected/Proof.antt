@@ -1,7 +1,7 @@
 -- `pass_second::corrections::second_corrected` meets its contract: number 7 is asked of the results, and everything is stored where it
 -- passes.
-use Rattle.vocabulary.specs.{Bool, cond, ◌≡◌, sym, ap, ◌∙◌, List, [], ◌∷◌, ◌++◌, ℕ, ◌≤◌, arith, now, ℤ, pos, length, get_or, take, drop}
-use Rattle.vocabulary.specs.{replicate}
+use Rattle.std.specs.Prelude.{Bool, cond, ◌≡◌, List, [], ◌∷◌, ◌++◌, ℕ, ◌≤◌, ℤ, pos, length, get_or, take, drop, replicate}
+use Rattle.vocabulary.specs.{sym, ap, ◌∙◌, arith, now}
 use Rattle.whole.specs.{Lists.listed, Sums.vector}
 use Rattle.refusals.specs.{declared.Verdict.Verdict, Order.verdict_of, Order.judged, Table.lengths_row, Table.results_row}
 use Rattle.judging.specs.Searches.{results_of}

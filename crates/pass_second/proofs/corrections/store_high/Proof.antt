@@ -1,5 +1,6 @@
 -- `pass_second::corrections::store_high` meets its contract. The invariant: the places passed hold the numbers.
-use Rattle.vocabulary.specs.{◌∙◌, ◌-◌, arith, pos, length, to_z-of_z}
+use Rattle.std.specs.Prelude.{◌-◌, pos, length}
+use Rattle.vocabulary.specs.{◌∙◌, arith, to_z-of_z}
 use Rattle.whole.specs.Sums.{vector}
 use Rattle.whole.proofs.Lists.{Filled, filled_none, filled_more, filled_all, listed_get_or}
 use Rattle.pass_second.proofs.corrections.store_high.Statement.{statement}

@@ -1,5 +1,6 @@
 -- `pass_second::corrections::store_second` meets its contract: each slice has the length of what it is to hold.
-use Rattle.vocabulary.specs.{refl, sym, ◌∙◌, needs, now}
+use Rattle.std.specs.Prelude.{refl}
+use Rattle.vocabulary.specs.{sym, ◌∙◌, needs, now}
 use Rattle.pass_steps.proofs.{Fitting.copied, Held.sums_are}
 use Rattle.pass_second.proofs.corrections.store_second.Statement.{statement}
 use Rattle.pass_second.proofs.corrections.store_second.Tie as tie

@@ -1,5 +1,6 @@
 -- `pass_second::corrections::store_wide` meets its contract. The invariant: the places passed hold the numbers.
-use Rattle.vocabulary.specs.{◌∙◌, ◌-◌, arith, now, pos, length, w32, w64}
+use Rattle.std.specs.Prelude.{◌-◌, pos, length}
+use Rattle.vocabulary.specs.{◌∙◌, arith, now, w32, w64}
 use Rattle.whole.specs.Sums.{vector}
 use Rattle.whole.proofs.Magnitudes.{widened, widens}
 use Rattle.whole.proofs.Lists.{Filled, filled_none, filled_more, filled_all, listed_get_or}

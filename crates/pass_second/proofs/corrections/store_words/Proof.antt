@@ -1,5 +1,6 @@
 -- `pass_second::corrections::store_words` meets its contract. The invariant: the places passed hold the numbers.
-use Rattle.vocabulary.specs.{refl, ◌∙◌, ◌-◌, arith, length, get_or}
+use Rattle.std.specs.Prelude.{refl, ◌-◌, length, get_or}
+use Rattle.vocabulary.specs.{◌∙◌, arith}
 use Rattle.whole.proofs.Lists.{Filled, filled_none, filled_more, filled_all, listed_get_or}
 use Rattle.pass_second.proofs.corrections.store_words.Statement.{statement}
 use Rattle.pass_second.proofs.corrections.store_words.Tie as tie

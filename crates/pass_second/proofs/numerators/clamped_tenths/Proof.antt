@@ -1,5 +1,6 @@
 -- `pass_second::numerators::clamped_tenths` meets its contract: beyond either bound the quotient is that bound, and else it fits 32 bits.
-use Rattle.vocabulary.specs.{◌≡◌, refl, sym, ap, ◌∙◌, Bool, ◌≤◌, needs, ℤ, pos, nat_abs, le_z, w64, to_z, of_z, to_z-of_z}
+use Rattle.std.specs.Prelude.{◌≡◌, refl, Bool, ◌≤◌, ℤ, pos, nat_abs}
+use Rattle.vocabulary.specs.{sym, ap, ◌∙◌, needs, le_z, w64, to_z, of_z, to_z-of_z}
 use Rattle.pass_pair.specs.Pair.{most_tenths}
 use Rattle.pass_pair.proofs.Clamping.{clamped_small}
 use Rattle.pass_steps.proofs.Narrowing.{narrow_fits, narrowed}

@@ -1,5 +1,6 @@
 -- `pass_second::numerators::corrections_into` meets its contract: one sine condition and two make the corrections of the definitions.
-use Rattle.vocabulary.specs.{◌≡◌, ap, ◌∙◌, ◌*◌, needs, now, lit<, ℤ, ◌*ℤ◌, w64, to_z, of_z, to_z-of_z}
+use Rattle.std.specs.Prelude.{◌≡◌, ◌*◌, ℤ, ◌*ℤ◌}
+use Rattle.vocabulary.specs.{ap, ◌∙◌, needs, now, lit<, w64, to_z, of_z, to_z-of_z}
 use Rattle.whole.specs.Sums.{vector}
 use Rattle.pass_steps.specs.Premises.{most_denominator, most_misclosure}
 use Rattle.pass_second.specs.Steps.{factor_of, exact_correction, pair_correction}

@@ -1,5 +1,6 @@
 -- `pass_second::numerators::factor_of` meets its contract: a hundred times 48 fits 64 bits.
-use Rattle.vocabulary.specs.{◌≡◌, ◌∙◌, le_refl, arith, needs, pos, neg_ℤ, ◌*ℤ◌, w64, to_z, to_z-of_z, to_z_pos}
+use Rattle.std.specs.Prelude.{◌≡◌, pos, neg_ℤ, ◌*ℤ◌}
+use Rattle.vocabulary.specs.{◌∙◌, le_refl, arith, needs, w64, to_z, to_z-of_z, to_z_pos}
 use Rattle.whole.proofs.Magnitudes.{magnitude_fits}
 use Rattle.pass_steps.specs.Premises.{most_denominator}
 use Rattle.pass_second.proofs.Exact.{product_magnitude}

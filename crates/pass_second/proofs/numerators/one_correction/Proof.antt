@@ -1,5 +1,6 @@
 -- `pass_second::numerators::one_correction` meets its contract: the numerator fits 64 bits, so that its own words are answered.
-use Rattle.vocabulary.specs.{◌≡◌, ap, ◌∙◌, ◌*◌, lit<, ℤ, ◌*ℤ◌, w64, to_z, of_z, to_z-of_z}
+use Rattle.std.specs.Prelude.{◌≡◌, ◌*◌, ℤ, ◌*ℤ◌}
+use Rattle.vocabulary.specs.{ap, ◌∙◌, lit<, w64, to_z, of_z, to_z-of_z}
 use Rattle.whole.specs.Quotient.{rounded_quotient}
 use Rattle.wide_words.specs.{Words.words_from, declared.Words.Words}
 use Rattle.pass_pair.specs.Pair.{clamped}

@@ -1,5 +1,6 @@
 -- `pass_second::numerators::one_into` meets its contract. The invariant: the angles passed have their corrections.
-use Rattle.vocabulary.specs.{◌≡◌, refl, ap, ◌∙◌, subst, ◌-◌, arith, now, ℤ, ◌*ℤ◌, length, w32, w64, to_z, of_z, to_z-of_z}
+use Rattle.std.specs.Prelude.{◌≡◌, refl, ◌-◌, ℤ, ◌*ℤ◌, length}
+use Rattle.vocabulary.specs.{ap, ◌∙◌, subst, arith, now, w32, w64, to_z, of_z, to_z-of_z}
 use Rattle.whole.specs.Sums.{vector}
 use Rattle.whole.proofs.Magnitudes.{widened, widens}
 use Rattle.pass_second.specs.Steps.{exact_correction}

@@ -1,5 +1,6 @@
 -- `pass_second::numerators::two_into` meets its contract. The invariant: the angles passed have their corrections.
-use Rattle.vocabulary.specs.{◌≡◌, refl, ap₂, subst, ◌-◌, arith, now, ℤ, nat_abs, length, w32, w64, to_z, of_z, to_z-of_z}
+use Rattle.std.specs.Prelude.{◌≡◌, refl, ◌-◌, ℤ, nat_abs, length}
+use Rattle.vocabulary.specs.{ap₂, subst, arith, now, w32, w64, to_z, of_z, to_z-of_z}
 use Rattle.whole.proofs.Magnitudes.{widened, widens}
 use Rattle.whole.specs.Sums.{vector}
 use Rattle.wide.specs.Wide.{value_of}

@@ -1,6 +1,7 @@
 -- `pass_second::second::answer_of` meets its contract: both misclosures and the divisor's words where the verdict passed, and else its
 -- refusal.
-use Rattle.vocabulary.specs.{sym, ap, ap₂, ◌∙◌, needs, ℤ, w64, to_z_of_z_at}
+use Rattle.std.specs.Prelude.{ℤ}
+use Rattle.vocabulary.specs.{sym, ap, ap₂, ◌∙◌, needs, w64, to_z_of_z_at}
 use Rattle.refusals.specs.declared.Verdict.{Verdict}
 use Rattle.pass_rules.specs.declared.second.SecondAnswer.TheVariants.{Done}
 use Rattle.pass_second.specs.Steps.{answer_by}

@@ -1,6 +1,6 @@
 -- `pass_second::second::second_pass_of` meets its contract: each row in its order, and a refusal before any store.
-use Rattle.vocabulary.specs.{◌≡◌, refl, sym, ap, ◌∙◌, subst, List, [], ◌∷◌, ◌++◌, ℕ, ◌≤◌, ◌<◌, ◌^◌, arith, now, leb, leb→le, ℤ, pos}
-use Rattle.vocabulary.specs.{nat_abs, length, take, drop, replicate, ◌≤ℤ◌, w64, to_z_of_z_at}
+use Rattle.std.specs.Prelude.{◌≡◌, refl, List, [], ◌∷◌, ◌++◌, ℕ, ◌≤◌, ◌<◌, ◌^◌, leb, ℤ, pos, nat_abs, length, take, drop, replicate, ◌≤ℤ◌}
+use Rattle.vocabulary.specs.{sym, ap, ◌∙◌, subst, arith, now, leb→le, w64, to_z_of_z_at}
 use Rattle.wide.specs.{declared.Size.Size, Wide.size_of}
 use Rattle.refusals.specs.{declared.Verdict.TheVariants.Passed, Order.judged}
 use Rattle.figures.specs.{declared.Figure.Figure, Figure.angle_count, Figure.side_count}

@@ -1,7 +1,7 @@
 -- `pass_second::sines::reduced_from` meets its contract. The invariant: the places passed are worked over, those after them as they were,
 -- and the total is the sum of the squares.
-use Rattle.vocabulary.specs.{◌≡◌, refl, ap, ap₂, ◌∙◌, List, ℕ, ◌-◌, ◌*◌, ◌≤◌, le_refl, arith, now, lit<, ℤ, pos, nat_abs, ◌+ℤ◌, ◌*ℤ◌}
-use Rattle.vocabulary.specs.{length, w32, w64, to_z, of_z, to_z_pos, to_z_of_z_at}
+use Rattle.std.specs.Prelude.{◌≡◌, refl, List, ℕ, ◌-◌, ◌*◌, ◌≤◌, ℤ, pos, nat_abs, ◌+ℤ◌, ◌*ℤ◌, length}
+use Rattle.vocabulary.specs.{ap, ap₂, ◌∙◌, le_refl, arith, now, lit<, w32, w64, to_z, of_z, to_z_pos, to_z_of_z_at}
 use Rattle.whole.specs.Sums.{sum, dot, vector}
 use Rattle.whole.proofs.Lists.{Replaced, replaced_none, replaced_more, filled_all}
 use Rattle.refusals.specs.Ranges.{most_difference}

@@ -1,6 +1,6 @@
 -- `pass_second::sines::reduced_into` meets its contract: what is taken are the numerators for the conditions' sums of d.
-use Rattle.vocabulary.specs.{◌≡◌, refl, sym, ap, ◌∙◌, List, ◌++◌, ℕ, ◌≤◌, le_trans, arith, needs, now, lit≤, ℤ, pos, nat_abs, length, take}
-use Rattle.vocabulary.specs.{drop, replicate, w64, to_z_of_z_at}
+use Rattle.std.specs.Prelude.{◌≡◌, refl, List, ◌++◌, ℕ, ◌≤◌, ℤ, pos, nat_abs, length, take, drop, replicate}
+use Rattle.vocabulary.specs.{sym, ap, ◌∙◌, le_trans, arith, needs, now, lit≤, w64, to_z_of_z_at}
 use Rattle.whole.specs.{Lists.listed, Sums.vector}
 use Rattle.refusals.specs.Ranges.{most_difference}
 use Rattle.figures.specs.{declared.Counts.Counts, declared.Figure.Figure, Figure.denominator, Figure.angle_count, Figure.condition_count}

@@ -1,7 +1,7 @@
 -- `pass_second::sines::signed_into` meets its contract. The invariant: the differences passed are filled in, and the totals are the sums
 -- of what was passed.
-use Rattle.vocabulary.specs.{◌≡◌, refl, ◌∙◌, ap, List, ℕ, ◌-◌, ◌*◌, ◌≤◌, arith, now, lit<, ℤ, nat_abs, ◌+ℤ◌, ◌*ℤ◌, length, get_or, w8, w32}
-use Rattle.vocabulary.specs.{w64, to_z, of_z, to_z_pos, to_z_of_z_at}
+use Rattle.std.specs.Prelude.{◌≡◌, refl, List, ℕ, ◌-◌, ◌*◌, ◌≤◌, ℤ, nat_abs, ◌+ℤ◌, ◌*ℤ◌, length, get_or}
+use Rattle.vocabulary.specs.{◌∙◌, ap, arith, now, lit<, w8, w32, w64, to_z, of_z, to_z_pos, to_z_of_z_at}
 use Rattle.whole.specs.Sums.{sum, dot, vector}
 use Rattle.whole.proofs.{Lists.Filled, Lists.filled_none, Lists.filled_more, Lists.filled_all, Magnitudes.widened, Magnitudes.widens}
 use Rattle.refusals.specs.Ranges.{most_log_sine, most_difference}

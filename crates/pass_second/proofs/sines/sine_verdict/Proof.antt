@@ -1,5 +1,6 @@
 -- `pass_second::sines::sine_verdict` meets its contract: numbers 10 and 9, in their order.
-use Rattle.vocabulary.specs.{ap₂, ◌∙◌, needs, ℤ, pos, w64, to_z-of_z}
+use Rattle.std.specs.Prelude.{ℤ, pos}
+use Rattle.vocabulary.specs.{ap₂, ◌∙◌, needs, w64, to_z-of_z}
 use Rattle.wide.specs.Wide.{size_of, radix}
 use Rattle.refusals.specs.{Order.verdict_of, Table.sine_misclosure_row, Table.sum_of_squares_row}
 use Rattle.refusals.proofs.InSteps.{last_row, next_row}

@@ -1,6 +1,6 @@
 -- `pass_second::sines::sines_into` meets its contract: d is what the signs give.
-use Rattle.vocabulary.specs.{◌≡◌, sym, ap, ◌∙◌, subst, List, ◌++◌, ℕ, ◌≤◌, ◌<◌, arith, needs, now, ℤ, pos, nat_abs, length, take, drop}
-use Rattle.vocabulary.specs.{replicate, w64, to_z_of_z_at}
+use Rattle.std.specs.Prelude.{◌≡◌, List, ◌++◌, ℕ, ◌≤◌, ◌<◌, ℤ, pos, nat_abs, length, take, drop, replicate}
+use Rattle.vocabulary.specs.{sym, ap, ◌∙◌, subst, arith, needs, now, w64, to_z_of_z_at}
 use Rattle.whole.specs.{Lists.listed, Sums.dot, Sums.squares as sums_squares, Sums.vector}
 use Rattle.refusals.specs.Ranges.{most_difference}
 use Rattle.pass_rules.specs.Pass.{given}

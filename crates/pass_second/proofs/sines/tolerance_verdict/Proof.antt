@@ -1,7 +1,7 @@
 -- `pass_second::sines::tolerance_verdict` meets its contract. W is below 2³², so that its square fits 64 bits; a hundredfold of it is
 -- not taken here.
-use Rattle.vocabulary.specs.{◌≡◌, sym, ap, ◌∙◌, Bool, ◌-◌, ◌*◌, ◌^◌, ◌≤◌, le_of_lt, mul-le-mul, arith, pos, nat_abs, ◌*ℤ◌, to_z-of_z, needs}
-use Rattle.vocabulary.specs.{lit≤}
+use Rattle.std.specs.Prelude.{◌≡◌, Bool, ◌-◌, ◌*◌, ◌^◌, ◌≤◌, pos, nat_abs, ◌*ℤ◌}
+use Rattle.vocabulary.specs.{sym, ap, ◌∙◌, le_of_lt, mul-le-mul, arith, to_z-of_z, needs, lit≤}
 use Rattle.refusals.specs.{declared.Refusal.Refusal, Order.fails_if, Questions.less_signed, Questions.asked, Ranges.most_tolerance}
 use Rattle.pass_rules.specs.SecondPass.{tolerance_of}
 use Rattle.pass_rules.proofs.WithinRange.{in_force_within}

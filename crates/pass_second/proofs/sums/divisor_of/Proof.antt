@@ -1,5 +1,6 @@
 -- `pass_second::sums::divisor_of` meets its contract: S is its own magnitude, and so is the determinant.
-use Rattle.vocabulary.specs.{Bool, cond, ◌≡◌, refl, sym, ap, ◌∙◌, subst, eq-eqb, ne_eqb, ℤ, pos, nat_abs, ◌≤ℤ◌, w64, to_z-of_z}
+use Rattle.std.specs.Prelude.{Bool, cond, ◌≡◌, refl, ℤ, pos, nat_abs, ◌≤ℤ◌}
+use Rattle.vocabulary.specs.{sym, ap, ◌∙◌, subst, eq-eqb, ne_eqb, w64, to_z-of_z}
 use Rattle.whole.proofs.Order.{natural}
 use Rattle.wide.proofs.{Bounds.value_size, Sizes.low_word}
 use Rattle.pass_pair.specs.Pair.{determinant}

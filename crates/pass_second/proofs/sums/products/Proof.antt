@@ -1,6 +1,6 @@
 -- `pass_second::sums::products` meets its contract. The invariant: the total is the sum of the products passed.
-use Rattle.vocabulary.specs.{◌≡◌, refl, ◌∙◌, ap, List, ℕ, ◌-◌, ◌*◌, ◌≤◌, arith, now, lit<, ℤ, nat_abs, ◌+ℤ◌, ◌*ℤ◌, length, w32, w64, to_z}
-use Rattle.vocabulary.specs.{of_z}
+use Rattle.std.specs.Prelude.{◌≡◌, refl, List, ℕ, ◌-◌, ◌*◌, ◌≤◌, ℤ, nat_abs, ◌+ℤ◌, ◌*ℤ◌, length}
+use Rattle.vocabulary.specs.{◌∙◌, ap, arith, now, lit<, w32, w64, to_z, of_z}
 use Rattle.whole.specs.Sums.{sum, dot, vector}
 use Rattle.whole.proofs.Magnitudes.{widened, widens}
 use Rattle.pass_steps.specs.Premises.{most_reduced}

@@ -1,6 +1,6 @@
 -- `pass_second::sums::sums_into` meets its contract: both sine conditions by their signs.
-use Rattle.vocabulary.specs.{Bool, true, false, cond, ◌≡◌, refl, sym, ap, ◌∙◌, List, [], ◌∷◌, ℕ, arith, needs, now, ℤ, length, w64, to_z}
-use Rattle.vocabulary.specs.{of_z, to_z_of_z_at}
+use Rattle.std.specs.Prelude.{Bool, true, false, cond, ◌≡◌, refl, List, [], ◌∷◌, ℕ, ℤ, length}
+use Rattle.vocabulary.specs.{sym, ap, ◌∙◌, arith, needs, now, w64, to_z, of_z, to_z_of_z_at}
 use Rattle.whole.specs.{Lists.listed, Sums.dot, Sums.vector}
 use Rattle.figures.specs.{declared.Figure.Figure, Figure.angle_count, Figure.pole, Figure.side, Figure.has_side}
 use Rattle.figures.proofs.Figures.{angle_bound, pole_signed, side_signed, side_none, side_some}

@@ -1,5 +1,6 @@
 -- `pass_second::sums::with_sides` meets its contract: every number on the way is small.
-use Rattle.vocabulary.specs.{◌≡◌, sym, ap₂, ◌∙◌, subst, arith, needs, now, ℤ, ◌+ℤ◌, ◌-ℤ◌, get_or, w64, SFits, to_z, of_z, to_z_pos, to_z_of_z_at}
+use Rattle.std.specs.Prelude.{◌≡◌, ℤ, ◌+ℤ◌, ◌-ℤ◌, get_or}
+use Rattle.vocabulary.specs.{sym, ap₂, ◌∙◌, subst, arith, needs, now, w64, SFits, to_z, of_z, to_z_pos, to_z_of_z_at}
 use Rattle.whole.proofs.Magnitudes.{nat_abs_add, nat_abs_sub, magnitude_fits}
 use Rattle.pass_rules.specs.Pass.{given}
 use Rattle.pass_second.specs.Sines.{with_sides}

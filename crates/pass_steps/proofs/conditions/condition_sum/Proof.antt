@@ -1,5 +1,6 @@
 -- `pass_steps::conditions::condition_sum` meets its contract: the conditions of each family.
-use Rattle.vocabulary.specs.{◌≡◌, sym, ap, ap₂, ◌∙◌, ℕ, ◌+◌, ◌-◌, ◌*◌, arith, needs, now, lit≤, ◌+ℤ◌, length, w64, to_z_of_z_at}
+use Rattle.std.specs.Prelude.{◌≡◌, ℕ, ◌+◌, ◌-◌, ◌*◌, ◌+ℤ◌, length}
+use Rattle.vocabulary.specs.{sym, ap, ap₂, ◌∙◌, arith, needs, now, lit≤, w64, to_z_of_z_at}
 use Rattle.whole.specs.Sums.{sum, vector}
 use Rattle.figures.specs.{declared.Figure.Figure, declared.Figure.TheVariants.Quadrilateral, Numerators.condition_sum}
 use Rattle.figures.specs.Figure.{description, angle_count, condition_count}

@@ -1,5 +1,6 @@
 -- `pass_steps::conditions::condition_sums` meets its contract: nothing is added where a count is not the figure's own.
-use Rattle.vocabulary.specs.{◌≡◌, sym, ap, ◌∙◌, needs, now, length}
+use Rattle.std.specs.Prelude.{◌≡◌, length}
+use Rattle.vocabulary.specs.{sym, ap, ◌∙◌, needs, now}
 use Rattle.figures.specs.{declared.Counts.Counts, Figure.angle_count, Figure.condition_count}
 use Rattle.pass_steps.specs.Steps.{sums_of}
 use Rattle.pass_steps.proofs.Fitting.{fits, first_unfit, second_unfit}

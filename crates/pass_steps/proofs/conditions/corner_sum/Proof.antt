@@ -1,6 +1,6 @@
 -- `pass_steps::conditions::corner_sum` meets its contract: two numbers of 32 bits sum within 64.
-use Rattle.vocabulary.specs.{Bool, cond, List, ⊎_elim, ◌≡◌, sym, ap, ap₂, ◌∙◌, ℕ, ◌+◌, ◌-◌, ◌≤◌, ◌<◌, arith, eq-eqb, ne_eqb, now, eqb, ℤ}
-use Rattle.vocabulary.specs.{◌+ℤ◌, length, w32, w64, SFits, to_z, of_z, to_z_of_z_at}
+use Rattle.std.specs.Prelude.{Bool, cond, List, ◌≡◌, ℕ, ◌+◌, ◌-◌, ◌≤◌, ◌<◌, eqb, ℤ, ◌+ℤ◌, length}
+use Rattle.vocabulary.specs.{⊎_elim, sym, ap, ap₂, ◌∙◌, arith, eq-eqb, ne_eqb, now, w32, w64, SFits, to_z, of_z, to_z_of_z_at}
 use Rattle.whole.specs.Sums.{vector}
 use Rattle.whole.proofs.Magnitudes.{nat_abs_add, fits_magnitude, magnitude_fits, widened, widens}
 use Rattle.pass_steps.proofs.conditions.corner_sum.Statement.{statement}

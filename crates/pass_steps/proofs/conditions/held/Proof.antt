@@ -1,5 +1,6 @@
 -- `pass_steps::conditions::held` meets its contract: a number that is beyond neither bound fits 32 bits.
-use Rattle.vocabulary.specs.{Bool, ◌≡◌, sym, ap, ◌∙◌, ◌≤◌, arith, needs, ℤ, pos, nat_abs, lt_z, w32, w64, SFits, to_z, of_z, to_z_of_z_at}
+use Rattle.std.specs.Prelude.{Bool, ◌≡◌, ◌≤◌, ℤ, pos, nat_abs}
+use Rattle.vocabulary.specs.{sym, ap, ◌∙◌, arith, needs, lt_z, w32, w64, SFits, to_z, of_z, to_z_of_z_at}
 use Rattle.whole.proofs.Magnitudes.{magnitude_fits}
 use Rattle.pass_steps.specs.Steps.{most_held}
 use Rattle.pass_steps.proofs.Held.{least_held, below, above, between, not_held, is_held}

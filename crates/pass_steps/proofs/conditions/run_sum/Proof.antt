@@ -1,6 +1,6 @@
 -- `pass_steps::conditions::run_sum` meets its contract. The invariant: the total is the sum of the numbers passed.
-use Rattle.vocabulary.specs.{◌≡◌, refl, ap, ◌∙◌, ℕ, ◌+◌, ◌-◌, ◌*◌, ◌^◌, ◌≤◌, ◌<◌, arith, now, nat_abs, ◌+ℤ◌, length, w32, w64, SFits, to_z}
-use Rattle.vocabulary.specs.{of_z}
+use Rattle.std.specs.Prelude.{◌≡◌, refl, ℕ, ◌+◌, ◌-◌, ◌*◌, ◌^◌, ◌≤◌, ◌<◌, nat_abs, ◌+ℤ◌, length}
+use Rattle.vocabulary.specs.{ap, ◌∙◌, arith, now, w32, w64, SFits, to_z, of_z}
 use Rattle.whole.specs.Sums.{sum, vector}
 use Rattle.whole.proofs.Magnitudes.{fits_magnitude, widened, widens}
 use Rattle.pass_steps.proofs.Totals.{More, more}

@@ -1,5 +1,6 @@
 -- `pass_steps::conditions::sums_into` meets its contract. The invariant: the sums passed are filled in.
-use Rattle.vocabulary.specs.{ap, ◌∙◌, ◌-◌, arith, w32, w64, to_z_of_z_at}
+use Rattle.std.specs.Prelude.{◌-◌}
+use Rattle.vocabulary.specs.{ap, ◌∙◌, arith, w32, w64, to_z_of_z_at}
 use Rattle.whole.specs.Sums.{vector}
 use Rattle.whole.proofs.Lists.{Filled, filled_none, filled_more, filled_all}
 use Rattle.figures.specs.{Figure.condition_count, Numerators.condition_sum}

@@ -1,5 +1,6 @@
 -- `pass_steps::numerators::nine_applied` meets its contract. The invariant: the numerators passed are filled in.
-use Rattle.vocabulary.specs.{⊎_elim, ◌≡◌, sym, ap, ◌∙◌, ℕ, ◌+◌, ◌-◌, ◌≤◌, arith, length, take, w32, to_z_of_z_at}
+use Rattle.std.specs.Prelude.{◌≡◌, ℕ, ◌+◌, ◌-◌, ◌≤◌, length, take}
+use Rattle.vocabulary.specs.{⊎_elim, sym, ap, ◌∙◌, arith, w32, to_z_of_z_at}
 use Rattle.whole.specs.Sums.{applied, table, vector}
 use Rattle.whole.proofs.Lists.{filled_more}
 use Rattle.pass_steps.specs.Steps.{AppliedTo}

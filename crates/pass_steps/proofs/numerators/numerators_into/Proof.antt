@@ -1,6 +1,7 @@
 -- `pass_steps::numerators::numerators_into` meets its contract: no product is taken where a count is not the figure's own or a misclosure
 -- is too great.
-use Rattle.vocabulary.specs.{◌≡◌, sym, ap, ◌∙◌, needs, now, length}
+use Rattle.std.specs.Prelude.{◌≡◌, length}
+use Rattle.vocabulary.specs.{sym, ap, ◌∙◌, needs, now}
 use Rattle.refusals.specs.{Order.verdict_of, Promise.stored, Table.misclosures_row}
 use Rattle.figures.specs.{declared.Counts.Counts, Figure.angle_count, Figure.condition_count}
 use Rattle.pass_steps.specs.{Premises.most_applied, Steps.numerators_from}

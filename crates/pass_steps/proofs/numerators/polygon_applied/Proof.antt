@@ -1,5 +1,6 @@
 -- `pass_steps::numerators::polygon_applied` meets its contract: each figure's table, counts and conditions are its type's.
-use Rattle.vocabulary.specs.{needs, now, ◌≡◌}
+use Rattle.std.specs.Prelude.{◌≡◌}
+use Rattle.vocabulary.specs.{needs, now}
 use Rattle.figures.specs.declared.Figure.{Figure}
 use Rattle.pass_steps.proofs.{Polygons.is_octagon, Tables.told_numerators, Tables.told_lengths}
 use Rattle.pass_steps.proofs.numerators.polygon_applied.Statement.{statement}

@@ -1,5 +1,6 @@
 -- `pass_steps::numerators::product` meets its contract: a byte times a number of 20 bits fits 32, with bits to spare for the sum of a row.
-use Rattle.vocabulary.specs.{◌*◌, ◌^◌, ◌≤◌, w8, w32, SFits, to_z, of_z, to_z-of_z, ◌≡◌, ap₂, ◌∙◌, mul-le-mul, arith, ℤ, nat_abs, ◌*ℤ◌}
+use Rattle.std.specs.Prelude.{◌*◌, ◌^◌, ◌≤◌, ◌≡◌, ℤ, nat_abs, ◌*ℤ◌}
+use Rattle.vocabulary.specs.{w8, w32, SFits, to_z, of_z, to_z-of_z, ap₂, ◌∙◌, mul-le-mul, arith}
 use Rattle.whole.proofs.Magnitudes.{widened, widens, nat_abs_mul, fits_magnitude, magnitude_fits}
 use Rattle.pass_steps.specs.Premises.{most_applied}
 use Rattle.pass_steps.proofs.numerators.product.Statement.{statement}

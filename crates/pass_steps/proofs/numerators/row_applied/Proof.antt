@@ -1,5 +1,6 @@
 -- `pass_steps::numerators::row_applied` meets its contract. The invariant: the total is the sum of the products passed.
-use Rattle.vocabulary.specs.{◌≡◌, refl, ap, ap₂, ◌∙◌, ℕ, ◌-◌, ◌*◌, ◌^◌, ◌≤◌, arith, now, nat_abs, ◌+ℤ◌, ◌*ℤ◌, w8, w32, to_z, of_z, to_z_of_z_at}
+use Rattle.std.specs.Prelude.{◌≡◌, refl, ℕ, ◌-◌, ◌*◌, ◌^◌, ◌≤◌, nat_abs, ◌+ℤ◌, ◌*ℤ◌}
+use Rattle.vocabulary.specs.{ap, ap₂, ◌∙◌, arith, now, w8, w32, to_z, of_z, to_z_of_z_at}
 use Rattle.whole.specs.Sums.{sum, dot, vector}
 use Rattle.pass_steps.specs.Premises.{most_applied}
 use Rattle.pass_steps.proofs.Totals.{More, more}

@@ -1,5 +1,6 @@
 -- `pass_steps::numerators::rows_applied` meets its contract: three times nine rows are all that a figure has.
-use Rattle.vocabulary.specs.{List, ◌++◌, ◌≡◌, refl, sym, ap, ◌∙◌, needs, arith, now, ℤ, pos, length, take, drop, replicate}
+use Rattle.std.specs.Prelude.{List, ◌++◌, ◌≡◌, refl, ℤ, pos, length, take, drop, replicate}
+use Rattle.vocabulary.specs.{sym, ap, ◌∙◌, needs, arith, now}
 use Rattle.whole.specs.{Lists.listed, Sums.applied, Sums.table, Sums.vector}
 use Rattle.pass_steps.specs.Premises.{Within, most_applied}
 use Rattle.pass_steps.proofs.{Again.Again, Again.again, AppliedRows.all_applied}

@@ -1,5 +1,6 @@
 -- `pass_steps::results::results_into` meets its contract: numbers 2 and 7, and the results where both pass.
-use Rattle.vocabulary.specs.{◌≡◌, refl, sym, ap, ◌∙◌, subst, List, [], ◌∷◌, ℕ, ◌<◌, needs, now, length, get_or}
+use Rattle.std.specs.Prelude.{◌≡◌, refl, List, [], ◌∷◌, ℕ, ◌<◌, length, get_or}
+use Rattle.vocabulary.specs.{sym, ap, ◌∙◌, subst, needs, now}
 use Rattle.whole.proofs.Lists.{length_listed}
 use Rattle.refusals.specs.{declared.Verdict.TheVariants.Passed, Order.Row, Order.verdict_of, Order.judged}
 use Rattle.refusals.specs.Table.{lengths_row, results_row}

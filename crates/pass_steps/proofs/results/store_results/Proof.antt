@@ -1,6 +1,6 @@
 -- `pass_steps::results::store_results` meets its contract. The invariant: the results passed are filled in.
-use Rattle.vocabulary.specs.{◌≡◌, ap, ap₂, ◌∙◌, sym, List, ℕ, ◌-◌, ◌<◌, arith, now, ℤ, pos, nat_abs, ◌+ℤ◌, length, get_or, ◌≤ℤ◌, yes_non_neg}
-use Rattle.vocabulary.specs.{w32, w64, SFits, to_z, of_z, to_z_pos, to_z_of_z_at}
+use Rattle.std.specs.Prelude.{◌≡◌, List, ℕ, ◌-◌, ◌<◌, ℤ, pos, nat_abs, ◌+ℤ◌, length, get_or, ◌≤ℤ◌}
+use Rattle.vocabulary.specs.{ap, ap₂, ◌∙◌, sym, arith, now, yes_non_neg, w32, w64, SFits, to_z, of_z, to_z_pos, to_z_of_z_at}
 use Rattle.whole.specs.Sums.{vector}
 use Rattle.whole.proofs.{Lists.Filled, Lists.filled_none, Lists.filled_more, Lists.filled_all, Order.zero-≤ℤ-pos, Order.≤ℤ-trans}
 use Rattle.whole.proofs.Magnitudes.{nat_abs_add, fits_magnitude, magnitude_fits, widened, widens}

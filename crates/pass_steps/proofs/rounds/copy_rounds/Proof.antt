@@ -1,5 +1,6 @@
 -- `pass_steps::rounds::copy_rounds` meets its contract. The invariant: the places passed hold the rounds.
-use Rattle.vocabulary.specs.{refl, ◌∙◌, ◌-◌, arith, length, get_or}
+use Rattle.std.specs.Prelude.{refl, ◌-◌, length, get_or}
+use Rattle.vocabulary.specs.{◌∙◌, arith}
 use Rattle.whole.proofs.Lists.{Filled, filled_none, filled_more, filled_all, listed_get_or}
 use Rattle.pass_steps.proofs.rounds.copy_rounds.Statement.{statement}
 use Rattle.pass_steps.proofs.rounds.copy_rounds.Tie as tie

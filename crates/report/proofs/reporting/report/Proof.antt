@@ -1,5 +1,6 @@
 -- `report::reporting::report` meets its contract: the text laid by itself, and then where it has room.
-use Rattle.vocabulary.specs.{sym, ap, ◌∙◌, Bool, List, ℕ, ◌≤◌, needs, now, length, replicate, length-take-le}
+use Rattle.std.specs.Prelude.{Bool, List, ℕ, ◌≤◌, length, replicate}
+use Rattle.vocabulary.specs.{sym, ap, ◌∙◌, needs, now, length-take-le}
 use Rattle.text.specs.Holds.{Holds}
 use Rattle.report.specs.{declared.reporting.Reported.TheVariants.Written, Report.report_text, Report.reported_of, Report.after_report}
 use Rattle.lines.specs.Lines.{longest_text}

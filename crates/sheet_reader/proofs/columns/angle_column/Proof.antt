@@ -1,5 +1,6 @@
 -- `sheet_reader::columns::angle_column` meets its contract: the arms are the clauses of `angle_column`.
-use Rattle.vocabulary.specs.{ℕ, ◌+◌, ◌≡◌, refl, sym, ap, ap₂, ◌∙◌, arith, needs}
+use Rattle.std.specs.Prelude.{ℕ, ◌+◌, ◌≡◌, refl}
+use Rattle.vocabulary.specs.{sym, ap, ap₂, ◌∙◌, arith, needs}
 use Rattle.figures.specs.declared.Figure.{Figure}
 use Rattle.sheet_layout.specs.{declared.Kind.Kind, declared.Pass.Pass, Kinds.pass_of, Kinds.carries_rounds, Kinds.of_pass, Layout.rounds_bits}
 use Rattle.sheet_layout.proofs.Sizes.{rounds_small}

@@ -1,5 +1,6 @@
 -- `sheet_reader::columns::fixed_column` meets its contract: a figure has few angles, so nothing overflows.
-use Rattle.vocabulary.specs.{ℕ, ◌+◌, ◌*◌, ap₂, arith, needs}
+use Rattle.std.specs.Prelude.{ℕ, ◌+◌, ◌*◌}
+use Rattle.vocabulary.specs.{ap₂, arith, needs}
 use Rattle.figures.specs.declared.Counts.{Counts}
 use Rattle.sheet_layout.proofs.Sizes.{few_angles, few_rounds}
 use Rattle.sheet_reader.specs.Columns.{column_from}

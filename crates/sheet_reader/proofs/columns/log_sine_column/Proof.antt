@@ -1,6 +1,7 @@
 -- `sheet_reader::columns::log_sine_column` meets its contract: a log-sine stands 23 bits after the start of its row, and the bits of the
 -- rounds.
-use Rattle.vocabulary.specs.{ℕ, ◌+◌, ap₂, arith, needs}
+use Rattle.std.specs.Prelude.{ℕ, ◌+◌}
+use Rattle.vocabulary.specs.{ap₂, arith, needs}
 use Rattle.sheet_layout.proofs.Sizes.{side_bound, rounds_small}
 use Rattle.sheet_reader.specs.Columns.{column_from}
 use Rattle.sheet_reader.proofs.columns.log_sine_column.Statement.{statement}

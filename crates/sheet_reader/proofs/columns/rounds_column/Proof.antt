@@ -1,5 +1,6 @@
 -- `sheet_reader::columns::rounds_column` meets its contract: rounds stand 23 bits after the start of their angle.
-use Rattle.vocabulary.specs.{◌+◌, ap, arith, needs}
+use Rattle.std.specs.Prelude.{◌+◌}
+use Rattle.vocabulary.specs.{ap, arith, needs}
 use Rattle.sheet_reader.specs.{declared.columns.Column.Column, Columns.column_from}
 use Rattle.sheet_reader.proofs.ColumnLaws.{angles_early}
 use Rattle.sheet_reader.proofs.columns.rounds_column.Statement.{statement}

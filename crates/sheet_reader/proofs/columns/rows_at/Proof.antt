@@ -1,5 +1,6 @@
 -- `sheet_reader::columns::rows_at` meets its contract: a figure has few known sides, so nothing overflows.
-use Rattle.vocabulary.specs.{◌+◌, ◌*◌, ap, arith, needs}
+use Rattle.std.specs.Prelude.{◌+◌, ◌*◌}
+use Rattle.vocabulary.specs.{ap, arith, needs}
 use Rattle.figures.specs.declared.Counts.{Counts}
 use Rattle.sheet_layout.proofs.Sizes.{few_sides}
 use Rattle.sheet_reader.proofs.columns.rows_at.Statement.{statement}

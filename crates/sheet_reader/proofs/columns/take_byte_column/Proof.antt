@@ -1,6 +1,7 @@
 -- `sheet_reader::columns::take_byte_column` meets its contract. As of `take_column`, the loop's invariant: the values taken so far are
 -- those of the column, and the next one stands at `at`. The measure is how many are left.
-use Rattle.vocabulary.specs.{ℕ, ◌+◌, ◌-◌, ◌*◌, ◌^◌, ◌<◌, List, ◌≡◌, refl, ap, subst, ◌∙◌, arith, needs, length}
+use Rattle.std.specs.Prelude.{ℕ, ◌+◌, ◌-◌, ◌*◌, ◌^◌, ◌<◌, List, ◌≡◌, refl, length}
+use Rattle.vocabulary.specs.{ap, subst, ◌∙◌, arith, needs}
 use Rattle.bits.specs.Bits.{field_at}
 use Rattle.bits.proofs.Fields.{field_at_lt}
 use Rattle.sheet_reader.specs.{declared.columns.Column.Column, Columns.column_values}

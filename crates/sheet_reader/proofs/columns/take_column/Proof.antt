@@ -1,6 +1,7 @@
 -- `sheet_reader::columns::take_column` meets its contract. The loop's invariant: the values taken so far are those of the column, and the
 -- next one stands at `at`. The measure is how many are left.
-use Rattle.vocabulary.specs.{ℕ, ◌+◌, ◌-◌, ◌*◌, List, refl, ap, ◌∙◌, arith, needs, length}
+use Rattle.std.specs.Prelude.{ℕ, ◌+◌, ◌-◌, ◌*◌, List, refl, length}
+use Rattle.vocabulary.specs.{ap, ◌∙◌, arith, needs}
 use Rattle.bits.specs.Bits.{field_at}
 use Rattle.sheet_reader.specs.{declared.columns.Column.Column, Columns.column_values}
 use Rattle.sheet_rules.specs.Sheet.{most_bits}

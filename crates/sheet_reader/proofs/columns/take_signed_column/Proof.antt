@@ -1,6 +1,7 @@
 -- `sheet_reader::columns::take_signed_column` meets its contract. As of `take_column`, the loop's invariant: the values taken so far are
 -- those of the column, and the next one stands at `at`. The measure is how many are left.
-use Rattle.vocabulary.specs.{ℕ, ◌+◌, ◌-◌, ◌*◌, List, refl, ap, ◌∙◌, arith, needs, ℤ, length, w32, to_z_of_z_at}
+use Rattle.std.specs.Prelude.{ℕ, ◌+◌, ◌-◌, ◌*◌, List, refl, ℤ, length}
+use Rattle.vocabulary.specs.{ap, ◌∙◌, arith, needs, w32, to_z_of_z_at}
 use Rattle.bits.specs.{Bits.field_at, Complement.signed_of}
 use Rattle.sheet_reader.specs.{declared.columns.Column.Column, Columns.signed_column_values}
 use Rattle.sheet_rules.specs.Sheet.{most_bits}

@@ -1,5 +1,6 @@
 -- `sheet_reader::read::filling_verdict` meets its contract: the filling begins where the fields end, and is less than a byte wide.
-use Rattle.vocabulary.specs.{needs, ℕ, ◌-◌, ◌*◌, Bool, true, false, not, List, ◌≡◌, sym, ap, ◌∙◌, arith, eq-eqb, ne_eqb, eqb}
+use Rattle.std.specs.Prelude.{ℕ, ◌-◌, ◌*◌, Bool, true, false, not, List, ◌≡◌, eqb}
+use Rattle.vocabulary.specs.{needs, sym, ap, ◌∙◌, arith, eq-eqb, ne_eqb}
 use Rattle.refusals.specs.{declared.Refusal.Refusal, Order.fails_if, Order.verdict_of, Table.filling_row}
 use Rattle.bits.specs.Bits.{field_at, filling_width}
 use Rattle.figures.specs.declared.Figure.{Figure}

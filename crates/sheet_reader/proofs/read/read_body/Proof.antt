@@ -1,5 +1,5 @@
 -- `sheet_reader::read::read_body` meets its contract: the shape is judged first, and only where it passes are the values read.
-use Rattle.vocabulary.specs.{refl}
+use Rattle.std.specs.Prelude.{refl}
 use Rattle.sheet_rules.specs.Promises.{Slices, slices}
 use Rattle.sheet_reader.proofs.BodyLaws.{shape_refused, right_lengths, values_decide}
 use Rattle.sheet_reader.proofs.read.read_body.Statement.{statement}

@@ -1,5 +1,6 @@
 -- `sheet_reader::read::read_values` meets its contract: what is judged and stored is what was taken, where it was lent.
-use Rattle.vocabulary.specs.{ℕ, ◌≤◌, List, ◌++◌, ◌≡◌, sym, ap, ◌∙◌, ℤ, pos, length, take, drop, replicate, length-take-le}
+use Rattle.std.specs.Prelude.{ℕ, ◌≤◌, List, ◌++◌, ◌≡◌, ℤ, pos, length, take, drop, replicate}
+use Rattle.vocabulary.specs.{sym, ap, ◌∙◌, length-take-le}
 use Rattle.figures.specs.Numerators.{most_angles, most_fixed, most_sides}
 use Rattle.sheet_rules.specs.{Sheet.values_read, Promises.Slices, Promises.slices, Promises.slices_of}
 use Rattle.sheet_reader.proofs.{BodyLaws.as_many, BodyLaws.have_room, BodyLaws.values_are, Taking.same_slices, Taking.same_counts}

@@ -1,5 +1,6 @@
 -- `sheet_reader::read::shape_verdict` meets its contract: the branches are the tests in their order.
-use Rattle.vocabulary.specs.{ℕ, List, [], ◌∷◌, ◌≡◌, sym, ap, ap₂, ◌∙◌, needs, eq-eqb, ne_eqb, length}
+use Rattle.std.specs.Prelude.{ℕ, List, [], ◌∷◌, ◌≡◌, length}
+use Rattle.vocabulary.specs.{sym, ap, ap₂, ◌∙◌, needs, eq-eqb, ne_eqb}
 use Rattle.refusals.specs.{declared.Refusal.Refusal, declared.Verdict.Verdict, Order.answer_of, Order.verdict_of, Order.judged}
 use Rattle.refusals.specs.{declared.Verdict.TheVariants.Passed, declared.Verdict.TheVariants.Failed, Table.lengths_row, Table.filling_row}
 use Rattle.refusals.proofs.Answers.{answer_of_one}

@@ -1,6 +1,7 @@
 -- `sheet_reader::values::copy_bytes` meets its contract. As of `copy`, the loop's invariant: the values passed so far are copied. The
 -- measure is how many are left.
-use Rattle.vocabulary.specs.{refl, ap, ◌∙◌, ℕ, ◌-◌, arith, length, get_or}
+use Rattle.std.specs.Prelude.{refl, ℕ, ◌-◌, length, get_or}
+use Rattle.vocabulary.specs.{ap, ◌∙◌, arith}
 use Rattle.whole.specs.Lists.{listed}
 use Rattle.whole.proofs.Lists.{Filled, filled_none, filled_more, filled_all, listed_get_or}
 use Rattle.sheet_reader.proofs.values.copy_bytes.Statement.{statement}

@@ -1,5 +1,6 @@
 -- `sheet_reader::values::limit_or_tolerance_in` meets its contract: the arms have the widths of L and of e.
-use Rattle.vocabulary.specs.{ℕ, List, ◌≡◌, sym, ap, ◌∙◌, needs}
+use Rattle.std.specs.Prelude.{ℕ, List, ◌≡◌}
+use Rattle.vocabulary.specs.{sym, ap, ◌∙◌, needs}
 use Rattle.bits.specs.Bits.{field_at}
 use Rattle.figures.specs.declared.Figure.{Figure}
 use Rattle.sheet_layout.specs.{declared.Kind.Kind, declared.Pass.Pass, Kinds.pass_of, Kinds.of_pass}

@@ -1,5 +1,6 @@
 -- `sheet_reader::values::store` meets its contract: each sort is copied into its slice.
-use Rattle.vocabulary.specs.{needs, ℕ, List, ◌≡◌, ap, get_or}
+use Rattle.std.specs.Prelude.{ℕ, List, ◌≡◌, get_or}
+use Rattle.vocabulary.specs.{needs, ap}
 use Rattle.sheet_rules.specs.Promises.{slices, lengths_lent}
 use Rattle.sheet_reader.proofs.Taking.{same_slices}
 use Rattle.sheet_reader.proofs.values.store.Statement.{statement}

@@ -1,5 +1,6 @@
 -- `sheet_reader::values::take_values` meets its contract: each sort is taken into its slice.
-use Rattle.vocabulary.specs.{needs, ℕ, List, ◌≡◌, ap, get_or}
+use Rattle.std.specs.Prelude.{ℕ, List, ◌≡◌, get_or}
+use Rattle.vocabulary.specs.{needs, ap}
 use Rattle.sheet_rules.specs.{Judging.own_lengths, Promises.slices, Promises.lengths_lent}
 use Rattle.sheet_reader.proofs.Taking.{same_slices}
 use Rattle.sheet_reader.proofs.values.take_values.Statement.{statement}

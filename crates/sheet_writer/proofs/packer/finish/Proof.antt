@@ -1,6 +1,7 @@
 -- `sheet_writer::packer::finish` meets its contract. The loop's invariant: the bytes that are out and the bits of `rest` are what was
 -- packed, with zero bits after it. The measure is how many bytes are left.
-use Rattle.vocabulary.specs.{List, ◌≡◌, ap₂, subst, ℕ, ◌-◌, ◌*◌, ◌%◌, ◌^◌, ◌≤◌, ◌<◌, arith, now, length, pow_pos}
+use Rattle.std.specs.Prelude.{List, ◌≡◌, ℕ, ◌-◌, ◌*◌, ◌%◌, ◌^◌, ◌≤◌, ◌<◌, length}
+use Rattle.vocabulary.specs.{ap₂, subst, arith, now, pow_pos}
 use Rattle.bits.specs.Bits.{bytes_of}
 use Rattle.bits.proofs.Bytes.{AreBytes}
 use Rattle.sheet_writer.specs.{declared.packer.Packer.Packer, Packer.packed_so_far}

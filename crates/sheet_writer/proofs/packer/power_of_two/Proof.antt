@@ -1,5 +1,6 @@
 -- `sheet_writer::packer::power_of_two` meets its contract: below 64 a shift of 1 loses no bit.
-use Rattle.vocabulary.specs.{◌∙◌, ◌^◌, one-mul, arith, shl_exact}
+use Rattle.std.specs.Prelude.{◌^◌}
+use Rattle.vocabulary.specs.{◌∙◌, one-mul, arith, shl_exact}
 use Rattle.sheet_writer.proofs.packer.power_of_two.Statement.{statement}
 use Rattle.sheet_writer.proofs.packer.power_of_two.Tie as tie
 

@@ -1,6 +1,6 @@
 -- `sheet_writer::packer::put` meets its contract: the field's bits are held after those that were, or fill four bytes with them.
-use Rattle.vocabulary.specs.{[], ◌∷◌, ◌++◌, ◌≡◌, sym, ap, ap₂, subst, ◌∙◌, ℕ, ◌+◌, ◌-◌, ◌*◌, ◌/◌, ◌%◌, ◌^◌, ◌≤◌, ◌<◌, arith, needs, now}
-use Rattle.vocabulary.specs.{take, pow_pos}
+use Rattle.std.specs.Prelude.{[], ◌∷◌, ◌++◌, ◌≡◌, ℕ, ◌+◌, ◌-◌, ◌*◌, ◌/◌, ◌%◌, ◌^◌, ◌≤◌, ◌<◌, take}
+use Rattle.vocabulary.specs.{sym, ap, ap₂, subst, ◌∙◌, arith, needs, now, pow_pos}
 use Rattle.sheet_writer.specs.{declared.packer.Packer.Packer, Packer.packer_from, Packer.Packs, Packer.word_bytes, Parts.field_from}
 use Rattle.sheet_writer.proofs.PackerLaws.{together, together_fits, packs_held, packs_out}
 use Rattle.sheet_writer.proofs.packer.put.Statement.{statement}

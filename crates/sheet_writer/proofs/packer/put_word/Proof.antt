@@ -1,6 +1,6 @@
 -- `sheet_writer::packer::put_word` meets its contract: each byte is stored after those before it.
-use Rattle.vocabulary.specs.{List, [], ◌∷◌, ◌++◌, append_assoc, ◌≡◌, refl, ap, ◌∙◌, ℕ, ◌+◌, ◌≤◌, ◌<◌, arith, add-one, needs, length}
-use Rattle.vocabulary.specs.{length-set, take, set, take-suc-set}
+use Rattle.std.specs.Prelude.{List, [], ◌∷◌, ◌++◌, ◌≡◌, refl, ℕ, ◌+◌, ◌≤◌, ◌<◌, length, take, set}
+use Rattle.vocabulary.specs.{append_assoc, ap, ◌∙◌, arith, add-one, needs, length-set, take-suc-set}
 use Rattle.sheet_writer.proofs.packer.put_word.Statement.{statement}
 use Rattle.sheet_writer.proofs.packer.put_word.Tie as tie
 

@@ -1,5 +1,6 @@
 -- `sheet_writer::write::given_lengths_verdict` meets its contract: what the lengths are compared with is the figure's own.
-use Rattle.vocabulary.specs.{ℕ, [], ◌∷◌, ap₂, ◌∙◌, needs}
+use Rattle.std.specs.Prelude.{ℕ, [], ◌∷◌}
+use Rattle.vocabulary.specs.{ap₂, ◌∙◌, needs}
 use Rattle.refusals.specs.{Order.verdict_of, Table.lengths_row}
 use Rattle.sheet_layout.specs.declared.Lengths.{Lengths}
 use Rattle.sheet_writer.proofs.write.given_lengths_verdict.Statement.{statement}

@@ -1,5 +1,6 @@
 -- `sheet_writer::write::pack` meets its contract: the parts that are packed one after the other are the fields of the layout.
-use Rattle.vocabulary.specs.{List, ◌≡◌, sym, ◌∙◌, ℕ, needs, now, length}
+use Rattle.std.specs.Prelude.{List, ◌≡◌, ℕ, length}
+use Rattle.vocabulary.specs.{sym, ◌∙◌, needs, now}
 use Rattle.sheet_layout.specs.{declared.Kind.Kind, Kinds.pass_of, Kinds.carries_rounds, Layout.sheet_size}
 use Rattle.figures.specs.declared.Figure.{Figure}
 use Rattle.sheet_rules.specs.Sheet.{Values, values_from}

@@ -1,5 +1,6 @@
 -- `sheet_writer::write::put_angle` meets its contract: the rounds are packed after the angle, where they are carried.
-use Rattle.vocabulary.specs.{ℕ, ◌+◌, Bool, List, [], ◌∷◌, ◌≡◌, sym, subst, arith, needs, now}
+use Rattle.std.specs.Prelude.{ℕ, ◌+◌, Bool, List, [], ◌∷◌, ◌≡◌}
+use Rattle.vocabulary.specs.{sym, subst, arith, needs, now}
 use Rattle.sheet_layout.specs.Layout.{rounds_bits}
 use Rattle.sheet_writer.specs.{declared.packer.Packer.Packer, Packer.HasRoom, Packer.Packs, Parts.field_from, Parts.angle_fields}
 use Rattle.sheet_writer.proofs.PackerLaws.{packs_then, room_after_one}

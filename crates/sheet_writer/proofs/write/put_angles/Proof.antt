@@ -1,6 +1,7 @@
 -- `sheet_writer::write::put_angles` meets its contract. As of `put_column`, the loop's invariant: the fields of the angles passed so far,
 -- with their rounds, are packed. The measure is how many are left.
-use Rattle.vocabulary.specs.{ℕ, ◌+◌, ◌-◌, Bool, List, arith, length}
+use Rattle.std.specs.Prelude.{ℕ, ◌+◌, ◌-◌, Bool, List, length}
+use Rattle.vocabulary.specs.{arith}
 use Rattle.refusals.specs.Numbers.{numbered}
 use Rattle.bits.specs.Bits.{Field}
 use Rattle.sheet_layout.specs.Layout.{rounds_bits}

@@ -1,5 +1,6 @@
 -- `sheet_writer::write::put_body` meets its contract: the arms are the bodies for the two passes.
-use Rattle.vocabulary.specs.{◌+◌, ◌*◌, Bool, List, [], ◌∷◌, ◌≡◌, sym, subst, arith, needs, length}
+use Rattle.std.specs.Prelude.{◌+◌, ◌*◌, Bool, List, [], ◌∷◌, ◌≡◌, length}
+use Rattle.vocabulary.specs.{sym, subst, arith, needs}
 use Rattle.refusals.specs.Numbers.{numbered}
 use Rattle.sheet_layout.specs.{declared.Pass.Pass, Layout.rounds_bits}
 use Rattle.sheet_rules.specs.Sheet.{Values, values_from}

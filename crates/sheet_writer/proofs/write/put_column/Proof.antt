@@ -1,6 +1,7 @@
 -- `sheet_writer::write::put_column` meets its contract. The loop's invariant: the fields of the values passed so far are packed. The
 -- measure is how many are left.
-use Rattle.vocabulary.specs.{ℕ, ◌-◌, List, [], ◌∷◌, arith, length}
+use Rattle.std.specs.Prelude.{ℕ, ◌-◌, List, [], ◌∷◌, length}
+use Rattle.vocabulary.specs.{arith}
 use Rattle.refusals.specs.Numbers.{numbered}
 use Rattle.bits.specs.Bits.{Field}
 use Rattle.sheet_writer.specs.Parts.{field_from}

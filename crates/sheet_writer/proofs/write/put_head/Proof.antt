@@ -1,5 +1,6 @@
 -- `sheet_writer::write::put_head` meets its contract: each field is packed after the one before it.
-use Rattle.vocabulary.specs.{[], ◌∷◌, ap, arith, needs, now}
+use Rattle.std.specs.Prelude.{[], ◌∷◌}
+use Rattle.vocabulary.specs.{ap, arith, needs, now}
 use Rattle.figures.specs.{declared.Name.Name, Figure.description}
 use Rattle.sheet_layout.specs.Kinds.{number_of_kind}
 use Rattle.sheet_writer.specs.{Packer.none_packed, Packer.HasRoom, Parts.field_from}

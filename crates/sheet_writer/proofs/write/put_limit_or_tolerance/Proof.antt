@@ -1,5 +1,6 @@
 -- `sheet_writer::write::put_limit_or_tolerance` meets its contract: the arms have the widths of L and of e.
-use Rattle.vocabulary.specs.{List, [], ◌∷◌, ◌≡◌, sym, subst, ℕ, arith, needs}
+use Rattle.std.specs.Prelude.{List, [], ◌∷◌, ◌≡◌, ℕ}
+use Rattle.vocabulary.specs.{sym, subst, arith, needs}
 use Rattle.sheet_layout.specs.{declared.Pass.Pass, Kinds.of_pass, Layout.limit, Layout.tolerance, Layout.width_of}
 use Rattle.sheet_writer.specs.{declared.packer.Packer.Packer, Packer.HasRoom, Packer.Packs, Parts.field_from}
 use Rattle.sheet_writer.proofs.write.put_limit_or_tolerance.Statement.{statement}

@@ -1,5 +1,6 @@
 -- `sheet_writer::write::put_row` meets its contract: each field is packed after the one before it.
-use Rattle.vocabulary.specs.{[], ◌∷◌, ap, ◌∙◌, w32, to_z_of_z_at, arith, needs, now}
+use Rattle.std.specs.Prelude.{[], ◌∷◌}
+use Rattle.vocabulary.specs.{ap, ◌∙◌, w32, to_z_of_z_at, arith, needs, now}
 use Rattle.bits.specs.Complement.{twos_complement}
 use Rattle.sheet_writer.specs.{Packer.HasRoom, Parts.field_from, Parts.angle_fields}
 use Rattle.sheet_writer.proofs.Packing.{angle_width}

@@ -1,6 +1,7 @@
 -- `sheet_writer::write::put_rows` meets its contract. As of `put_column`, the loop's invariant: the fields of the angles passed so far,
 -- with their rounds, log-sines and differences, are packed. The measure is how many are left.
-use Rattle.vocabulary.specs.{ℕ, ◌+◌, ◌-◌, Bool, List, subst, arith, ℤ, pos, length, get_or, w32, to_z, of_z, SFits, to_z_of_z_at}
+use Rattle.std.specs.Prelude.{ℕ, ◌+◌, ◌-◌, Bool, List, ℤ, pos, length, get_or}
+use Rattle.vocabulary.specs.{subst, arith, w32, to_z, of_z, SFits, to_z_of_z_at}
 use Rattle.refusals.specs.Numbers.{numbered}
 use Rattle.bits.specs.Bits.{Field}
 use Rattle.sheet_layout.specs.Layout.{rounds_bits}

@@ -1,5 +1,6 @@
 -- `text::numerals::digit_count` meets its contract: those counted before the last, and the digits that are left; a u64 has at most 20.
-use Rattle.vocabulary.specs.{◌≡◌, ◌+◌, arith, lit<, length}
+use Rattle.std.specs.Prelude.{◌≡◌, ◌+◌, length}
+use Rattle.vocabulary.specs.{arith, lit<}
 use Rattle.text.specs.Text.{natural}
 use Rattle.text.proofs.{Numbers.length_natural, Spelling.length_last, Spelling.length_before}
 use Rattle.text.proofs.numerals.digit_count.Statement.{statement}

@@ -1,5 +1,6 @@
 -- `text::numerals::put_cut` meets its contract: the part of the room that is laid is the number's text, which has at most 20 digits.
-use Rattle.vocabulary.specs.{◌≡◌, sym, ap, ap₂, ◌∙◌, ◌≤◌, arith, needs, lit<, length, take, length-take-le}
+use Rattle.std.specs.Prelude.{◌≡◌, ◌≤◌, length, take}
+use Rattle.vocabulary.specs.{sym, ap, ap₂, ◌∙◌, arith, needs, lit<, length-take-le}
 use Rattle.text.specs.Text.{natural, laid, after}
 use Rattle.text.proofs.{Laying.laid_taken, Numbers.length_natural}
 use Rattle.text.proofs.numerals.put_cut.Statement.{statement}

@@ -1,5 +1,6 @@
 -- `text::numerals::put_digits` meets its contract: each turn stores the last digit that is left to lay (`spelling_more`).
-use Rattle.vocabulary.specs.{refl, ◌/◌, arith, needs}
+use Rattle.std.specs.Prelude.{refl, ◌/◌}
+use Rattle.vocabulary.specs.{arith, needs}
 use Rattle.text.proofs.{Numbers.natural_some, Spelling.Spelling, Spelling.length_before, Spelling.spelling_more, Spelling.spelled}
 use Rattle.text.proofs.numerals.put_digits.Statement.{statement}
 use Rattle.text.proofs.numerals.put_digits.Tie as tie

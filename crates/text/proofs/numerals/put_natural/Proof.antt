@@ -1,5 +1,6 @@
 -- `text::numerals::put_natural` meets its contract: the digits are laid in place where all of them have room, and else cut short.
-use Rattle.vocabulary.specs.{sym, ap, ◌∙◌, ◌+◌, arith, needs}
+use Rattle.std.specs.Prelude.{◌+◌}
+use Rattle.vocabulary.specs.{sym, ap, ◌∙◌, arith, needs}
 use Rattle.text.specs.Text.{decimal, natural}
 use Rattle.text.proofs.Laying.{after_room}
 use Rattle.text.proofs.numerals.put_natural.Statement.{statement}

@@ -1,5 +1,6 @@
 -- `text::numerals::put_number` meets its contract: the digits of the magnitude, and below zero a minus sign before them.
-use Rattle.vocabulary.specs.{◌≡◌, sym, ap, ◌∙◌, [], ◌∷◌, needs, nat_abs, w64, to_z-of_z}
+use Rattle.std.specs.Prelude.{◌≡◌, [], ◌∷◌, nat_abs}
+use Rattle.vocabulary.specs.{sym, ap, ◌∙◌, needs, w64, to_z-of_z}
 use Rattle.whole.proofs.Magnitudes.{below_zero, not_below_zero}
 use Rattle.text.specs.Text.{minus, decimal, natural}
 use Rattle.text.proofs.{Laying.laid_more, Numbers.decimal_negative, Numbers.decimal_other}

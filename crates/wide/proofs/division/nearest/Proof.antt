@@ -1,7 +1,7 @@
 -- `wide::division::nearest` meets its contract: what is left tells on which side of the half n / d lies, the quotient which way a half
 -- goes, and rounding up never passes n.
-use Rattle.vocabulary.specs.{true, false, ◌≡◌, sym, ap, ap₂, ◌∙◌, ℕ, ◌+◌, ◌-◌, ◌%◌, ◌≤◌, ◌<◌, lt_of_le_of_lt, arith, needs, eqb-true}
-use Rattle.vocabulary.specs.{eqb-false, ltb-true, ltb-false, ltb}
+use Rattle.std.specs.Prelude.{true, false, ◌≡◌, ℕ, ◌+◌, ◌-◌, ◌%◌, ◌≤◌, ◌<◌, ltb}
+use Rattle.vocabulary.specs.{sym, ap, ap₂, ◌∙◌, lt_of_le_of_lt, arith, needs, eqb-true, eqb-false, ltb-true, ltb-false}
 use Rattle.whole.specs.Quotient.{nearest}
 use Rattle.whole.proofs.Quotient.{nearest_none, nearest_within}
 use Rattle.wide.specs.Wide.{limit, size_of, held_size}

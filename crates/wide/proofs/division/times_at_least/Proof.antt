@@ -1,6 +1,7 @@
 -- `wide::division::times_at_least` meets its contract: a size without a high word is divided as a word, and of any other the leading bits
 -- are, by one more than those of the divisor, which is never too much.
-use Rattle.vocabulary.specs.{◌≡◌, ◌-◌, ◌^◌, ◌≤◌, mul-le-mul_right, lt_of_le_of_lt, arith, needs, pow_pos}
+use Rattle.std.specs.Prelude.{◌≡◌, ◌-◌, ◌^◌, ◌≤◌}
+use Rattle.vocabulary.specs.{mul-le-mul_right, lt_of_le_of_lt, arith, needs, pow_pos}
 use Rattle.wide.specs.Wide.{size_of}
 use Rattle.wide.proofs.Sizes.{in_words, high_within}
 use Rattle.wide.proofs.Divisions.{times_within, times_some, times_low, low_some}

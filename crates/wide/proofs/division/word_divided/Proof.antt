@@ -1,6 +1,7 @@
 -- `wide::division::word_divided` meets its contract: the divisor times what has been counted, and what is left, are the size that is
 -- divided. A turn counts one or more, so that what is left gets less.
-use Rattle.vocabulary.specs.{◌≡◌, sym, ◌∙◌, ◌+◌, ◌*◌, ◌≤◌, ◌<◌, mul-le-mul_left, arith, needs, ltb-true, ltb-false, not-true, not-false}
+use Rattle.std.specs.Prelude.{◌≡◌, ◌+◌, ◌*◌, ◌≤◌, ◌<◌}
+use Rattle.vocabulary.specs.{sym, ◌∙◌, mul-le-mul_left, arith, needs, ltb-true, ltb-false, not-true, not-false}
 use Rattle.wide.specs.Wide.{radix, limit, size_of}
 use Rattle.wide.proofs.{Sizes.in_words, Sizes.size_within, Sizes.held_size_lem, Divisions.divisor_some, Divisions.word_stays}
 use Rattle.wide.proofs.division.word_divided.Statement.{statement}

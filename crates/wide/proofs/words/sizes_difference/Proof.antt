@@ -1,5 +1,6 @@
 -- `wide::words::sizes_difference` meets its contract: word by word, with one borrowed from the high word where the low words need it.
-use Rattle.vocabulary.specs.{◌≤◌, ◌<◌, arith, needs}
+use Rattle.std.specs.Prelude.{◌≤◌, ◌<◌}
+use Rattle.vocabulary.specs.{arith, needs}
 use Rattle.wide.proofs.Sizes.{InWords, in_words, radix_is, high_within, high_more, difference_plain, difference_borrowed}
 use Rattle.wide.proofs.words.sizes_difference.Statement.{statement}
 use Rattle.wide.proofs.words.sizes_difference.Tie as tie

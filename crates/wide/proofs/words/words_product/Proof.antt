@@ -1,6 +1,7 @@
 -- `wide::words::words_product` meets its contract: the columns of the product by halves, each with its carries, are the product, and none
 -- passes a word.
-use Rattle.vocabulary.specs.{◌^◌, ◌<◌, le-add_right, lt_of_le_of_lt, arith, needs}
+use Rattle.std.specs.Prelude.{◌^◌, ◌<◌}
+use Rattle.vocabulary.specs.{le-add_right, lt_of_le_of_lt, arith, needs}
 use Rattle.wide.proofs.Products.{second, third, above, first_fits, second_fits, third_fits, above_fits, product_size}
 use Rattle.wide.proofs.words.words_product.Statement.{statement}
 use Rattle.wide.proofs.words.words_product.Tie as tie

@@ -34,8 +34,7 @@ fn head_of(kind: Kind, figure: Figure) -> [u32; HEAD_LENGTH]
 }
 
 // Does not look at the sheet's size: the reader does.
-#[unsafe(no_mangle)]
-pub extern "C" fn bienguloc_look(sheet: &[u8], head: &mut [u32]) -> u32
+pub fn bienguloc_look(sheet: &[u8], head: &mut [u32]) -> u32
     ensures { LookPromise sheet.now head.old result head.new }
 {
     match look_at(sheet) {

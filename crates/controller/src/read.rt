@@ -42,8 +42,7 @@ fn refusal_of_lengths(sheet: &[u8]) -> Refusal
     }
 }
 
-#[unsafe(no_mangle)]
-pub extern "C" fn bienguloc_read(
+pub fn bienguloc_read(
     sheet: &[u8],
     head: &mut [u32],
     angles: &mut [u32],

@@ -8,8 +8,7 @@ use report::{Reported, report};
 // How many bytes the text has.
 const WRITTEN_LENGTH: usize = 1;
 
-#[unsafe(no_mangle)]
-pub extern "C" fn bienguloc_report(sheet: &[u8], text: &mut [u8], written: &mut [u64]) -> u32
+pub fn bienguloc_report(sheet: &[u8], text: &mut [u8], written: &mut [u64]) -> u32
     ensures { ReportPromise sheet.now
         (text_lent text.old written.old) result (text_lent text.new written.new) }
 {

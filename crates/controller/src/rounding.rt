@@ -7,8 +7,7 @@ ghost use Rattle.controller.specs.Promises.{answer_by, ClosingPassPromise};
 use crate::answer::answered;
 use closing::{check_closing, closing_corrections};
 
-#[unsafe(no_mangle)]
-pub extern "C" fn bienguloc_closing(
+pub fn bienguloc_closing(
     code: u32,
     n: u32,
     limit: u32,
@@ -24,8 +23,7 @@ pub extern "C" fn bienguloc_closing(
     answered(closing_corrections(code, n, limit, angles, rounds, fixed, corrections))
 }
 
-#[unsafe(no_mangle)]
-pub extern "C" fn bienguloc_check_closing(
+pub fn bienguloc_check_closing(
     code: u32,
     n: u32,
     limit: u32,

@@ -17,8 +17,7 @@ use refusals::Refusal;
 // The high word of S or the determinant, and the low one.
 const DIVISOR_LENGTH: usize = 2;
 
-#[unsafe(no_mangle)]
-pub extern "C" fn bienguloc_first_pass(
+pub fn bienguloc_first_pass(
     code: u32,
     n: u32,
     limit: u32,
@@ -96,8 +95,7 @@ fn store_misclosures(misclosure: i64, side_misclosure: i64, lent: &mut [i64])
     }
 }
 
-#[unsafe(no_mangle)]
-pub extern "C" fn bienguloc_second_pass(
+pub fn bienguloc_second_pass(
     code: u32,
     n: u32,
     tolerance: u32,

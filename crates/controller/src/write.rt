@@ -5,8 +5,7 @@ ghost use Rattle.controller.specs.Promises.{WritePromise};
 use crate::answer::answered;
 use sheet_writer::write_sheet;
 
-#[unsafe(no_mangle)]
-pub extern "C" fn bienguloc_write(
+pub fn bienguloc_write(
     kind: u32,
     code: u32,
     n: u32,

@@ -1,4 +1,4 @@
-# Sourced by every script that has the kit write in target/, with `root` set: one such build at a time.
+# Sourced by every script that has the kit build here, with `root` set: one such build at a time.
 # shellcheck shell=bash disable=SC2154
 
 # hold FD [now]: the lock of an open file, waited for unless `now`; it ends with the last process that has the file open
@@ -12,7 +12,7 @@ hold() {
     fi
 }
 
-# alone COMMAND..: runs it while nobody else builds here. The lock is that of the folder crates/, which stays where `rt ci` removes target/.
+# alone COMMAND..: runs it while nobody else builds here. The lock is that of the folder crates/, which stays.
 alone() {
     local lock status
     exec {lock}<"$root/crates" || return 2

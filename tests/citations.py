@@ -22,9 +22,10 @@ SOURCES = ("crates", "include", "examples")
 
 ALLOWED = {  # names that nothing here declares
     "requires", "ensures",  # keywords of a contract
-    "omega", "cond", "getD", "eqb", "ltb", "leb", "not", "ℕ", "ℤ",  # the logic's library
+    "omega", "cond", "get_or", "eqb", "ltb", "leb", "not", "ℕ", "ℤ",  # the logic's library
     "abbrev", "unfoldable", "pub", "record",  # its keywords, which the key to the notation explains
-    "read_full", "write_all", "io::read_full", "libc", "libc::read",  # the kit's input and output
+    "read_exact", "read_to_end", "write_all", "Err",  # the kit's input and output
+    "then", "else", "overflow", "cast", "bounds", "invariant-", "decreases-",  # parts of its names of goals and loops
     "rt", "PATH", "RATTLE_HOME",  # where the kit is
     "memcpy", "memset",  # the C library
     "RT_JOBS",  # what the kit takes from the environment

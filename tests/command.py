@@ -29,13 +29,14 @@ TOOLS = "bash cat chmod cp env find git mkdir mv readlink rm sleep".split()
 
 # The stand-in for the kit's command: what it is asked, whether another runs, and a program that is half written for a while.
 STAND_IN = """#!/usr/bin/env bash
+cd "{root}"
 echo "$*" >>calls
 mkdir running 2>/dev/null || touch overlapped
 [ ! -e changes ] || echo "// once more" >>crates/made/src/lib.rt
-mkdir -p target/bin
-head -c 1000 "{program}" >target/bin/adjust
+mkdir -p crates/adjust/out
+head -c 1000 "{program}" >crates/adjust/out/adjust
 sleep 0.3
-cp "{program}" target/bin/adjust && chmod +x target/bin/adjust
+cp "{program}" crates/adjust/out/adjust && chmod +x crates/adjust/out/adjust
 rmdir running
 echo "what the kit says"
 [ ! -e broken ]
@@ -169,14 +170,15 @@ class Made:
         self.tools = folder / f"{name} tools"
         self.source = self.root / "crates" / "made" / "src" / "lib.rt"
         self.source.parent.mkdir(parents=True)
+        (self.root / "crates" / "adjust").mkdir()
         self.source.write_text("// a source\n", encoding="ascii")
         (self.root / "crates.txt").write_text("made:\n", encoding="ascii")
         shutil.copytree(ROOT / "bin", self.root / "bin")
         (self.kit / "bin").mkdir(parents=True)
         (self.kit / "KIT-ID").write_text("a kit\n", encoding="ascii")
-        (self.kit / "on").symlink_to(kit.home() / "on")
+        (self.kit / "toolchain").symlink_to(kit.home() / "toolchain")
         stand_in = self.kit / "bin" / "rt"
-        stand_in.write_text(STAND_IN.format(program=ROOT / "target" / "command" / "adjust"), encoding="ascii")
+        stand_in.write_text(STAND_IN.format(root=self.root, program=ROOT / "target" / "command" / "adjust"), encoding="ascii")
         stand_in.chmod(0o755)
         self.tools.mkdir()
         for tool in (*TOOLS, "head", "rmdir", "touch", *tools):
@@ -192,7 +194,7 @@ class Made:
 
     def builds(self):
         calls = self.root / "calls"
-        return calls.read_text(encoding="ascii").splitlines().count("check adjust") if calls.exists() else 0
+        return calls.read_text(encoding="ascii").splitlines().count("run") if calls.exists() else 0
 
 
 RIGHT = (0, f"{WORKED}:\n{TEXT}", "")
@@ -285,10 +287,8 @@ def try_without_rt(folder):
 
 def try_program(folder):
     """The program by itself, which has no status."""
-    tools = kit.of_this_machine() / "toolchain"
+    tools = kit.home() / "toolchain"
     words = [tools / "lib" / "ld-linux-x86-64.so.2", "--library-path", tools / "lib", ROOT / "target" / "command" / "adjust"]
-    if (tools / "bin" / "qemu-x86_64").exists():
-        words.insert(0, tools / "bin" / "qemu-x86_64")
     with open("/dev/full", "wb") as full:
         found = call(words, input=WORKED.read_bytes(), stdout=full)
     expect("the program on a full device", found[1:], ("", "adjust: the text was not written whole\n"))
@@ -302,7 +302,7 @@ def try_scripts(folder):
         expect(f".ci/run {option}", (status, text.startswith("usage: .ci/run\n"), message), (0, True, ""))
     status, text, message = call([gate, "--nosuch"])
     expect(".ci/run with a word", (status, text, message.startswith("usage: .ci/run\n")), (2, "", True))
-    made = Made(folder, "no python", tools=("dirname", "mktemp", "id", "df", "awk"))
+    made = Made(folder, "no python", tools=("dirname", "mktemp", "id"))
     for part in (".ci", "tests"):
         shutil.copytree(ROOT / part, made.root / part)
     for tool in ("apt-get", "sudo"):
@@ -314,38 +314,47 @@ def try_scripts(folder):
 
 
 def try_wrong_programs(folder):
-    """In a repository of one crate: an edit of a comment is told, also where it is tried beside a wrong program, and so is one that does not fit, and
-    one in a crate that is not proved without it."""
-    crate, proved = Path("crates") / "refusals", Path("target") / "rlib"
-    for part in (Path("tests"), crate, proved / "vocabulary.rlib", proved / "refusals.rlib"):
-        shutil.copytree(ROOT / part, folder / part)
-    (folder / "crates.txt").write_text("refusals: vocabulary\n", encoding="ascii")
+    """In a repository of two crates: an edit of a comment is told, and so is one that does not fit, one of a crate that
+    is not proved without it, and, of what `rt ci` told, a refusal that is none of a contract."""
+    crate = Path("crates") / "refusals"
+    for part in (Path("tests"), Path("crates") / "vocabulary", crate):
+        shutil.copytree(ROOT / part, folder / part, ignore=shutil.ignore_patterns("out"))
+    (folder / "crates.txt").write_text("vocabulary:\nrefusals: vocabulary\n", encoding="ascii")
     for edit in (folder / crate / "must-fail").iterdir():
         edit.unlink()
     edits = (
-        ("a comment", "// What a test says.", "// Another.", "NOT REFUSED"),
-        ("a comment in a body", "Refusal::NoSuchFigure => 1,", "Refusal::NoSuchFigure => 1, // as it was", "NOT REFUSED"),
-        ("a failure lost", "Verdict::Passed => later,", "Verdict::Passed => earlier,", "refused, as it must be"),
-        ("no such text", "// None.", "// Another.", "BAD EDIT: '// None.' does not stand once in src/lib.rt"),
+        ("a_comment", "// What a test says.", "// Another.", "NOT REFUSED"),
+        ("a_failure_lost", "Verdict::Passed => later,", "Verdict::Passed => earlier,", None),
+        ("no_such_text", "// None.", "// Another.", "BAD EDIT"),
     )
     for name, old, new, _ in edits:
         (folder / crate / "must-fail" / f"{name}.edit").write_text(f"file: src/lib.rt\nold: {old}\nnew: {new}\n", encoding="ascii")
     words = ["python3", folder / "tests" / "must_fail.py"]
     status, text, _ = call(words)
-    told = sorted(line.partition("refusals/")[2].partition(" (")[0] for line in text.splitlines()[:-1])
-    right = sorted(f"{name}: {said}" for name, _, _, said in edits)
-    expect("wrong programs that are not", (status, told, text.splitlines()[-1]), (1, right, "1 passed, 3 failed"))
+    told = [(name, said) for name, *_, said in edits if said and f"FAILED must-fail refusals/{name}.edit: {said}" in text]
+    right = [(name, said) for name, *_, said in edits if said]
+    expect("wrong programs that are not", (status, told, text.splitlines()[-1]), (1, right, "1 passed, 2 failed"))
     for name, *_ in edits:
-        if name != "a failure lost":
+        if name != "a_failure_lost":
             (folder / crate / "must-fail" / f"{name}.edit").unlink()
     source = folder / crate / "src" / "lib.rt"
     source.write_text(source.read_text(encoding="utf-8").replace("Refusal::WrongLength => 2,", "Refusal::WrongLength => 3,"), encoding="utf-8")
     status, text, _ = call(words)
-    told = text.partition("refusals/")[2].partition(" (")[0]
-    right = "a failure lost: BAD EDIT: it did not reach the prover, or something else is refused too"
-    expect("a wrong program beside another that is no edit", (status, told, text.splitlines()[-1]), (1, right, "0 passed, 1 failed"))
+    right = ["FAILED must-fail refusals/a_failure_lost.edit: NOT TRIED: the crate is not proved without it", "0 passed, 1 failed"]
+    expect("a wrong program beside another that is no edit", (status, text.splitlines()[-2:]), (1, right))
     status, text, message = call([*words, "nosuch"])
     expect("wrong programs of no crate", (status, text, message.startswith("usage: tests/must_fail.py ")), (2, "", True))
+    log = folder / "log"
+    refused = "rt: must-fail made/label.edit: refused, as it must be"
+    for name, line, right in (
+        ("by a fact", f"{refused}: note: src/lib.rt:2:1: it is not proved that", (0, "1 passed, 0 failed")),
+        ("by a name alone", f"{refused} (only because a proof file names what the edit took away): x", (1, "0 passed, 1 failed")),
+        ("by what a name rests on", f"{refused}: ./proofs/f/Proof.antt:3:1: error: 1 declaration that depends on `a`, which was rejected", (1, "0 passed, 1 failed")),
+        ("that does not fit", "rt: must-fail made/label.edit: BAD EDIT: an 'old:' text is in src/lib.rt 0 times, and not once", (1, "0 passed, 1 failed")),
+    ):
+        log.write_text(line + "\n", encoding="ascii")
+        status, text, _ = call([*words, "--told", log])
+        expect(f"a refusal {name}", (status, text.splitlines()[-1]), right)
 
 
 def try_giving_up(folder):

@@ -21,7 +21,7 @@ README = ROOT / "README.md"
 DRAWING = FOLDER / "floors.svg"
 
 HEADING = re.compile(r"#\s*(\w+)\s*(?::.*)?")
-CRATE = re.compile(r"(\w+)\s*:(.*)")
+CRATE = re.compile(r"(\w+)(?: staticlib)?\s*:(.*)")
 CELL = re.compile(r"\| (?:\*\*(\w+)\*\*|`(\w+)`) \|")
 
 # One tint for each family, in the order of crates.txt.

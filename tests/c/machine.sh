@@ -1,10 +1,8 @@
 # Sourced by tests/c/run and bench/run: the static library, the C compiler, and how a compiled program is started here.
-# The library is for x86-64. On another processor programs are cross-compiled, linked statically, and run by the kit's emulator.
+# The library is for x86-64. On another processor programs are cross-compiled, linked statically, and run by an emulator.
 # shellcheck shell=bash disable=SC2034
 
 root=$(cd "$(dirname "${BASH_SOURCE[0]}")/../.." && pwd)
-# shellcheck source=bin/alone.sh
-. "$root/bin/alone.sh"
 # shellcheck source=tests/shared.sh
 . "$root/tests/shared.sh"
 made=$root/target/c
@@ -23,13 +21,16 @@ find_compiler() {
     cc=x86_64-linux-gnu-gcc
     link="$link -static"
     install "$cc" gcc-x86-64-linux-gnu libc6-dev-amd64-cross || return
-    local kit=${RATTLE_HOME:-$(dirname "$(dirname "$(readlink -f "$(command -v rt)")")")}
-    emulator=$kit/on/$(uname -m)/toolchain/bin/qemu-x86_64
-    [ -x "$emulator" ] || { echo "no emulator for x86-64 programs at $emulator"; return 1; }
+    emulator=qemu-x86_64-static
+    install "$emulator" qemu-user-static
 }
 
 start() {
     ${emulator:+"$emulator"} "$@"
+}
+
+sources_newer() {
+    cd "$root" && find crates crates.txt -regex 'crates/[^/]*/out' -prune -o -type f -newer "$library" -print -quit
 }
 
 # The archive, made again where a source is newer. One named by BIENGULOC_LIBRARY is taken as it is.
@@ -39,9 +40,9 @@ find_library() {
         [ -f "$library" ]
         return
     fi
-    if [ -f "$library" ] && [ -z "$(find "$root/crates" "$root/crates.txt" -type f -newer "$library" -print -quit)" ]; then
+    if [ -f "$library" ] && [ -z "$(sources_newer)" ]; then
         return
     fi
     echo "building the static library, which proves what it rests on"
-    (cd "$root" && alone rt staticlib controller) && [ -f "$library" ]
+    "$root/bin/library" && [ -f "$library" ]
 }

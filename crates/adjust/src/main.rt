@@ -5,6 +5,6 @@ mod console;
 
 use console::work_input;
 
-fn main() {
-    work_input();
+fn main(rt: HostRuntime) {
+    work_input(&rt);
 }

@@ -4,11 +4,12 @@ ghost use Rattle.std.specs.Prelude.{◌≤◌};
 
 use crate::comparing::tell_sheet;
 
-pub fn book_000_example_1() -> u64
+pub fn book_000_example_1(rt: &HostRuntime) -> u64
     ensures { result ≤ 2 }
 {
     // The book has 11 for angle 6, one tenth less by eye, so that its corrected angles close; the exact correction is 93 / 8.
     let first = tell_sheet(
+        rt,
         b"000 example 1: misclosures 38, -5, -45; last tenth of angle 6 by eye, exact values compared",
         b"\x11\x00\x00\x9a\x0f\x89\xc2\xcb\x73\xd3\xa1\xa5\x35\x3c\x4c\xa4\x6b\x96\x25\xa6\x30\x39\x38\x6d\x54\xe8",
         b"figure 1 0 denominator 8\n\
@@ -19,6 +20,7 @@ pub fn book_000_example_1() -> u64
     // The book's own corrections also serve its second base line, a condition that is not built here. W and the reduced coefficients,
     // which it has as A / 800 to two decimals, know nothing of it.
     let second = tell_sheet(
+        rt,
         b"000 example 1: W = -148 and the reduced coefficients",
         b"\x21\x00\x09\xa0\xf3\xdd\x12\x31\x60\x25\x87\x0b\x2b\x6f\x2b\x87\xb8\x0a\x93\xd3\xa0\x97\xa4\xf8\x58\x04\x79\x4d\x4e\x8b\xab\x3d\xd0\x04\x3c\xca\x47\x1d\xe0\x14\xe5\x01\x96\x58\x96\xc6\xec\x83\x93\x80\xf8\x30\x39\x4f\x77\x66\xf0\x80\x6d\x9b\x55\x45\xbc\x7f\x6c\x20\x2c\x80",
         b"figure 1 0 W -148 S 24315176\n\
@@ -29,11 +31,12 @@ pub fn book_000_example_1() -> u64
     first + second
 }
 
-pub fn book_000_example_2() -> u64
+pub fn book_000_example_2(rt: &HostRuntime) -> u64
     ensures { result ≤ 2 }
 {
     // The book has -1 for angle 6 and 9 for angle 8, each one tenth less by eye; the exact corrections are -4 / 8 and 76 / 8.
     let first = tell_sheet(
+        rt,
         b"000 example 2: misclosures 16, 19, -18; last tenths of angles 6 and 8 by eye, exact values compared",
         b"\x11\x00\x01\x5f\x4f\xb1\x2a\x6b\x12\xc1\xe6\x63\x90\x2d\x84\x6f\xeb\x35\xb0\xd4\x2a\xb1\x2e\x3b\xdc\xb4",
         b"figure 1 0 denominator 8\n\
@@ -44,6 +47,7 @@ pub fn book_000_example_2() -> u64
     // The book has 6 for angle 8, one tenth less by eye, which keeps the sum of angles 5 to 8; the exact correction is 351792000 /
     // 54096480, that is 6.503.
     let second = tell_sheet(
+        rt,
         b"000 example 2: second corrections; last tenth of angle 8 by eye, exact values compared",
         b"\x21\x00\x15\xf4\xfb\xdf\x4d\xa4\xd0\x04\xa4\xa9\xac\xae\x7a\x3d\x30\x13\x92\xc1\xe5\x57\x63\x3c\x64\x07\xd0\xe4\x0a\xdb\x7e\x33\x6e\x06\xc4\x46\xfe\xb5\xa1\x1a\xba\x05\xae\xd6\xc3\x4e\xfa\xa2\xd9\x7f\xe4\x2a\xb1\x43\x75\xbf\x3d\x40\x82\x8e\xf7\x36\xb8\x43\x31\x00\x66\x40",
         b"figure 1 0 W 126 S 54096480\n\
@@ -54,11 +58,12 @@ pub fn book_000_example_2() -> u64
     first + second
 }
 
-pub fn book_001_example_8_1() -> u64
+pub fn book_001_example_8_1(rt: &HostRuntime) -> u64
     ensures { result ≤ 2 }
 {
     // The book gives the misclosures and no corrections.
     let first = tell_sheet(
+        rt,
         b"001 example 8-1: misclosures 18, -29, -13",
         b"\x11\x00\x00\xe2\xe4\xf9\x50\x1c\x72\x0c\xcd\x88\x46\xf0\x0a\x79\x70\x9c\x6b\x56\x42\x51\xe2\x41\x65\x2c",
         b"figure 1 0 denominator 8\n\
@@ -68,6 +73,7 @@ pub fn book_001_example_8_1() -> u64
     );
     // The book goes no further than W.
     let second = tell_sheet(
+        rt,
         b"001 example 8-1: W = -70",
         b"\x21\x00\x0e\x2e\x4f\xde\x5c\x16\x10\x14\xe5\x40\x71\xee\xb0\xbb\xc8\x10\xb2\x0c\xcd\x97\x1e\x9e\xa8\x0b\x7a\x11\xbc\x0b\xd9\x0e\x10\x01\xe0\xa7\x97\x0d\xd5\xef\x99\x02\x18\x71\xad\x5a\xf2\xec\xee\x00\xa6\x42\x51\xe3\x7b\x25\xb7\x40\x3c\x10\x59\x4b\xb8\xee\xed\x40\x5c\x00",
         b"figure 1 0 W -70 S 27264872\n\
@@ -79,12 +85,13 @@ pub fn book_001_example_8_1() -> u64
 }
 
 // The book's corners a, d, c, b are 1 to 4 here, so its angles stand in the order 1, 2, 3, 10, 11, 12, 7, 9, 8, 4, 5, 6 (sheets/README.md).
-pub fn book_004_example_1() -> u64
+pub fn book_004_example_1(rt: &HostRuntime) -> u64
     ensures { result ≤ 2 }
 {
     // The book cuts 353 / 24, that is 14.708, to 14 for its angle 11, and gives the tenth to its angle 10, which has 60 where the exact
     // correction is 1427 / 24.
     let first = tell_sheet(
+        rt,
         b"004 example 1: misclosures 48, -108, 41, -56, -146, 64, 0, 7; last tenths of its angles 10 and 11 by hand, exact values compared",
         b"\x12\x40\x01\xc1\x13\x39\x64\xaf\x92\x8e\x6a\x0e\xdb\xb2\x0b\xc7\x14\x8f\xe3\x23\x5f\xaf\xfe\x7b\xf6\xdc\xa0\x57\x9a\x25\x7d\x21\xee\xc5\x8c\x44\x92\xa3\xae\xea\xac\x01\x39\x5d\xc1\xb4\x8e\x04\x60",
         b"figure 2 4 denominator 24\n\
@@ -97,6 +104,7 @@ pub fn book_004_example_1() -> u64
     // The book adds 2.46 and 0.02, the differences of its angles 2 and 6, to 2.56, so that its A are others, and its second corrections,
     // by up to 1.2 tenths. W of both conditions and B are its own.
     let second = tell_sheet(
+        rt,
         b"004 example 1: W = 252 and -224, and B; A and the corrections are those of its own differences",
         b"\x22\x40\x12\x88\x32\x42\x5b\x17\x24\x70\x44\x8b\x7d\x17\x8d\x7f\xe9\x96\x4b\x3a\xbb\x2c\x7b\x00\x3d\x8a\x39\x80\xdd\x49\x2f\xe0\x22\xce\xdb\xc1\x2f\x93\xd6\x07\xfb\xb2\xf1\xc6\xf7\x71\x79\xdc\x07\x18\xfe\x34\x5b\x8b\x7a\xa8\x05\xf5\x7e\xbf\xbd\xf5\xcb\x36\x00\x16\x7b\xf6\x56\xf4\xe3\x6d\x00\x8b\x28\x15\xe9\x74\xdb\xae\x40\x8e\xa2\x57\xc1\xbd\xbe\x3d\x80\x1b\x47\xbb\x12\x5c\x41\x6b\x90\x31\x4c\x44\xa6\xef\xae\xfe\xd8\x00\x20",
         b"figure 2 4 W 252 -224 determinant 3813876255227904\n\

@@ -2,28 +2,28 @@
 ghost use Rattle.std.specs.Prelude.{◌≡◌, ◌≤◌, length, take};
 ghost use Rattle.cases.specs.Told.{Tells, counted};
 
-use libc::STDOUT_FILENO;
 use report::{LONGEST_TEXT, Reported, report};
+use std::io::Write;
 
 // The line of a case, and 1 where it came out as expected.
-pub fn tell(case: &[u8], as_expected: bool) -> u64
+pub fn tell(rt: &HostRuntime, case: &[u8], as_expected: bool) -> u64
     ensures { (result ≡ counted as_expected) × (result ≤ 1) }
 {
-    io::write_all(STDOUT_FILENO, case);
+    let _ = rt.stdout().write_all(case);
     if as_expected {
-        io::write_all(STDOUT_FILENO, b": as expected\n");
+        let _ = rt.stdout().write_all(b": as expected\n");
         1
     } else {
-        io::write_all(STDOUT_FILENO, b": NOT as expected\n");
+        let _ = rt.stdout().write_all(b": NOT as expected\n");
         0
     }
 }
 
 // A case that is a sheet and its text.
-pub fn tell_sheet(case: &[u8], sheet: &[u8], expected: &[u8]) -> u64
+pub fn tell_sheet(rt: &HostRuntime, case: &[u8], sheet: &[u8], expected: &[u8]) -> u64
     ensures { result ≤ 1 }
 {
-    tell(case, prints(sheet, expected))
+    tell(rt, case, prints(sheet, expected))
 }
 
 // Whether a sheet's text is exactly these bytes.
@@ -42,5 +42,5 @@ pub fn holds(text: &[u8], end: usize, expected: &[u8]) -> bool
     if end > text.len() {
         return false;
     }
-    check::same(&text[..end], expected)
+    &text[..end] == expected
 }

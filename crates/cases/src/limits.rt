@@ -5,10 +5,11 @@ ghost use Rattle.std.specs.Prelude.{◌≤◌};
 use crate::comparing::{tell, tell_sheet};
 use crate::direct::{eight, first_pass_refuses};
 
-pub fn kind_1() -> u64
+pub fn kind_1(rt: &HostRuntime) -> u64
     ensures { result ≤ 2 }
 {
     let at_the_limit = tell_sheet(
+        rt,
         b"kind 1, L = 0, a misclosure of -150 passes",
         b"\x11\x00\x00\xc5\xbc\x51\x8b\x82\x03\x17\x04\x06\x2e\x08\x0c\x5c\x10\x18\xb8\x20\x31\x70\x40\x62\xe0\x80",
         b"figure 1 0 denominator 8\n\
@@ -17,6 +18,7 @@ pub fn kind_1() -> u64
           condition 1 -150 0\ncondition 2 0 0\ncondition 3 0 0\n",
     );
     let beyond_it = tell_sheet(
+        rt,
         b"kind 1, L = 0, a misclosure of 151 gives 6",
         b"\x11\x00\x00\xc5\xc1\x01\x8b\x82\x03\x17\x04\x06\x2e\x08\x0c\x5c\x5b\x98\xb8\x20\x31\x70\x40\x62\xe0\x80",
         b"refused 6 2\n",
@@ -24,10 +26,11 @@ pub fn kind_1() -> u64
     at_the_limit + beyond_it
 }
 
-pub fn kind_3() -> u64
+pub fn kind_3(rt: &HostRuntime) -> u64
     ensures { result ≤ 2 }
 {
     let at_the_limit = tell_sheet(
+        rt,
         b"kind 3, L = 0, a misclosure of 90 passes",
         b"\x31\x00\x00\xc5\xc1\x01\x8b\x82\x03\x17\x04\x06\x2e\x08\x0c\x5c\x3d\x18\xb8\x20\x31\x70\x40\x62\xe0\x80",
         b"figure 1 0 denominator 8\n\
@@ -36,6 +39,7 @@ pub fn kind_3() -> u64
           condition 1 0 0\ncondition 2 90 0\ncondition 3 90 0\n",
     );
     let beyond_it = tell_sheet(
+        rt,
         b"kind 3, L = 0, a misclosure of 91 gives 6",
         b"\x31\x00\x00\xc5\xc1\x01\x8b\x82\x03\x17\x04\x06\x2e\x08\x0c\x5c\x3d\x98\xb8\x20\x31\x70\x40\x62\xe0\x80",
         b"refused 6 2\n",
@@ -43,10 +47,11 @@ pub fn kind_3() -> u64
     at_the_limit + beyond_it
 }
 
-pub fn direct() -> u64
+pub fn direct(rt: &HostRuntime) -> u64
     ensures { result ≤ 1 }
 {
     tell(
+        rt,
         b"a direct call, L = 0, a misclosure of 91 gives 6",
         first_pass_refuses(0, eight(1620091, 1620000), b"refused 6 1\n"),
     )

@@ -9,22 +9,18 @@ mod document;
 mod limits;
 mod triangles;
 
-use libc::STDOUT_FILENO;
-
 const CASES: u64 = 26;
 
-fn main() {
-    let document = document::case_8() + document::case_9() + document::case_10();
-    let limits = limits::kind_1() + limits::kind_3() + limits::direct();
-    let accepted = triangles::point_in_triangle()
-        + triangles::point_in_quadrilateral()
-        + triangles::central_triangle();
-    let published = books::book_000_example_1()
-        + books::book_000_example_2()
-        + books::book_001_example_8_1()
-        + books::book_004_example_1();
-    io::print_decimal(STDOUT_FILENO, document + limits + accepted + published);
-    io::write_all(STDOUT_FILENO, b" of ");
-    io::print_decimal(STDOUT_FILENO, CASES);
-    io::write_all(STDOUT_FILENO, b" cases as expected\n");
+fn main(rt: HostRuntime) {
+    let document = document::case_8(&rt) + document::case_9(&rt) + document::case_10(&rt);
+    let limits = limits::kind_1(&rt) + limits::kind_3(&rt) + limits::direct(&rt);
+    let accepted = triangles::point_in_triangle(&rt)
+        + triangles::point_in_quadrilateral(&rt)
+        + triangles::central_triangle(&rt);
+    let published = books::book_000_example_1(&rt)
+        + books::book_000_example_2(&rt)
+        + books::book_001_example_8_1(&rt)
+        + books::book_004_example_1(&rt);
+    let expected = document + limits + accepted + published;
+    let _ = println!(rt; "{expected} of {CASES} cases as expected");
 }

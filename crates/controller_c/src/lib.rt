@@ -36,7 +36,16 @@ pub extern "C" fn bienguloc_read(
         (slices angles.new rounds.new fixed.new log_sines.new differences.new
         log_sides.new)) }
 {
-    controller::bienguloc_read(sheet, head, angles, rounds, fixed, log_sines, differences, log_sides)
+    controller::bienguloc_read(
+        sheet,
+        head,
+        angles,
+        rounds,
+        fixed,
+        log_sines,
+        differences,
+        log_sides,
+    )
 }
 
 #[unsafe(no_mangle)]
@@ -104,7 +113,20 @@ pub extern "C" fn bienguloc_first_pass(
         (first_lent misclosures.new numerators.new rounded.new
         corrected.new corrected_rounds.new rests.new) }
 {
-    controller::bienguloc_first_pass(code, n, limit, angles, rounds, fixed, misclosures, numerators, rounded, corrected, corrected_rounds, rests)
+    controller::bienguloc_first_pass(
+        code,
+        n,
+        limit,
+        angles,
+        rounds,
+        fixed,
+        misclosures,
+        numerators,
+        rounded,
+        corrected,
+        corrected_rounds,
+        rests,
+    )
 }
 
 #[unsafe(no_mangle)]
@@ -139,7 +161,26 @@ pub extern "C" fn bienguloc_second_pass(
         (second_lent reduced.new side_reduced.new numerators_high.new numerators_low.new
         rounded.new adjusted.new adjusted_rounds.new rests.new)) }
 {
-    controller::bienguloc_second_pass(code, n, tolerance, angles, rounds, log_sines, differences, log_sides, sine_misclosures, divisor, reduced, side_reduced, numerators_high, numerators_low, rounded, adjusted, adjusted_rounds, rests)
+    controller::bienguloc_second_pass(
+        code,
+        n,
+        tolerance,
+        angles,
+        rounds,
+        log_sines,
+        differences,
+        log_sides,
+        sine_misclosures,
+        divisor,
+        reduced,
+        side_reduced,
+        numerators_high,
+        numerators_low,
+        rounded,
+        adjusted,
+        adjusted_rounds,
+        rests,
+    )
 }
 
 #[unsafe(no_mangle)]
@@ -161,5 +202,17 @@ pub extern "C" fn bienguloc_write(
         log_sines.now differences.now log_sides.now)
         sheet.old result sheet.new }
 {
-    controller::bienguloc_write(kind, code, n, limit_or_tolerance, angles, rounds, fixed, log_sines, differences, log_sides, sheet)
+    controller::bienguloc_write(
+        kind,
+        code,
+        n,
+        limit_or_tolerance,
+        angles,
+        rounds,
+        fixed,
+        log_sines,
+        differences,
+        log_sides,
+        sheet,
+    )
 }

@@ -63,6 +63,7 @@ pub const MOST_SIDES: usize = 2;
 // A figure's coefficient rows, one type for all figures: an array of arrays, with 0 where a figure has no angle or no condition.
 pub type Rows = [[i8; MOST_CONDITIONS]; MOST_ANGLES];
 
+#[tactic(auto, unfolding(crate::specs::Figure::figure_of))]
 pub fn figure_of(code: u32, n: u32) -> Named
     ensures { result ≡ figure_of code n }
 {
@@ -81,6 +82,7 @@ pub fn figure_of(code: u32, n: u32) -> Named
     }
 }
 
+#[tactic(auto, unfolding(crate::specs::Figure::figure_of))]
 fn polygon_of(n: u32) -> Named
     ensures { result ≡ figure_of 3 n }
 {

@@ -1,6 +1,6 @@
 -- Texts laid one after the other, and how lines and tables are made of them. Assumes nothing.
 use Rattle.std.specs.Prelude.{◌≡◌, refl, List, [], ◌∷◌, ◌++◌, ℕ, zero, suc, ◌+◌, ◌^◌, ◌≤◌, ◌<◌, ℤ, length}
-use Rattle.vocabulary.specs.{sym, ap, ◌∙◌, subst, append_assoc, append-nil, add-one, arith, mag, w64, to_z, of_z, to_z-of_z}
+use Rattle.vocabulary.specs.{w32, sym, ap, ◌∙◌, subst, append_assoc, append-nil, add-one, arith, mag, w64, to_z, of_z, to_z-of_z}
 use Rattle.whole.specs.Lists.{listed}
 use Rattle.text.specs.{Text.space, Text.line_feed, Text.decimal, Text.spaced, Text.line, Text.lines, Text.laid, Text.after, Holds.Holds}
 use Rattle.text.proofs.{Laying.holds_none, Laying.holds_more, Lines.lines_listed}
@@ -134,7 +134,7 @@ spaced_start p (q ∷ ps) =
 
 -- what a call answered
 pub answered : {r z : ℤ} → mag r < 2 ^ 63 → r ≡ z → to_z w64 (of_z w64 r) ≡ z
-answered fits e = to_z-of_z (record { sfits = fits }) ∙ e
+answered fits e = to_z-of_z {w = w64} (record { sfits = fits }) ∙ e
 
 pub six_same : {a b c d e f a' b' c' d' e' f' : ℤ} → a ≡ a' → b ≡ b' → c ≡ c' → d ≡ d' → e ≡ e' → f ≡ f'
     → a ∷ b ∷ c ∷ d ∷ e ∷ f ∷ [] ≡ a' ∷ b' ∷ c' ∷ d' ∷ e' ∷ f' ∷ []

@@ -112,6 +112,7 @@ pub fn place_of(refusal: Refusal) -> usize
 }
 
 // The answer of two tests in their order.
+#[tactic(auto, unfolding(crate::specs::Order::answer_of))]
 pub fn first_to_fail(earlier: Verdict, later: Verdict) -> Verdict
     ensures { result ≡ answer_of (earlier ∷ later ∷ []) }
 {

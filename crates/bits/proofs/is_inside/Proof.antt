@@ -1,7 +1,7 @@
 -- `bits::is_inside` meets its contract: a field ends within the bytes exactly where the bytes that it spans, from the one in which it
 -- starts, are no more than are left from there.
 use Rattle.std.specs.Prelude.{◌≡◌, List, ℕ, ◌+◌, ◌-◌, ◌/◌, ◌%◌, ◌≤◌, leb, length}
-use Rattle.vocabulary.specs.{◌∙◌, sym, dec_le, lt_of_not-le, arith, needs, le-leb, lt-leb}
+use Rattle.vocabulary.specs.{◌∙◌, sym, dec_le, lt_of_not-le, arith, rules, le-leb, lt-leb}
 use Rattle.bits.specs.Bits.{inside}
 use Rattle.bits.proofs.Fields.{is_inside, inside_past, inside_wide}
 use Rattle.bits.proofs.is_inside.Statement.{statement}
@@ -16,7 +16,4 @@ spanned s at w n h =
 
 pub is_inside_spec : {M : Type 1} → statement M
 is_inside_spec =
-    tie.close (tie.spec (λ c. let a = c.before.args in sym (inside_wide a.bytes.now a.at a.width c.if1.true))
-    (λ c. let a = c.before.before.args in sym (inside_past a.bytes.now a.at a.width (omega arith))) (λ c. search needs)
-    (λ c. search needs) (λ c. search needs)
-    (λ c. let a = c.before.before.args in spanned a.bytes.now a.at a.width (omega arith) (omega arith)))
+    tie.close (tie.spec (λ c. let a = c.args in sym (inside_wide a.bytes.now a.at a.width c.if-width-gt-WIDEST.true)) (λ c. let a = c.args in sym (inside_past a.bytes.now a.at a.width (omega arith))) (λ c. search rules) (λ c. search rules) (λ c. search rules) (λ c. let a = c.args in spanned a.bytes.now a.at a.width (omega arith) (omega arith)))

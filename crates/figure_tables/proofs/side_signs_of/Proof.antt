@@ -1,6 +1,6 @@
 -- `figure_tables::side_signs_of` meets its contract: of the figures one alone has a side condition.
 use Rattle.std.specs.Prelude.{◌≡◌, refl, List, [], ◌∷◌, ℕ, pos, take, replicate}
-use Rattle.vocabulary.specs.{needs, tag_of, OneOf, miss}
+use Rattle.vocabulary.specs.{rules, tag_of, OneOf, miss}
 use Rattle.figures.specs.contracts.Figure.{the_type}
 use Rattle.figures.specs.{declared.Figure.Figure, Figure.angle_count, Figure.side, Numerators.most_angles}
 use Rattle.figures.specs.declared.Figure.TheVariants.{Quadrilateral, PointInTriangle, PointInQuadrilateral, CentralTriangle, CentralQuadrilateral, CentralPentagon, CentralHexagon, CentralHeptagon, CentralOctagon}
@@ -23,5 +23,4 @@ of_none CentralOctagon key = refl
 
 pub side_signs_of_spec : {M : Type 1} → statement M
 side_signs_of_spec =
-    tie.close (tie.spec (λ c. search needs) (λ c κs. search needs) (λ c. search needs)
-    (λ c. of_none c.before.args.figure c.match.keys2))
+    tie.close (tie.spec (λ c. search rules) (λ c κs. search rules) (λ c. search rules) (λ c. of_none c.args.figure c.in_default.in_default-own.keys2))

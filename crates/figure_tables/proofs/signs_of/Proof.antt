@@ -1,6 +1,6 @@
 -- `figure_tables::signs_of` meets its contract: the triangles of a figure are the first of the largest figure's.
 use Rattle.std.specs.Prelude.{◌≡◌, refl, List, [], ◌∷◌, ℕ, ℤ, take}
-use Rattle.vocabulary.specs.{ap, ◌∙◌, needs, tag_of, OneOf, miss}
+use Rattle.vocabulary.specs.{ap, ◌∙◌, rules, tag_of, OneOf, miss}
 use Rattle.figures.specs.contracts.Figure.{the_type}
 use Rattle.figures.specs.{declared.Figure.Figure, Figure.angle_count, Figure.pole, Rows.triangle_signs}
 use Rattle.figures.specs.declared.Figure.TheVariants.{Quadrilateral, PointInTriangle, PointInQuadrilateral, CentralTriangle, CentralQuadrilateral, CentralPentagon, CentralHexagon, CentralHeptagon, CentralOctagon}
@@ -21,10 +21,10 @@ of_triangles CentralHexagon key = refl
 of_triangles CentralHeptagon key = refl
 of_triangles CentralOctagon key = refl
 
-returns-2 : tie.Need-returns-2
+returns-2 : tie.Need-returns-in_default
 returns-2 c =
-    let f = c.before.before.args.figure in
-    ap (λ (signs : List ℤ). take (angle_count f) signs) c.triangle-signs.ensures ∙ of_triangles f c.before.match.keys2
+    let f = c.args.figure in
+    ap (λ (signs : List ℤ). take (angle_count f) signs) c.triangle_signs.ensures ∙ of_triangles f c.in_default.in_default-own.keys2
 
 pub signs_of_spec : {M : Type 1} → statement M
-signs_of_spec = tie.close (tie.spec (λ c. search needs) (λ c κs. search needs) (λ c κs. search needs) (λ c. search needs) returns-2)
+signs_of_spec = tie.close (tie.spec (λ c. search rules) (λ c κs. search rules) (λ c κs. search rules) (λ c. search rules) returns-2)

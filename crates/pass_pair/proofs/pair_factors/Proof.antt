@@ -1,5 +1,5 @@
 -- `pass_pair::pair_factors` meets its contract: three differences of products.
-use Rattle.vocabulary.specs.{◌∙◌, needs, w64, SFits, to_z-of_z}
+use Rattle.vocabulary.specs.{◌∙◌, rules, w64, SFits, to_z-of_z}
 use Rattle.pass_pair.specs.declared.Pair.{Pair}
 use Rattle.pass_pair.proofs.pair_factors.Statement.{statement}
 use Rattle.pass_pair.proofs.pair_factors.Tie as tie
@@ -11,9 +11,9 @@ record Fits (pair : Pair) : Type 0 where
   wa : SFits w64 pair.wa
   wb : SFits w64 pair.wb
 
-fits : (c : tie.After-struct-told) → Fits c.before.args.pair
+fits : (c : tie.After-struct_told-1) → Fits c.args.pair
 fits c =
-    let given = c.struct_told.given in
+    let given = c.struct_told-1.given in
     record {
       aa = record { sfits = given.0.1 };
       ab = record { sfits = given.1.0.1 };
@@ -24,20 +24,18 @@ fits c =
 
 returns : tie.Need-returns
 returns c =
-    let second = c.before.before.before.before.before in
-    let first = second.before.before.before.before.before in
-    let f = fits first.before.before.before.before in
+    let f = fits c.before.before.before.before.before.before.before.before.before.before.before.before.before.before in
     let read-aa = to_z-of_z f.aa in
     let read-ab = to_z-of_z f.ab in
     let read-bb = to_z-of_z f.bb in
     let read-wa = to_z-of_z f.wa in
     let read-wb = to_z-of_z f.wb in (
-      first.products-difference.ensures ∙ rw (read-bb, read-wa, read-ab, read-wb),
+      c.products_difference-first.ensures ∙ rw (read-bb, read-wa, read-ab, read-wb),
       (
-        second.products-difference2.ensures ∙ rw (read-aa, read-wb, read-ab, read-wa),
-        c.products-difference3.ensures ∙ rw (read-aa, read-bb, read-ab),
+        c.products_difference-second.ensures ∙ rw (read-aa, read-wb, read-ab, read-wa),
+        c.products_difference-determinant.ensures ∙ rw (read-aa, read-bb, read-ab),
       ),
     )
 
 pub pair_factors_spec : {M : Type 1} → statement M
-pair_factors_spec = tie.close (tie.spec (λ c κs. search needs) (λ c κs. search needs) (λ c κs. search needs) returns)
+pair_factors_spec = tie.close (tie.spec (λ c κs. search rules) (λ c κs. search rules) (λ c κs. search rules) returns)

@@ -11,5 +11,4 @@ itself default (suc value) h = refl
 
 pub in_force_spec : {M : Type 1} → statement M
 in_force_spec =
-    tie.close (tie.spec (λ c. sym (ap (in_force c.before.args.default) c.if1.true))
-    (λ c. itself c.before.args.default c.before.args.value c.if1.false))
+    tie.close (tie.spec (λ c. sym (ap (in_force c.args.default) c.if-value-eq0.true)) (λ c. itself c.args.default c.args.value c.if-value-eq0.false))

@@ -1,7 +1,7 @@
 -- `pass_sheet::body_lines` meets its contract: the reader keeps its promise on the parts that are lent to it, and its values are worked
 -- from there.
 use Rattle.std.specs.Prelude.{◌≡◌, refl, List, [], ◌∷◌, ◌++◌, ℕ, ◌≤◌, ℤ, pos, length, take, drop, replicate}
-use Rattle.vocabulary.specs.{sym, ap, ◌∙◌, subst, needs, now, length-take-le, take_at}
+use Rattle.vocabulary.specs.{sym, ap, ◌∙◌, subst, rules, length-take-le, take_at}
 use Rattle.whole.proofs.Lending.{still_few}
 use Rattle.figures.specs.{declared.Figure.Figure, Numerators.most_angles, Numerators.most_fixed, Numerators.most_sides}
 use Rattle.sheet_layout.specs.{declared.Lengths.Lengths, declared.Kind.Kind}
@@ -17,21 +17,21 @@ use Rattle.pass_sheet.proofs.SheetBounds.{angles_few, fixed_few, log_sines_few, 
 use Rattle.pass_sheet.proofs.body_lines.Statement.{statement}
 use Rattle.pass_sheet.proofs.body_lines.Tie as tie
 
-module _ (c : tie.After-lengths-of) where
+module _ (c : tie.After-lengths_of-lengths) where
   abbrev lengths : Lengths
-  lengths = c.lengths-of.result
+  lengths = c.lengths_of-lengths.result
 
   few_angles : lengths.angles ≤ most_angles
-  few_angles = rw c.lengths-of.ensures (angles_few c.before.before.before.args.kind c.before.before.before.args.figure)
+  few_angles = rw c.lengths_of-lengths.ensures (angles_few c.args.kind c.args.figure)
 
   few_fixed : lengths.fixed ≤ most_fixed
-  few_fixed = rw c.lengths-of.ensures (fixed_few c.before.before.before.args.kind c.before.before.before.args.figure)
+  few_fixed = rw c.lengths_of-lengths.ensures (fixed_few c.args.kind c.args.figure)
 
   few_log_sines : lengths.log_sines ≤ most_angles
-  few_log_sines = rw c.lengths-of.ensures (log_sines_few c.before.before.before.args.kind c.before.before.before.args.figure)
+  few_log_sines = rw c.lengths_of-lengths.ensures (log_sines_few c.args.kind c.args.figure)
 
   few_log_sides : lengths.log_sides ≤ most_sides
-  few_log_sides = rw c.lengths-of.ensures (log_sides_few c.before.before.before.args.kind c.before.before.before.args.figure)
+  few_log_sides = rw c.lengths_of-lengths.ensures (log_sides_few c.args.kind c.args.figure)
 
 -- what the reader left in a part is what stands at the start of the whole
 at_start : {A : Type 0} (reading : Reading) (values : Kind → Figure → List A) (n : ℕ) (part old rest : List A)
@@ -67,37 +67,37 @@ from_read (Reading.Refused r) sheet angles rounds fixed log_sines differences lo
 from_read (Read k g e) sheet angles rounds fixed log_sines differences log_sides a o x l d s =
     λ i. worked_kind k g e (a i) (o i) (x i) (sine_entries (l i) (d i) (s i))
 
-module _ (call : tie.After-read-body) where
-  abbrev called : tie.After-lengths-of
+module _ (call : tie.After-read_body-reading) where
+  abbrev called : tie.After-lengths_of-lengths
   called = call.before.before.before.before.before.before.before
 
-  angles_held : (lengths called).angles ≤ length (call.read-body.last.1.1.1.0 ++ drop (lengths called).angles (replicate most_angles 0))
+  angles_held : (lengths called).angles ≤ length (call.read_body-reading.new.angles ++ drop (lengths called).angles (replicate most_angles 0))
   angles_held =
-      still_few (lengths called).angles (replicate most_angles 0) (few_angles called) call.read-body.last.1.1.1.0 call.read-body.kept.1.1.1.0
+      still_few (lengths called).angles (replicate most_angles 0) (few_angles called) call.read_body-reading.new.angles call.read_body-reading.auto.angles
 
-  rounds_held_lem : (lengths called).angles ≤ length (call.read-body.last.1.1.1.1.0 ++ drop (lengths called).angles (replicate most_angles 0))
+  rounds_held_lem : (lengths called).angles ≤ length (call.read_body-reading.new.rounds ++ drop (lengths called).angles (replicate most_angles 0))
   rounds_held_lem =
-      still_few (lengths called).angles (replicate most_angles 0) (few_angles called) call.read-body.last.1.1.1.1.0 call.read-body.kept.1.1.1.1.0
+      still_few (lengths called).angles (replicate most_angles 0) (few_angles called) call.read_body-reading.new.rounds call.read_body-reading.auto.rounds
 
-  fixed_held : (lengths called).fixed ≤ length (call.read-body.last.1.1.1.1.1.0 ++ drop (lengths called).fixed (replicate most_fixed 0))
+  fixed_held : (lengths called).fixed ≤ length (call.read_body-reading.new.fixed ++ drop (lengths called).fixed (replicate most_fixed 0))
   fixed_held =
-      still_few (lengths called).fixed (replicate most_fixed 0) (few_fixed called) call.read-body.last.1.1.1.1.1.0 call.read-body.kept.1.1.1.1.1.0
+      still_few (lengths called).fixed (replicate most_fixed 0) (few_fixed called) call.read_body-reading.new.fixed call.read_body-reading.auto.fixed
 
   log_sines_held :
-      (lengths called).log_sines ≤ length (call.read-body.last.1.1.1.1.1.1.0 ++ drop (lengths called).log_sines (replicate most_angles 0))
+      (lengths called).log_sines ≤ length (call.read_body-reading.new.log_sines ++ drop (lengths called).log_sines (replicate most_angles 0))
   log_sines_held =
-      still_few (lengths called).log_sines (replicate most_angles 0) (few_log_sines called) call.read-body.last.1.1.1.1.1.1.0 call.read-body.kept.1.1.1.1.1.1.0
+      still_few (lengths called).log_sines (replicate most_angles 0) (few_log_sines called) call.read_body-reading.new.log_sines call.read_body-reading.auto.log_sines
 
   differences_held :
       (lengths called).log_sines
-      ≤ length (call.read-body.last.1.1.1.1.1.1.1.0 ++ drop (lengths called).log_sines (replicate most_angles (pos 0)))
+      ≤ length (call.read_body-reading.new.differences ++ drop (lengths called).log_sines (replicate most_angles (pos 0)))
   differences_held =
-      still_few (lengths called).log_sines (replicate most_angles (pos 0)) (few_log_sines called) call.read-body.last.1.1.1.1.1.1.1.0 call.read-body.kept.1.1.1.1.1.1.1.0
+      still_few (lengths called).log_sines (replicate most_angles (pos 0)) (few_log_sines called) call.read_body-reading.new.differences call.read_body-reading.auto.differences
 
   log_sides_held :
-      (lengths called).log_sides ≤ length (call.read-body.last.1.1.1.1.1.1.1.1.0 ++ drop (lengths called).log_sides (replicate most_sides 0))
+      (lengths called).log_sides ≤ length (call.read_body-reading.new.log_sides ++ drop (lengths called).log_sides (replicate most_sides 0))
   log_sides_held =
-      still_few (lengths called).log_sides (replicate most_sides 0) (few_log_sides called) call.read-body.last.1.1.1.1.1.1.1.1.0 call.read-body.kept.1.1.1.1.1.1.1.1.0
+      still_few (lengths called).log_sides (replicate most_sides 0) (few_log_sides called) call.read_body-reading.new.log_sides call.read_body-reading.auto.log_sides
 
   abbrev kind : Kind
   kind = called.before.before.before.args.kind
@@ -106,10 +106,10 @@ module _ (call : tie.After-read-body) where
   figure = called.before.before.before.args.figure
 
   abbrev sheet : List ℕ
-  sheet = now called.before.before.before.args.sheet
+  sheet = called.before.before.before.args.sheet.now
 
   abbrev reading : Reading
-  reading = call.read-body.result
+  reading = call.read_body-reading.result
 
   abbrev lent : Slices
   lent =
@@ -119,15 +119,15 @@ module _ (call : tie.After-read-body) where
 
   abbrev left : Slices
   left =
-      slices call.read-body.last.1.1.1.0 call.read-body.last.1.1.1.1.0 call.read-body.last.1.1.1.1.1.0
-      call.read-body.last.1.1.1.1.1.1.0 call.read-body.last.1.1.1.1.1.1.1.0 call.read-body.last.1.1.1.1.1.1.1.1.0
+      slices call.read_body-reading.new.angles call.read_body-reading.new.rounds call.read_body-reading.new.fixed
+      call.read_body-reading.new.log_sines call.read_body-reading.new.differences call.read_body-reading.new.log_sides
 
   -- what is lent on of an array begins with the reader's values, where it gives them
   stands : {A : Type 0} (pick : Slices → List A) (n : ℕ) (rest : List A) → length (pick left) ≡ n
       → take n (pick left ++ rest) ≡ after_reading reading (λ k g. pick (slices_of (values_read k g sheet))) (take n (pick left ++ rest))
   stands pick n rest size =
       at_start reading (λ k g. pick (slices_of (values_read k g sheet))) n (pick left) (pick lent) rest size
-      (left_of pick kind figure sheet lent left reading call.read-body.ensures)
+      (left_of pick kind figure sheet lent left reading call.read_body-reading.ensures)
 
 -- the text of one sheet is that of another that is equal to it
 retold : {one other : WorkedSheet} → one ≡ other → {start buffer : List ℕ} {end : ℕ}
@@ -136,52 +136,30 @@ retold e {start} {buffer} {end} held = subst (λ (s : WorkedSheet). Holds start 
 
 returns : tie.Need-returns
 returns c =
-    let call = c.before.before.before.before.before.before.before.before.before.before.before.before.before.before.before.before in
-    let at = called call in
-    let size = call.read-body.auto in
+    let at = called c.before.before.before.before.before.before.before.before.before.before.before.before.before.before.before.before in
     let angles = length-take-le {A = ℕ} (lengths at).angles (replicate most_angles 0) (few_angles at) in
     let fixed = length-take-le {A = ℕ} (lengths at).fixed (replicate most_fixed 0) (few_fixed at) in
     let log_sines_lem = length-take-le {A = ℕ} (lengths at).log_sines (replicate most_angles 0) (few_log_sines at) in
     let differences = length-take-le {A = ℤ} (lengths at).log_sines (replicate most_angles (pos 0)) (few_log_sines at) in
     let log_sides_lem = length-take-le {A = ℕ} (lengths at).log_sides (replicate most_sides 0) (few_log_sides at) in
-    let answer : List ℕ → Reading = λ lengths. reading_after (judged (body_rows (kind call) (figure call) (sheet call) lengths)) (kind call) (figure call) (sheet call) in
+    let answer : List ℕ → Reading = λ lengths. reading_after (judged (body_rows (kind c.before.before.before.before.before.before.before.before.before.before.before.before.before.before.before.before) (figure c.before.before.before.before.before.before.before.before.before.before.before.before.before.before.before.before) (sheet c.before.before.before.before.before.before.before.before.before.before.before.before.before.before.before.before) lengths)) (kind c.before.before.before.before.before.before.before.before.before.before.before.before.before.before.before.before) (figure c.before.before.before.before.before.before.before.before.before.before.before.before.before.before.before.before) (sheet c.before.before.before.before.before.before.before.before.before.before.before.before.before.before.before.before) in
     retold
-    (from_read (reading call) (sheet call) _ _ _ _ _ _
-    (stands call (λ (s : Slices). s.angles) (lengths at).angles (drop (lengths at).angles (replicate most_angles 0)) (size.1.1.1.0 ∙ angles))
-    (stands call (λ (s : Slices). s.rounds) (lengths at).angles (drop (lengths at).angles (replicate most_angles 0)) (size.1.1.1.1.0 ∙ angles))
-    (stands call (λ (s : Slices). s.fixed) (lengths at).fixed (drop (lengths at).fixed (replicate most_fixed 0)) (size.1.1.1.1.1.0 ∙ fixed))
-    (stands call (λ (s : Slices). s.log_sines) (lengths at).log_sines (drop (lengths at).log_sines (replicate most_angles 0))
-    (size.1.1.1.1.1.1.0 ∙ log_sines_lem))
-    (stands call (λ (s : Slices). s.differences) (lengths at).log_sines (drop (lengths at).log_sines (replicate most_angles (pos 0)))
-    (size.1.1.1.1.1.1.1.0 ∙ differences))
-    (stands call (λ (s : Slices). s.log_sides) (lengths at).log_sides (drop (lengths at).log_sides (replicate most_sides 0))
-    (size.1.1.1.1.1.1.1.1.0 ∙ log_sides_lem))
-    ∙ ap (λ (q : Reading). worked_read q (sheet call))
-    (call.read-body.ensures.answered
+    (from_read (reading c.before.before.before.before.before.before.before.before.before.before.before.before.before.before.before.before) (sheet c.before.before.before.before.before.before.before.before.before.before.before.before.before.before.before.before) _ _ _ _ _ _
+    (stands c.before.before.before.before.before.before.before.before.before.before.before.before.before.before.before.before (λ (s : Slices). s.angles) (lengths at).angles (drop (lengths at).angles (replicate most_angles 0)) (c.read_body-reading.auto.angles ∙ angles))
+    (stands c.before.before.before.before.before.before.before.before.before.before.before.before.before.before.before.before (λ (s : Slices). s.rounds) (lengths at).angles (drop (lengths at).angles (replicate most_angles 0)) (c.read_body-reading.auto.rounds ∙ angles))
+    (stands c.before.before.before.before.before.before.before.before.before.before.before.before.before.before.before.before (λ (s : Slices). s.fixed) (lengths at).fixed (drop (lengths at).fixed (replicate most_fixed 0)) (c.read_body-reading.auto.fixed ∙ fixed))
+    (stands c.before.before.before.before.before.before.before.before.before.before.before.before.before.before.before.before (λ (s : Slices). s.log_sines) (lengths at).log_sines (drop (lengths at).log_sines (replicate most_angles 0))
+    (c.read_body-reading.auto.log_sines ∙ log_sines_lem))
+    (stands c.before.before.before.before.before.before.before.before.before.before.before.before.before.before.before.before (λ (s : Slices). s.differences) (lengths at).log_sines (drop (lengths at).log_sines (replicate most_angles (pos 0)))
+    (c.read_body-reading.auto.differences ∙ differences))
+    (stands c.before.before.before.before.before.before.before.before.before.before.before.before.before.before.before.before (λ (s : Slices). s.log_sides) (lengths at).log_sides (drop (lengths at).log_sides (replicate most_sides 0))
+    (c.read_body-reading.auto.log_sides ∙ log_sides_lem))
+    ∙ ap (λ (q : Reading). worked_read q (sheet c.before.before.before.before.before.before.before.before.before.before.before.before.before.before.before.before))
+    (c.read_body-reading.ensures.answered
     ∙ (λ i. answer (angles i ∷ angles i ∷ fixed i ∷ log_sines_lem i ∷ differences i ∷ log_sides_lem i ∷ []))
-    ∙ ap (λ (l : Lengths). answer (l.angles ∷ l.angles ∷ l.fixed ∷ l.log_sines ∷ l.log_sines ∷ l.log_sides ∷ [])) at.lengths-of.ensures))
-    c.before.before.reading-lines.ensures
+    ∙ ap (λ (l : Lengths). answer (l.angles ∷ l.angles ∷ l.fixed ∷ l.log_sines ∷ l.log_sines ∷ l.log_sides ∷ [])) at.lengths_of-lengths.ensures))
+    c.reading_lines.ensures
 
 pub body_lines_spec : {M : Type 1} → statement M
 body_lines_spec =
-    tie.close (tie.spec (λ c κs. search needs) (λ c. few_angles c) (λ c. sym (length-take-le _ _ (few_angles c.before)))
-    (λ c. few_angles c.before) (λ c. sym (length-take-le _ _ (few_angles c.before.before))) (λ c. few_fixed c.before.before)
-    (λ c. sym (length-take-le _ _ (few_fixed c.before.before.before))) (λ c. few_log_sines c.before.before.before)
-    (λ c. sym (length-take-le _ _ (few_log_sines c.before.before.before.before)))
-    (λ c. few_log_sines c.before.before.before.before)
-    (λ c. sym (length-take-le _ _ (few_log_sines c.before.before.before.before.before)))
-    (λ c. few_log_sides c.before.before.before.before.before)
-    (λ c. sym (length-take-le _ _ (few_log_sides c.before.before.before.before.before.before))) (λ c κs. search needs)
-    (λ c. angles_held c.before.before.before.before.before.before.before)
-    (λ c. sym (length-take-le _ _ (angles_held c.before.before.before.before.before.before.before.before)))
-    (λ c. rounds_held_lem c.before.before.before.before.before.before.before.before)
-    (λ c. sym (length-take-le _ _ (rounds_held_lem c.before.before.before.before.before.before.before.before.before)))
-    (λ c. fixed_held c.before.before.before.before.before.before.before.before.before)
-    (λ c. sym (length-take-le _ _ (fixed_held c.before.before.before.before.before.before.before.before.before.before)))
-    (λ c. log_sines_held c.before.before.before.before.before.before.before.before.before.before)
-    (λ c. sym (length-take-le _ _ (log_sines_held c.before.before.before.before.before.before.before.before.before.before.before)))
-    (λ c. differences_held c.before.before.before.before.before.before.before.before.before.before.before)
-    (λ c. sym (length-take-le _ _ (differences_held c.before.before.before.before.before.before.before.before.before.before.before.before)))
-    (λ c. log_sides_held c.before.before.before.before.before.before.before.before.before.before.before.before)
-    (λ c. sym (length-take-le _ _ (log_sides_held c.before.before.before.before.before.before.before.before.before.before.before.before.before)))
-    (λ c κs. search needs) (λ c. search needs) returns)
+    tie.close (tie.spec (λ c κs. search rules) (λ c. few_angles c) (λ c. sym (length-take-le _ _ (few_angles c.before))) (λ c. few_angles c.before) (λ c. sym (length-take-le _ _ (few_angles c.before.before))) (λ c. few_fixed c.before.before) (λ c. sym (length-take-le _ _ (few_fixed c.before.before.before))) (λ c. few_log_sines c.before.before.before) (λ c. sym (length-take-le _ _ (few_log_sines c.before.before.before.before))) (λ c. few_log_sines c.before.before.before.before) (λ c. sym (length-take-le _ _ (few_log_sines c.before.before.before.before.before))) (λ c. few_log_sides c.before.before.before.before.before) (λ c. sym (length-take-le _ _ (few_log_sides c.before.before.before.before.before.before))) (λ c κs. search rules) (λ c. angles_held c.before.before.before.before.before.before.before) (λ c. sym (length-take-le _ _ (angles_held c.before.before.before.before.before.before.before.before))) (λ c. rounds_held_lem c.before.before.before.before.before.before.before.before) (λ c. sym (length-take-le _ _ (rounds_held_lem c.before.before.before.before.before.before.before.before.before))) (λ c. fixed_held c.before.before.before.before.before.before.before.before.before) (λ c. sym (length-take-le _ _ (fixed_held c.before.before.before.before.before.before.before.before.before.before))) (λ c. log_sines_held c.before.before.before.before.before.before.before.before.before.before) (λ c. sym (length-take-le _ _ (log_sines_held c.before.before.before.before.before.before.before.before.before.before.before))) (λ c. differences_held c.before.before.before.before.before.before.before.before.before.before.before) (λ c. sym (length-take-le _ _ (differences_held c.before.before.before.before.before.before.before.before.before.before.before.before))) (λ c. log_sides_held c.before.before.before.before.before.before.before.before.before.before.before.before) (λ c. sym (length-take-le _ _ (log_sides_held c.before.before.before.before.before.before.before.before.before.before.before.before.before))) (λ c κs. search rules) (λ c. search rules) returns)

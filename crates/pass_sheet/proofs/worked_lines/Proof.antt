@@ -1,6 +1,6 @@
 -- `pass_sheet::worked_lines` meets its contract: the look, and then the reading, and then the pass.
 use Rattle.std.specs.Prelude.{◌≡◌, List, ℕ}
-use Rattle.vocabulary.specs.{sym, ◌∙◌, subst, needs, now}
+use Rattle.vocabulary.specs.{sym, ◌∙◌, subst, rules}
 use Rattle.figures.specs.declared.Figure.{Figure}
 use Rattle.sheet_layout.specs.{declared.Kind.Kind, declared.head.Look.Look, declared.head.Look.TheVariants.Head, Head.look_of}
 use Rattle.text.specs.Holds.{Holds}
@@ -23,22 +23,18 @@ read_out sheet kind f found {start} {buffer} {end} held =
     looked sheet (Head kind f) found
     (subst (λ (q : Reading). Holds start (text_of (worked_read q sheet)) buffer end) (sym (head_found sheet (own_lengths kind f) kind f found)) held)
 
-returns : tie.Need-returns
+returns : tie.Need-returns-in-Refused
 unfolding text_of
 returns c =
-    let look = c.before.before.before.before.before.before.before in
-    looked (now look.before.before.before.args.sheet) _
-    (sym look.look_at.ensures ∙ c.before.before.before.before.before.refusal.given.1)
-    c.before.before.refused-lines.ensures
+    looked c.args.sheet.now _
+    (sym c.look_at.ensures ∙ c.in-Refused.is)
+    c.refused_lines.ensures
 
-returns-2 : tie.Need-returns-2
+returns-2 : tie.Need-returns-in-Head
 returns-2 c =
-    let look = c.before.before.before.before.before.before.before in
-    let head = c.before.before.before.before.before in
-    read_out (now look.before.before.before.args.sheet) _ _ (sym look.look_at.ensures ∙ head.kind.given.1)
-    c.before.before.body-lines.ensures
+    read_out c.args.sheet.now _ _ (sym c.look_at.ensures ∙ c.in-Head.is)
+    c.body_lines.ensures
 
 pub worked_lines_spec : {M : Type 1} → statement M
 worked_lines_spec =
-    tie.close (tie.spec (λ c κs. search needs) (λ c. search needs) (λ c κs. search needs) (λ c. search needs) (λ c κs. search needs)
-    (λ c. search needs) returns (λ c. search needs) returns-2)
+    tie.close (tie.spec (λ c κs. search rules) (λ c. search rules) (λ c κs. search rules) (λ c. search rules) (λ c κs. search rules) (λ c. search rules) returns (λ c. search rules) returns-2)

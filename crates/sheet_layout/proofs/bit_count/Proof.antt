@@ -1,7 +1,7 @@
 -- `sheet_layout::bit_count` meets its contract: what the arms compute is the width of the layout, for every figure, and a figure has few
 -- angles.
 use Rattle.std.specs.Prelude.{ℕ, ◌+◌, ◌*◌, ◌≡◌}
-use Rattle.vocabulary.specs.{sym, ap, ap₂, ◌∙◌, arith, needs}
+use Rattle.vocabulary.specs.{sym, ap, ap₂, ◌∙◌, arith, rules}
 use Rattle.figures.specs.{declared.Counts.Counts, declared.Figure.Figure, Figure.counts_of}
 use Rattle.sheet_layout.specs.{declared.Kind.Kind, declared.Pass.Pass, Kinds.pass_of, Kinds.carries_rounds, Kinds.of_pass}
 use Rattle.sheet_layout.specs.Layout.{rounds_bits, bit_count}
@@ -17,76 +17,59 @@ of_pass_lem kind f told is step own e =
     ap₂ (λ (r : Counts) (s : ℕ). of_pass told (22 + 23 * (r.angles + r.fixed)) (18 + 27 * r.sides + 65 * r.angles) + s * r.angles) is step
     ∙ ap (λ (p : Pass). bits_for p (carries_rounds kind) f) (sym e ∙ own) ∙ sym (pass_bits kind f)
 
-mul_rounds : tie.Need-overflow-mul-rounds
+mul_rounds : tie.Need-overflow_mul-rounds
 mul_rounds c =
-    let step = c.before in
-    let at = step.before in
-    let a = at.before.args in
-    omega (arith, few_rounds a.kind a.figure at.Counts-of.ensures step.rounds-step.ensures)
+    let a = c.args in
+    omega (arith, few_rounds a.kind a.figure c.counts_of-counts.ensures c.rounds_step.ensures)
 
-enum_told : tie.Need-enum-told
-enum_told c = search needs
+enum_told : tie.Need-enum_told-1
+enum_told c = search rules
 
-add_result : tie.Need-overflow-add-result
+add_result : tie.Need-overflow_add-result
 add_result c =
-    let at = c.before.before.before.before.before.before in
-    omega (arith, few_angles at.before.args.figure at.Counts-of.ensures, few_fixed at.before.args.figure at.Counts-of.ensures)
+    omega (arith, few_angles c.args.figure c.counts_of-counts.ensures, few_fixed c.args.figure c.counts_of-counts.ensures)
 
-mul_result : tie.Need-overflow-mul-result
+mul_result : tie.Need-overflow_mul-result
 mul_result c =
-    let at = c.before.before.before.before.before.before in
-    omega (arith, few_angles at.before.args.figure at.Counts-of.ensures, few_fixed at.before.args.figure at.Counts-of.ensures)
+    omega (arith, few_angles c.args.figure c.counts_of-counts.ensures, few_fixed c.args.figure c.counts_of-counts.ensures)
 
-add_result-2 : tie.Need-overflow-add-result-2
+add_result-2 : tie.Need-overflow_add-result-in-First
 add_result-2 c =
-    let at = c.before.before.before.before.before.before in
-    omega (arith, few_angles at.before.args.figure at.Counts-of.ensures, few_fixed at.before.args.figure at.Counts-of.ensures)
+    omega (arith, few_angles c.args.figure c.counts_of-counts.ensures, few_fixed c.args.figure c.counts_of-counts.ensures)
 
-add_result-3 : tie.Need-overflow-add-result-3
+add_result-3 : tie.Need-overflow_add-result-in-First-2
 add_result-3 c =
-    let step = c.before.before.before.before.before in
-    let at = step.before in
-    let a = at.before.args in
-    omega (arith, few_angles a.figure at.Counts-of.ensures, few_fixed a.figure at.Counts-of.ensures, few_rounds a.kind a.figure at.Counts-of.ensures step.rounds-step.ensures)
+    let a = c.args in
+    omega (arith, few_angles a.figure c.counts_of-counts.ensures, few_fixed a.figure c.counts_of-counts.ensures, few_rounds a.kind a.figure c.counts_of-counts.ensures c.rounds_step.ensures)
 
-mul_result-2 : tie.Need-overflow-mul-result-2
-mul_result-2 c = let at = c.before.before.before.before.before.before in omega (arith, few_sides at.before.args.figure at.Counts-of.ensures)
+mul_result-2 : tie.Need-overflow_mul-result-in-Second
+mul_result-2 c = omega (arith, few_sides c.args.figure c.counts_of-counts.ensures)
 
-add_result-4 : tie.Need-overflow-add-result-4
-add_result-4 c = let at = c.before.before.before.before.before.before in omega (arith, few_sides at.before.args.figure at.Counts-of.ensures)
+add_result-4 : tie.Need-overflow_add-result-in-Second
+add_result-4 c = omega (arith, few_sides c.args.figure c.counts_of-counts.ensures)
 
-mul_result-3 : tie.Need-overflow-mul-result-3
-mul_result-3 c = let at = c.before.before.before.before.before.before.before in omega (arith, few_angles at.before.args.figure at.Counts-of.ensures)
+mul_result-3 : tie.Need-overflow_mul-result-in-Second-2
+mul_result-3 c = omega (arith, few_angles c.args.figure c.counts_of-counts.ensures)
 
-add_result-5 : tie.Need-overflow-add-result-5
+add_result-5 : tie.Need-overflow_add-result-in-Second-2
 add_result-5 c =
-    let at = c.before.before.before.before.before.before.before in
-    omega (arith, few_angles at.before.args.figure at.Counts-of.ensures, few_sides at.before.args.figure at.Counts-of.ensures)
+    omega (arith, few_angles c.args.figure c.counts_of-counts.ensures, few_sides c.args.figure c.counts_of-counts.ensures)
 
-add_result-6 : tie.Need-overflow-add-result-6
+add_result-6 : tie.Need-overflow_add-result-in-Second-3
 add_result-6 c =
-    let step = c.before.before.before.before.before.before in
-    let at = step.before in
-    let a = at.before.args in
-    omega (arith, few_angles a.figure at.Counts-of.ensures, few_sides a.figure at.Counts-of.ensures, few_rounds a.kind a.figure at.Counts-of.ensures step.rounds-step.ensures)
+    let a = c.args in
+    omega (arith, few_angles a.figure c.counts_of-counts.ensures, few_sides a.figure c.counts_of-counts.ensures, few_rounds a.kind a.figure c.counts_of-counts.ensures c.rounds_step.ensures)
 
-returns : tie.Need-returns
+returns : tie.Need-returns-in-First
 returns c =
-    let pass = c.before.before.before in
-    let step = pass.before.before in
-    let at = step.before in
-    let a = at.before.args in
-    of_pass_lem a.kind a.figure Pass.First at.Counts-of.ensures step.rounds-step.ensures pass.pass_of.ensures c.before.enum_told.given.1
+    let a = c.args in
+    of_pass_lem a.kind a.figure Pass.First c.counts_of-counts.ensures c.rounds_step.ensures c.pass_of.ensures c.in-First.is
 
-returns-2 : tie.Need-returns-2
+returns-2 : tie.Need-returns-in-Second
 returns-2 c =
-    let pass = c.before.before.before.before in
-    let step = pass.before.before in
-    let at = step.before in
-    let a = at.before.args in
-    of_pass_lem a.kind a.figure Pass.Second at.Counts-of.ensures step.rounds-step.ensures pass.pass_of.ensures c.before.before.enum-told2.given.1
+    let a = c.args in
+    of_pass_lem a.kind a.figure Pass.Second c.counts_of-counts.ensures c.rounds_step.ensures c.pass_of.ensures c.in-Second.is
 
 pub bit_count_spec : {M : Type 1} → statement M
 bit_count_spec =
-    tie.close (tie.spec (λ c κs. search needs) (λ c κs. search needs) mul_rounds (λ c κs. search needs) enum_told add_result mul_result
-    add_result-2 add_result-3 (λ c. search needs) mul_result-2 add_result-4 mul_result-3 add_result-5 add_result-6 returns returns-2)
+    tie.close (tie.spec (λ c κs. search rules) (λ c κs. search rules) mul_rounds (λ c κs. search rules) enum_told add_result mul_result add_result-2 add_result-3 (λ c. search rules) mul_result-2 add_result-4 mul_result-3 add_result-5 add_result-6 returns returns-2)

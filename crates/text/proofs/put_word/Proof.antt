@@ -6,27 +6,27 @@ use Rattle.text.proofs.Laying.{laid_past, laid_whole, laid_cut, after_none, afte
 use Rattle.text.proofs.put_word.Statement.{statement}
 use Rattle.text.proofs.put_word.Tie as tie
 
-abbrev invariant-loop : tie.invariant-loop
+abbrev invariant-loop : tie.invariant-loop-done
 invariant-loop buffer₀ at word size room done₀ buffer done =
     (done ≤ length word) × (done ≤ room) × (length buffer ≡ length buffer₀) × (buffer ≡ paste buffer₀ at word done)
 
-abbrev decreases-loop : tie.decreases-loop
+abbrev decreases-loop : tie.decreases-loop-done
 decreases-loop buffer₀ at word size room done₀ buffer done = length word - done
 
-returns-2 : tie.Need-returns-2 invariant-loop decreases-loop
+returns-2 : tie.Need-returns-then-done-room invariant-loop decreases-loop
 returns-2 c =
-    let a = c.before.before.before.before.args in
-    let loop = c.before.before.loop in
+    let a = c.args in
+    let loop = c.loop-done in
     let cut : loop.done ≡ length a.buffer.now - a.at = omega arith in (
       loop.invariant.3 ∙ ap (paste a.buffer.now a.at a.word.now) cut
           ∙ sym (laid_cut a.buffer.now a.at a.word.now (omega arith) (omega arith)),
       sym (after_none _ _ _ (omega arith)),
     )
 
-loop_again : tie.Need-loop-preserved invariant-loop decreases-loop
+loop_again : tie.Need-loop-done-preserved invariant-loop decreases-loop
 loop_again c =
-    let a = c.before.before.before.before.before.args in
-    let loop = c.before.before.before.loop in (
+    let a = c.args in
+    let loop = c.loop-done in (
       omega arith,
       omega arith,
       simp length-set (omega arith),
@@ -35,10 +35,10 @@ loop_again c =
           ∙ ap (paste a.buffer.now a.at a.word.now) (sym (add-one loop.done)),
     )
 
-returns-3 : tie.Need-returns-3 invariant-loop decreases-loop
+returns-3 : tie.Need-returns invariant-loop decreases-loop
 returns-3 c =
-    let a = c.before.before.before.args in
-    let loop = c.before.loop in
+    let a = c.args in
+    let loop = c.loop-done in
     let all : loop.done ≡ length a.word.now = omega arith in
     let room : a.at + length a.word.now ≤ length a.buffer.now = omega arith in (
       loop.invariant.3 ∙ ap (paste a.buffer.now a.at a.word.now) all ∙ sym (laid_whole a.buffer.now a.at a.word.now room),
@@ -47,8 +47,4 @@ returns-3 c =
 
 pub put_word_spec : {M : Type 1} → statement M
 put_word_spec =
-    tie.close (tie.spec invariant-loop decreases-loop (λ c. omega arith)
-    (λ c. (sym (laid_past _ _ _ (omega arith)), sym (after_none _ _ _ (omega arith))))
-    (λ c. let a = c.before.args in (omega arith, omega arith, omega arith, paste-zero a.buffer.now a.at a.word.now))
-    (λ c. omega arith) (λ c. omega arith) returns-2 (λ c. omega arith) (λ c. omega arith) (λ c. omega arith) (λ c. omega arith)
-    (λ c. omega arith) loop_again (λ c. omega arith) (λ c. omega arith) returns-3)
+    tie.close (tie.spec invariant-loop decreases-loop (λ c. omega arith) (λ c. (sym (laid_past _ _ _ (omega arith)), sym (after_none _ _ _ (omega arith)))) (λ c. let a = c.args in (omega arith, omega arith, omega arith, paste-zero a.buffer.now a.at a.word.now)) (λ c. omega arith) (λ c. omega arith) returns-2 (λ c. omega arith) (λ c. omega arith) (λ c. omega arith) (λ c. omega arith) (λ c. omega arith) loop_again (λ c. omega arith) (λ c. omega arith) returns-3)

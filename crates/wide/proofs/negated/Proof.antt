@@ -6,7 +6,7 @@ use Rattle.wide.proofs.negated.Tie as tie
 
 returns : tie.Need-returns
 unfolding value_of
-returns c = let a = c.before.before.args.a in signed_not a.negative (size_of a.size)
+returns c = let a = c.args.a in signed_not a.negative (size_of a.size)
 
 pub negated_spec : {M : Type 1} → statement M
 negated_spec = tie.close (tie.spec returns)

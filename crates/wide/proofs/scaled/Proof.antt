@@ -1,6 +1,6 @@
 -- `wide::scaled` meets its contract: the size times the factor's magnitude, below zero where one of the two is.
 use Rattle.std.specs.Prelude.{ℤ, pos, nat_abs, ◌*ℤ◌, ◌*◌}
-use Rattle.vocabulary.specs.{sym, ap, ◌∙◌, needs, lt_z, to_z-of_z}
+use Rattle.vocabulary.specs.{sym, ap, ◌∙◌, rules, lt_z, to_z-of_z}
 use Rattle.wide.specs.Wide.{size_of, signed, value_of, held}
 use Rattle.wide.proofs.Signs.{signed_own, signed_product, held_signed}
 use Rattle.wide.proofs.scaled.Statement.{statement}
@@ -9,14 +9,11 @@ use Rattle.wide.proofs.scaled.Tie as tie
 returns : tie.Need-returns
 unfolding value_of
 returns c =
-    let product = c.before in
-    let factor = product.before in
-    let start = factor.before in
-    let a = start.args.a in
-    let k = start.args.factor in
+    let a = c.args.a in
+    let k = c.args.factor in
     let n = size_of a.size in
-    rw (product.size-scaled.ensures, factor.magnitude.ensures, to_z-of_z start.ranges.factor)
+    rw (c.size_scaled-size.ensures, c.magnitude.ensures, to_z-of_z c.ranges.factor)
     (sym (held_signed _ (n * nat_abs k)) ∙ ap held (signed_product a.negative (lt_z k (pos 0)) n (nat_abs k) ∙ ap (λ (z : ℤ). signed a.negative n *ℤ z) (signed_own k)))
 
 pub scaled_spec : {M : Type 1} → statement M
-scaled_spec = tie.close (tie.spec (λ c κs. search needs) (λ c κs. search needs) returns)
+scaled_spec = tie.close (tie.spec (λ c κs. search rules) (λ c κs. search rules) returns)

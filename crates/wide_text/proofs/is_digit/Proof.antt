@@ -5,5 +5,4 @@ use Rattle.wide_text.proofs.is_digit.Tie as tie
 
 pub is_digit_spec : {M : Type 1} → statement M
 is_digit_spec =
-    tie.close (tie.spec (λ c. digit_low c.before.before.before.args.size c.before.if1.true)
-    (λ c. digit_high c.before.before.args.size c.if1.false))
+    tie.close (tie.spec (λ c. digit_low c.args.size c.if-size-eq0.true) (λ c. digit_high c.args.size c.if-size-eq0.false))

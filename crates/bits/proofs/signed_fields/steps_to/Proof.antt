@@ -23,30 +23,25 @@ module _ (z : ℤ) (f : SFits w32 z) (t : le_z (pos 0) (word z) ≡ false) where
   steps_word : word (negsuc 0 -ℤ word z) ≡ pos (mag z)
   steps_word = ap word steps ∙ to_z_of_z_at w32 (pos (mag z)) (record { sfits = f.sfits })
 
-cast_result : tie.Need-overflow-cast-result
+cast_result : tie.Need-overflow_cast-result
 cast_result c =
-    let start = c.before in
-    let z = start.args.value in
-    subst (λ (y : ℤ). T (non_neg y) × Fits w32 (nat_abs y)) (sym (not_negative (word z) c.if1.true))
-    (tt, record { fits = omega (arith, ap mag (to_z_of_z_at w32 z start.ranges.value), start.ranges.value.sfits) })
+    let z = c.args.value in
+    subst (λ (y : ℤ). T (non_neg y) × Fits w32 (nat_abs y)) (sym (not_negative (word z) c.if-value-ge0.true))
+    (tt, record { fits = omega (arith, ap mag (to_z_of_z_at w32 z c.ranges.value), c.ranges.value.sfits) })
 
-returns : tie.Need-returns
+returns : tie.Need-returns-then-value-ge0
 returns c =
-    let start = c.before in
-    ap nat_abs (not_negative (word start.args.value) c.if1.true) ∙ ap mag (to_z_of_z_at w32 start.args.value start.ranges.value)
+    ap nat_abs (not_negative (word c.args.value) c.if-value-ge0.true) ∙ ap mag (to_z_of_z_at w32 c.args.value c.ranges.value)
 
-sub_result : tie.Need-overflow-sub-result
+sub_result : tie.Need-overflow_sub-result
 sub_result c =
-    let start = c.before in
-    subst (SFits w32) (sym (steps start.args.value start.ranges.value c.if1.false)) (record { sfits = start.ranges.value.sfits })
+    subst (SFits w32) (sym (steps c.args.value c.ranges.value c.if-value-ge0.false)) (record { sfits = c.ranges.value.sfits })
 
-cast_result-2 : tie.Need-overflow-cast-result-2
+cast_result-2 : tie.Need-overflow_cast-result-else-value-ge0
 cast_result-2 c =
-    let start = c.before in
-    subst (λ (y : ℤ). T (non_neg y) × Fits w32 (nat_abs y)) (sym (steps_word start.args.value start.ranges.value c.if1.false))
-    (tt, record { fits = omega (arith, start.ranges.value.sfits) })
+    subst (λ (y : ℤ). T (non_neg y) × Fits w32 (nat_abs y)) (sym (steps_word c.args.value c.ranges.value c.if-value-ge0.false))
+    (tt, record { fits = omega (arith, c.ranges.value.sfits) })
 
 pub steps_to_spec : {M : Type 1} → statement M
 steps_to_spec =
-    tie.close (tie.spec cast_result sub_result cast_result-2 returns
-    (λ c. let start = c.before in ap nat_abs (steps_word start.args.value start.ranges.value c.if1.false)))
+    tie.close (tie.spec cast_result sub_result cast_result-2 returns (λ c. ap nat_abs (steps_word c.args.value c.ranges.value c.if-value-ge0.false)))

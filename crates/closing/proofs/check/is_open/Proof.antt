@@ -5,18 +5,16 @@ use Rattle.vocabulary.specs.{sym, ap, ◌∙◌, lt_z, to_z-of_z}
 use Rattle.closing.proofs.check.is_open.Statement.{statement}
 use Rattle.closing.proofs.check.is_open.Tie as tie
 
-returns : tie.Need-returns
+returns : tie.Need-returns-then-rest-lt0
 returns c =
-    let s = c.before in
-    let rest = s.args.rest in
-    c.if1.true ∙ sym (ap (λ (first : Bool). first || lt_z (pos 0) rest) (ap (λ (z : ℤ). lt_z z (pos 0)) (sym (to_z-of_z s.ranges.rest)) ∙ c.if1.true))
+    let rest = c.args.rest in
+    c.if-rest-lt0.true ∙ sym (ap (λ (first : Bool). first || lt_z (pos 0) rest) (ap (λ (z : ℤ). lt_z z (pos 0)) (sym (to_z-of_z c.ranges.rest)) ∙ c.if-rest-lt0.true))
 
-returns-2 : tie.Need-returns-2
+returns-2 : tie.Need-returns-else-rest-lt0
 returns-2 c =
-    let s = c.before in
-    let rest = s.args.rest in
-    ap (λ (z : ℤ). lt_z (pos 0) z) (to_z-of_z s.ranges.rest)
-    ∙ sym (ap (λ (first : Bool). first || lt_z (pos 0) rest) (ap (λ (z : ℤ). lt_z z (pos 0)) (sym (to_z-of_z s.ranges.rest)) ∙ c.if1.false))
+    let rest = c.args.rest in
+    ap (λ (z : ℤ). lt_z (pos 0) z) (to_z-of_z c.ranges.rest)
+    ∙ sym (ap (λ (first : Bool). first || lt_z (pos 0) rest) (ap (λ (z : ℤ). lt_z z (pos 0)) (sym (to_z-of_z c.ranges.rest)) ∙ c.if-rest-lt0.false))
 
 pub is_open_spec : {M : Type 1} → statement M
 is_open_spec = tie.close (tie.spec returns returns-2)

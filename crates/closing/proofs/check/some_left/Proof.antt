@@ -1,6 +1,6 @@
 -- `closing::check::some_left` meets its contract. The invariant: every rest passed so far is 0.
 use Rattle.std.specs.Prelude.{ℕ, suc, ◌-◌, ◌≤◌, Bool, false, List, ◌≡◌, ℤ, pos, ◌+ℤ◌, length}
-use Rattle.vocabulary.specs.{sym, ap, ap₂, ◌∙◌, arith, now, w32, SFits, to_z, of_z, to_z-of_z}
+use Rattle.vocabulary.specs.{sym, ap, ap₂, ◌∙◌, arith, w32, SFits, to_z, of_z, to_z-of_z}
 use Rattle.whole.specs.Sums.{vector}
 use Rattle.whole.proofs.{Lists.length_listed, Magnitudes.nat_abs_add, Magnitudes.magnitude_fits}
 use Rattle.refusals.specs.{Numbers.numbered, Questions.asked, Questions.outside_signed, Questions.any_place}
@@ -17,70 +17,62 @@ test w sums p = asked (outside_signed (pos 0) (pos 0) (numbered (each_with w sum
 over_all : (w sums : List ℤ) → any_place (length w) (test w sums) ≡ any_place (length (each_with w sums)) (test w sums)
 over_all w sums = ap (λ (n : ℕ). any_place n (test w sums)) (sym (length_listed (length w) (λ j. vector w j +ℤ vector sums j)))
 
-abbrev invariant-loop : tie.invariant-loop
+abbrev invariant-loop : tie.invariant-loop-j
 invariant-loop misclosures sums j₀ j = (j ≤ length misclosures) × (any_place j (test misclosures sums) ≡ false)
 
-abbrev decreases-loop : tie.decreases-loop
+abbrev decreases-loop : tie.decreases-loop-j
 decreases-loop misclosures sums j₀ j = length misclosures - j
 
-module _ (c : tie.After-is-open-arg2 invariant-loop decreases-loop) where
-  abbrev at : tie.At-loop invariant-loop decreases-loop
+module _ (c : tie.After-is_open-arg-in-loop-j-1 invariant-loop decreases-loop) where
+  abbrev at : tie.At-loop-j invariant-loop decreases-loop
   at = c.before.before.before
 
   abbrev start : tie.Start invariant-loop decreases-loop
   start = at.before
 
   abbrev j : ℕ
-  j = at.loop.j
+  j = at.loop-j.j
 
   abbrev misclosure : ℤ
-  misclosure = vector (now start.args.misclosures) j
+  misclosure = vector start.args.misclosures.now j
 
   abbrev total : ℤ
-  total = vector (now start.args.sums) j
+  total = vector start.args.sums.now j
 
   both : to_z w32 (of_z w32 misclosure) +ℤ to_z w32 (of_z w32 total) ≡ misclosure +ℤ total
   both =
-      ap₂ ◌+ℤ◌ (to_z-of_z {z = misclosure} (record { sfits = c.before.is-open-arg.given }))
-      (to_z-of_z {z = total} (record { sfits = c.is-open-arg2.given }))
+      ap₂ ◌+ℤ◌ (to_z-of_z {w = w32} {z = misclosure} (record { sfits = c.is_open-arg-1.given }))
+      (to_z-of_z {w = w32} {z = total} (record { sfits = c.is_open-arg-in-loop-j-1.given }))
 
   in_range : SFits w32 (misclosure +ℤ total)
-  in_range = magnitude_fits w32 (misclosure +ℤ total) (omega (arith, nat_abs_add misclosure total, start.pre.1.0 j, start.pre.1.1 j))
+  in_range = magnitude_fits w32 (misclosure +ℤ total) (omega (arith, nat_abs_add misclosure total, start.requires.1.0 j, start.requires.1.1 j))
 
 -- the call has tested the next place
-module _ (c : tie.After-is-open invariant-loop decreases-loop) where
+module _ (c : tie.After-is_open invariant-loop decreases-loop) where
   abbrev own : ℕ → Bool
-  own = test (now (start c.before).args.misclosures) (now (start c.before).args.sums)
+  own = test (c.args.misclosures.now) (c.args.sums.now)
 
   tested : own (suc (j c.before)) ≡ c.is_open.result
   tested =
-      let k = c.before in
-      let w = now (start k).args.misclosures in
-      let sums = now (start k).args.sums in
+      let w = (start c.before).args.misclosures.now in
+      let sums = (start c.before).args.sums.now in
       ap (λ (z : ℤ). asked (outside_signed (pos 0) (pos 0) z))
-      (listed_at (length w) (λ i. vector w i +ℤ vector sums i) (j k) (omega arith)
-      ∙ sym (ap (λ (z : ℤ). to_z w32 (of_z w32 z)) (both k) ∙ to_z-of_z (in_range k)))
+      (listed_at (length w) (λ i. vector w i +ℤ vector sums i) (j c.before) (omega arith)
+      ∙ sym (ap (λ (z : ℤ). to_z w32 (of_z w32 z)) (both c.before) ∙ to_z-of_z (in_range c.before)))
       ∙ sym c.is_open.ensures
 
-returns : tie.Need-returns invariant-loop decreases-loop
+returns : tie.Need-returns-then-is_open invariant-loop decreases-loop
 returns c =
-    let k = c.before in
-    let s = start k.before in
-    sym (sym (over_all (now s.args.misclosures) (now s.args.sums))
-    ∙ found (own k) (length (now s.args.misclosures)) (j k.before) (omega arith) (tested k ∙ c.if1.true))
+    let s = start c.before.before in
+    sym (sym (over_all s.args.misclosures.now s.args.sums.now)
+    ∙ found (own c.before) (length s.args.misclosures.now) (j c.before.before) (omega arith) (tested c.before ∙ c.if-is_open.true))
 
-returns-2 : tie.Need-returns-2 invariant-loop decreases-loop
+returns-2 : tie.Need-returns invariant-loop decreases-loop
 returns-2 c =
-    let a = c.before in
-    let s = a.before in
-    let w = now s.args.misclosures in
-    let sums = now s.args.sums in
-    sym (sym (over_all w sums) ∙ nowhere (test w sums) a.loop.j (length w) a.loop.invariant.1 (omega arith) a.loop.invariant.0)
+    let w = c.args.misclosures.now in
+    let sums = c.args.sums.now in
+    sym (sym (over_all w sums) ∙ nowhere (test w sums) c.loop-j.j (length w) c.loop-j.invariant.1 (omega arith) c.loop-j.invariant.0)
 
 pub some_left_spec : {M : Type 1} → statement M
 some_left_spec =
-    tie.close (tie.spec invariant-loop decreases-loop (λ c. (omega arith, none_found (test (now c.args.misclosures) (now c.args.sums))))
-    (λ c. omega arith) (λ c. omega arith) (λ c. omega arith) (λ c. omega (arith, c.before.before.before.requires.0))
-    (λ c. rw (both c) (in_range c)) (λ c κs. tt) returns (λ c. omega arith) (λ c. omega arith)
-    (λ c. let k = c.before in (omega arith, one_more (own k) (j k.before) (at k.before).loop.invariant.1 (tested k ∙ c.if1.false)))
-    returns-2)
+    tie.close (tie.spec invariant-loop decreases-loop (λ c. (omega arith, none_found (test c.args.misclosures.now c.args.sums.now))) (λ c. omega arith) (λ c. omega arith) (λ c. omega arith) (λ c. omega (arith, c.requires.0)) (λ c. rw (both c) (in_range c)) (λ c κs. tt) returns (λ c. omega arith) (λ c. omega arith) (λ c. (omega arith, one_more (own c.before) (j c.before.before) (at c.before.before).loop-j.invariant.1 (tested c.before ∙ c.if-is_open.false))) returns-2)

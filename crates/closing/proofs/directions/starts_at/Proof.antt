@@ -1,6 +1,6 @@
 -- `closing::directions::starts_at` meets its contract: the data of each family, by the index.
 use Rattle.std.specs.Prelude.{Bool, cond, ◌≡◌, ℕ, ◌+◌, ◌-◌, ◌%◌, eqb, get_or}
-use Rattle.vocabulary.specs.{sym, ap, ◌∙◌, arith, needs, eq-eqb, ne_eqb}
+use Rattle.vocabulary.specs.{sym, ap, ◌∙◌, arith, rules, eq-eqb, ne_eqb}
 use Rattle.figures.proofs.Figures.{angle_bound}
 use Rattle.pass_steps.proofs.Polygons.{is_point_inside_lem, is_polygon_lem}
 use Rattle.closing.specs.Choice.{starts_at}
@@ -9,57 +9,46 @@ use Rattle.closing.proofs.directions.starts_at.Statement.{statement}
 use Rattle.closing.proofs.directions.starts_at.Tie as tie
 
 -- of code 2
-module _ (c : tie.At-match-keys2) where
+module _ (c : tie.In-PointInTriangle) where
   abbrev i : ℕ
-  i = c.before.args.i
+  i = c.args.i
 
-  at_corners_lem : get_or (starts_at c.before.args.figure) i 0 ≡ at_corners i
-  at_corners_lem = from_corners c.before.args.figure (is_point_inside_lem c.before.args.figure c.match.keys2) i c.before.requires
+  at_corners_lem : get_or (starts_at c.args.figure) i 0 ≡ at_corners i
+  at_corners_lem = from_corners c.args.figure (is_point_inside_lem c.args.figure c.in-PointInTriangle.in-PointInTriangle-own.keys2) i c.requires
 
-returns-2 : tie.Need-returns-2
+returns-2 : tie.Need-returns-then-i-eq0
 returns-2 c =
-    let k = c.before in
-    sym (at_corners_lem k ∙ ap (λ (b : Bool). cond b (i k + 3) (cond (eqb (i k % 3) 1) (i k) 0)) (eq-eqb (i k % 3) 0 c.if1.true))
+    sym (at_corners_lem c.before ∙ ap (λ (b : Bool). cond b (i c.before + 3) (cond (eqb (i c.before % 3) 1) (i c.before) 0)) (eq-eqb (i c.before % 3) 0 c.if-i-eq0.true))
 
 -- not the first of its triangle
-second : (c : tie.Else1) → get_or (starts_at c.before.before.args.figure) (i c.before) 0 ≡ cond (eqb (i c.before % 3) 1) (i c.before) 0
+second : (c : tie.Else-i-eq0) → get_or (starts_at c.args.figure) (i c.before) 0 ≡ cond (eqb (i c.before % 3) 1) (i c.before) 0
 second c =
-    let k = c.before in
-    at_corners_lem k ∙ ap (λ (b : Bool). cond b (i k + 3) (cond (eqb (i k % 3) 1) (i k) 0)) (ne_eqb (i k % 3) 0 c.if1.false)
+    at_corners_lem c.before ∙ ap (λ (b : Bool). cond b (i c.before + 3) (cond (eqb (i c.before % 3) 1) (i c.before) 0)) (ne_eqb (i c.before % 3) 0 c.if-i-eq0.false)
 
 -- of code 3
-module _ (c : tie.At-match-keys3) where
+module _ (c : tie.In_default) where
   abbrev j : ℕ
-  j = c.before.args.i
+  j = c.args.i
 
-  round : get_or (starts_at c.before.args.figure) j 0 ≡ round_point j
-  round = round_point_lem c.before.args.figure (is_polygon_lem c.before.args.figure c.match.keys3) j c.before.requires
+  round : get_or (starts_at c.args.figure) j 0 ≡ round_point j
+  round = round_point_lem c.args.figure (is_polygon_lem c.args.figure c.in_default.in_default-own.keys3) j c.requires
 
-inner_angle : (c : tie.Then3) → get_or (starts_at c.before.before.args.figure) (j c.before) 0 ≡ cond (eqb (j c.before) 0) 0 (j c.before - 2)
+inner_angle : (c : tie.Then-i-eq0-2) → get_or (starts_at c.args.figure) (j c.before) 0 ≡ cond (eqb (j c.before) 0) 0 (j c.before - 2)
 inner_angle c =
-    let k = c.before in
-    round k ∙ ap (λ (b : Bool). cond b (cond (eqb (j k) 0) 0 (j k - 2)) (j k)) (eq-eqb (j k % 3) 0 c.if3.true)
+    round c.before ∙ ap (λ (b : Bool). cond b (cond (eqb (j c.before) 0) 0 (j c.before - 2)) (j c.before)) (eq-eqb (j c.before % 3) 0 c.if-i-eq0-2.true)
 
-returns-5 : tie.Need-returns-5
+returns-5 : tie.Need-returns-then-i-eq0-3
 returns-5 c =
-    let k = c.before.before in
-    sym (inner_angle c.before ∙ ap (λ (b : Bool). cond b 0 (j k - 2)) (eq-eqb (j k) 0 c.if4.true))
+    sym (inner_angle c.before ∙ ap (λ (b : Bool). cond b 0 (j c.before.before - 2)) (eq-eqb (j c.before.before) 0 c.if-i-eq0-3.true))
 
-returns-6 : tie.Need-returns-6
+returns-6 : tie.Need-returns-else-i-eq0-3
 returns-6 c =
-    let k = c.before.before in
-    sym (inner_angle c.before ∙ ap (λ (b : Bool). cond b 0 (j k - 2)) (ne_eqb (j k) 0 c.if4.false))
+    sym (inner_angle c.before ∙ ap (λ (b : Bool). cond b 0 (j c.before.before - 2)) (ne_eqb (j c.before.before) 0 c.if-i-eq0-3.false))
 
-returns-7 : tie.Need-returns-7
+returns-7 : tie.Need-returns-else-i-eq0-2
 returns-7 c =
-    let k = c.before in
-    sym (round k ∙ ap (λ (b : Bool). cond b (cond (eqb (j k) 0) 0 (j k - 2)) (j k)) (ne_eqb (j k % 3) 0 c.if3.false))
+    sym (round c.before ∙ ap (λ (b : Bool). cond b (cond (eqb (j c.before) 0) 0 (j c.before - 2)) (j c.before)) (ne_eqb (j c.before % 3) 0 c.if-i-eq0-2.false))
 
 pub starts_at_spec : {M : Type 1} → statement M
 starts_at_spec =
-    tie.close (tie.spec (λ c. search needs) (λ c. omega (arith, c.before.before.requires, angle_bound c.before.before.args.figure))
-    (λ c. search needs)
-    (λ c. let s = c.before.before in sym (after_another s.args.figure c.enum_told.given.1 s.args.i s.requires)) returns-2
-    (λ c. let k = c.before.before in sym (second c.before ∙ ap (λ (b : Bool). cond b (i k) 0) (eq-eqb (i k % 3) 1 c.if2.true)))
-    (λ c. let k = c.before.before in sym (second c.before ∙ ap (λ (b : Bool). cond b (i k) 0) (ne_eqb (i k % 3) 1 c.if2.false)))
-    returns-5 returns-6 returns-7)
+    tie.close (tie.spec (λ c. search rules) (λ c. omega (arith, c.requires, angle_bound c.args.figure)) (λ c. search rules) (λ c. sym (after_another c.args.figure c.in-Quadrilateral.is c.args.i c.requires)) returns-2 (λ c. sym (second c.before ∙ ap (λ (b : Bool). cond b (i c.before.before) 0) (eq-eqb (i c.before.before % 3) 1 c.if-i-eq1.true))) (λ c. sym (second c.before ∙ ap (λ (b : Bool). cond b (i c.before.before) 0) (ne_eqb (i c.before.before % 3) 1 c.if-i-eq1.false))) returns-5 returns-6 returns-7)

@@ -1,6 +1,6 @@
 -- `controller::rounding::bienguloc_closing` meets its contract.
 use Rattle.std.specs.Prelude.{ℕ, ◌<◌, List, ◌≡◌, ℤ}
-use Rattle.vocabulary.specs.{sym, ap, subst, ◌∙◌, needs, now}
+use Rattle.vocabulary.specs.{sym, ap, subst, ◌∙◌, rules}
 use Rattle.refusals.specs.{declared.Verdict.Verdict, Numbers.verdict_told}
 use Rattle.pass_rules.specs.Promises.{FirstGiven, first_given}
 use Rattle.closing.specs.Promises.{closing_rows, ClosingPromise}
@@ -19,26 +19,23 @@ module _ (given : FirstGiven) (entry : List ℤ) {verdict : Verdict} {exit : Lis
   answered : {answer : ℕ} → answer ≡ answer_number (verdict_told verdict) → ClosingPassPromise given entry answer exit
   answered e = record { answered = e ∙ ap (λ (w : Verdict). answer_number (verdict_told w)) promise.answered; leaves = promise.leaves }
 
-abbrev start : tie.After-closing-corrections → tie.Start
+abbrev start : tie.After-closing_corrections → tie.Start
 start c = c.before.before.before.before.before
 
 abbrev sheet : tie.Start → FirstGiven
-sheet s = first_given s.args.code s.args.n s.args.limit (now s.args.angles) (now s.args.rounds) (now s.args.fixed)
+sheet s = first_given s.args.code s.args.n s.args.limit s.args.angles.now s.args.rounds.now s.args.fixed.now
 
-abbrev left : tie.After-closing-corrections → List ℤ
-left c = c.closing-corrections.new.1.1.1.1.1.1.0
+abbrev left : tie.After-closing_corrections → List ℤ
+left c = c.closing_corrections.new.corrections
 
 answered_requires : tie.Need-answered-requires
 answered_requires c κs =
-    let called = c.before in
-    small (sheet (start called)) (now (start called).args.corrections) {exit = left called} called.closing-corrections.ensures
+    small (sheet (start c.before)) ((start c.before).args.corrections.now) {exit = left c.before} c.closing_corrections.ensures
 
 returns : tie.Need-returns
 returns c =
-    let called = c.before.before in
-    answered (sheet (start called)) (now (start called).args.corrections) {exit = left called} called.closing-corrections.ensures c.answered.ensures
+    answered (sheet (start c.before.before)) ((start c.before.before).args.corrections.now) {exit = left c.before.before} c.closing_corrections.ensures c.answered.ensures
 
 pub bienguloc_closing_spec : {M : Type 1} → statement M
 bienguloc_closing_spec =
-    tie.close (tie.spec (λ c κs. search needs) answered_requires (λ c. c.before.before.closing-corrections.auto.1.1.1.1.1.1.0)
-    returns)
+    tie.close (tie.spec (λ c κs. search rules) answered_requires (λ c. c.closing_corrections.auto.corrections) returns)

@@ -1,6 +1,6 @@
 -- `controller::working::bienguloc_first_pass` meets its contract.
 use Rattle.std.specs.Prelude.{ℕ, ◌<◌, ◌≡◌}
-use Rattle.vocabulary.specs.{sym, ap, subst, ◌∙◌, needs, now}
+use Rattle.vocabulary.specs.{sym, ap, subst, ◌∙◌, rules}
 use Rattle.refusals.specs.{declared.Verdict.Verdict, Numbers.verdict_told}
 use Rattle.pass_rules.specs.FirstPass.{first_pass_verdict}
 use Rattle.pass_rules.specs.Promises.{FirstGiven, first_given, FirstLent, first_lent, first_lengths_lent, first_rows_of, FirstPromise}
@@ -22,37 +22,27 @@ module _ (given : FirstGiven) (entry : FirstLent) {verdict : Verdict} {exit : Fi
   unfolding first_pass_verdict
   answered e = record { answered = e ∙ ap (λ (w : Verdict). answer_number (verdict_told w)) promise.answered; leaves = promise.leaves }
 
-abbrev start : tie.After-first-pass → tie.Start
+abbrev start : tie.After-first_pass → tie.Start
 start c = c.before.before.before.before.before.before.before.before.before.before.before.before
 
 abbrev sheet : tie.Start → FirstGiven
-sheet s = first_given s.args.code s.args.n s.args.limit (now s.args.angles) (now s.args.rounds) (now s.args.fixed)
+sheet s = first_given s.args.code s.args.n s.args.limit s.args.angles.now s.args.rounds.now s.args.fixed.now
 
 abbrev lent : tie.Start → FirstLent
-lent s = first_lent (now s.args.misclosures) (now s.args.numerators) (now s.args.rounded) (now s.args.corrected) (now s.args.corrected-rounds) (now s.args.rests)
+lent s = first_lent s.args.misclosures.now s.args.numerators.now s.args.rounded.now s.args.corrected.now s.args.corrected_rounds.now s.args.rests.now
 
-abbrev left : tie.After-first-pass → FirstLent
+abbrev left : tie.After-first_pass → FirstLent
 left c =
-    let z = c.first-pass.new.1.1.1.1.1.1 in
-    first_lent z.0 z.1.0 z.1.1.0 z.1.1.1.0 z.1.1.1.1.0 z.1.1.1.1.1.0
+    first_lent c.first_pass.new.misclosures c.first_pass.new.numerators c.first_pass.new.rounded c.first_pass.new.corrected c.first_pass.new.corrected_rounds c.first_pass.new.rests
 
 answered_requires : tie.Need-answered-requires
 answered_requires c κs =
-    let called = c.before.before.before.before.before.before.before.before in
-    small (sheet (start called)) (lent (start called)) {exit = left called} called.first-pass.ensures
+    small (sheet (start c.before.before.before.before.before.before.before.before)) (lent (start c.before.before.before.before.before.before.before.before)) {exit = left c.before.before.before.before.before.before.before.before} c.first_pass.ensures
 
 returns : tie.Need-returns
 returns c =
-    let called = c.before.before.before.before.before.before.before.before.before in
-    answered (sheet (start called)) (lent (start called)) {exit = left called} called.first-pass.ensures c.answered.ensures
+    answered (sheet (start c.before.before.before.before.before.before.before.before.before)) (lent (start c.before.before.before.before.before.before.before.before.before)) {exit = left c.before.before.before.before.before.before.before.before.before} c.first_pass.ensures c.answered.ensures
 
 pub bienguloc_first_pass_spec : {M : Type 1} → statement M
 bienguloc_first_pass_spec =
-    tie.close (tie.spec (λ c κs. search needs) answered_requires
-    (λ c. c.before.before.before.before.before.before.before.before.before.first-pass.auto.1.1.1.1.1.1.0)
-    (λ c. c.before.before.before.before.before.before.before.before.before.first-pass.auto.1.1.1.1.1.1.1.0)
-    (λ c. c.before.before.before.before.before.before.before.before.before.first-pass.auto.1.1.1.1.1.1.1.1.0)
-    (λ c. c.before.before.before.before.before.before.before.before.before.first-pass.auto.1.1.1.1.1.1.1.1.1.0)
-    (λ c. c.before.before.before.before.before.before.before.before.before.first-pass.auto.1.1.1.1.1.1.1.1.1.1.0)
-    (λ c. c.before.before.before.before.before.before.before.before.before.first-pass.auto.1.1.1.1.1.1.1.1.1.1.1.0)
-    returns)
+    tie.close (tie.spec (λ c κs. search rules) answered_requires (λ c. c.first_pass.auto.misclosures) (λ c. c.first_pass.auto.numerators) (λ c. c.first_pass.auto.rounded) (λ c. c.first_pass.auto.corrected) (λ c. c.first_pass.auto.corrected_rounds) (λ c. c.first_pass.auto.rests) returns)

@@ -1,6 +1,6 @@
 -- `controller::working::sine_count` meets its contract.
 use Rattle.std.specs.Prelude.{ℕ, Bool, cond, ◌≡◌, length}
-use Rattle.vocabulary.specs.{sym, ap, ◌∙◌, needs, eq-eqb, ne_eqb}
+use Rattle.vocabulary.specs.{sym, ap, ◌∙◌, rules, eq-eqb, ne_eqb}
 use Rattle.figures.specs.{declared.Named.Named, declared.Named.TheVariants.As, declared.Counts.Counts, declared.Figure.Figure}
 use Rattle.figures.specs.Figure.{description, counts_of, figure_of, of_named}
 use Rattle.controller.proofs.SecondSums.{sines_by_sides, sines_by_sides_lem}
@@ -15,17 +15,13 @@ by_sides : (f : Figure) {named : Named} {counts : Counts} → named ≡ As f →
 by_sides f e is = ap told e ∙ sines_by_sides_lem f ∙ sym (ap (λ (c : Counts). sines_by_sides c.sides) is)
 
 -- the counts are those of the figure that code and n name
-counted : (c : tie.After-counts-of)
-    → told (figure_of c.before.before.before.before.before.args.code c.before.before.before.before.before.args.n)
-    ≡ sines_by_sides c.Counts-of.result.sides
+counted : (c : tie.After-counts_of-counts)
+    → told (figure_of c.args.code c.args.n)
+    ≡ sines_by_sides c.counts_of-counts.result.sides
 counted c =
-    let found = c.before.before in
-    by_sides found.figure.given.0.0 (sym found.before.before.figure-of.ensures ∙ found.figure.given.1)
-    c.Counts-of.ensures
+    by_sides c.in-As.figure (sym c.figure_of.ensures ∙ c.in-As.is)
+    c.counts_of-counts.ensures
 
 pub sine_count_spec : {M : Type 1} → statement M
 sine_count_spec =
-    tie.close (tie.spec (λ c κs. search needs) (λ c. search needs) (λ c. search needs) (λ c κs. search needs)
-    (λ c. sym (ap told (sym c.before.before.figure-of.ensures ∙ c.enum_told.given.1)))
-    (λ c. sym (counted c.before.before ∙ ap (λ (b : Bool). cond b 1 2) (eq-eqb _ 0 c.if1.true)))
-    (λ c. sym (counted c.before.before ∙ ap (λ (b : Bool). cond b 1 2) (ne_eqb _ 0 c.if1.false))))
+    tie.close (tie.spec (λ c κs. search rules) (λ c. search rules) (λ c. search rules) (λ c κs. search rules) (λ c. sym (ap told (sym c.figure_of.ensures ∙ c.in-Nothing.is))) (λ c. sym (counted c.before.before ∙ ap (λ (b : Bool). cond b 1 2) (eq-eqb _ 0 c.if-counts-eq0.true))) (λ c. sym (counted c.before.before ∙ ap (λ (b : Bool). cond b 1 2) (ne_eqb _ 0 c.if-counts-eq0.false))))

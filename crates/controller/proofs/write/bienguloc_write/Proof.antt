@@ -1,6 +1,6 @@
 -- `controller::write::bienguloc_write` meets its contract.
 use Rattle.std.specs.Prelude.{ℕ, ◌<◌, List, ◌≡◌, length}
-use Rattle.vocabulary.specs.{sym, ap, subst, ◌∙◌, needs, now}
+use Rattle.vocabulary.specs.{sym, ap, subst, ◌∙◌, rules}
 use Rattle.refusals.specs.{declared.Verdict.Verdict, Numbers.verdict_told}
 use Rattle.sheet_rules.specs.{Judging.writer_rows, Judging.writing_of, Promises.WriterPromise, Sheet.Values, Sheet.values_from}
 use Rattle.sheet_rules.proofs.Refusals.{writer_in_table}
@@ -20,23 +20,21 @@ module _ (kind code n : ℕ) (v : Values) (entry : List ℕ) {verdict : Verdict}
   unfolding writing_of
   answered e = record { answered = e ∙ ap (λ (w : Verdict). answer_number (verdict_told w)) promise.answered; leaves = promise.leaves }
 
-abbrev start : tie.After-write-sheet → tie.Start
+abbrev start : tie.After-write_sheet → tie.Start
 start c = c.before.before.before.before.before.before.before.before
 
 abbrev given : tie.Start → Values
-given s = values_from s.args.limit-or-tolerance (now s.args.angles) (now s.args.rounds) (now s.args.fixed) (now s.args.log-sines) (now s.args.differences) (now s.args.log-sides)
+given s = values_from s.args.limit_or_tolerance s.args.angles.now s.args.rounds.now s.args.fixed.now s.args.log_sines.now s.args.differences.now s.args.log_sides.now
 
 answered_requires : tie.Need-answered-requires
 answered_requires c κs =
-    let called = c.before.before in
-    let s = start called in
-    small s.args.kind s.args.code s.args.n (given s) (now s.args.sheet) called.write-sheet.ensures
+    let s = start c.before.before in
+    small s.args.kind s.args.code s.args.n (given s) s.args.sheet.now c.write_sheet.ensures
 
 returns : tie.Need-returns
 returns c =
-    let called = c.before.before.before in
-    let s = start called in
-    answered s.args.kind s.args.code s.args.n (given s) (now s.args.sheet) called.write-sheet.ensures c.answered.ensures
+    let s = start c.before.before.before in
+    answered s.args.kind s.args.code s.args.n (given s) s.args.sheet.now c.write_sheet.ensures c.answered.ensures
 
 pub bienguloc_write_spec : {M : Type 1} → statement M
-bienguloc_write_spec = tie.close (tie.spec (λ c κs. search needs) answered_requires (λ c. search needs) returns)
+bienguloc_write_spec = tie.close (tie.spec (λ c κs. search rules) answered_requires (λ c. search rules) returns)

@@ -6,18 +6,18 @@ use Rattle.refusals.specs.Questions.{asked, outside_signed}
 use Rattle.judging.proofs.search.is_entry_outside.Statement.{statement}
 use Rattle.judging.proofs.search.is_entry_outside.Tie as tie
 
-returns : tie.Need-returns
+returns : tie.Need-returns-then-is_outside
 returns c =
-    let args = c.before.before.args in
-    c.if1.true
-    ∙ sym (ap (λ (first : Bool). first || asked (outside_signed (negsuc 9998) (pos 9999) args.difference)) (sym c.before.is-outside.ensures ∙ c.if1.true))
+    let args = c.args in
+    c.if-is_outside.true
+    ∙ sym (ap (λ (first : Bool). first || asked (outside_signed (negsuc 9998) (pos 9999) args.difference)) (sym c.is_outside.ensures ∙ c.if-is_outside.true))
 
-returns-2 : tie.Need-returns-2
+returns-2 : tie.Need-returns-else-is_outside
 returns-2 c =
-    let args = c.before.before.before.args in
-    c.is-difference-outside.ensures
-    ∙ ap (λ (z : ℤ). asked (outside_signed (negsuc 9998) (pos 9999) z)) (to_z_of_z_at w32 args.difference c.before.before.before.ranges.difference)
-    ∙ sym (ap (λ (first : Bool). first || asked (outside_signed (negsuc 9998) (pos 9999) args.difference)) (sym c.before.before.is-outside.ensures ∙ c.before.if1.false))
+    let args = c.args in
+    c.is_difference_outside.ensures
+    ∙ ap (λ (z : ℤ). asked (outside_signed (negsuc 9998) (pos 9999) z)) (to_z_of_z_at w32 args.difference c.ranges.difference)
+    ∙ sym (ap (λ (first : Bool). first || asked (outside_signed (negsuc 9998) (pos 9999) args.difference)) (sym c.is_outside.ensures ∙ c.if-is_outside.false))
 
 pub is_entry_outside_spec : {M : Type 1} → statement M
 is_entry_outside_spec = tie.close (tie.spec (λ c κs. tt) (λ c κs. tt) returns returns-2)

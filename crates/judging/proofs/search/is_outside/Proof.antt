@@ -5,4 +5,4 @@ use Rattle.judging.proofs.search.is_outside.Statement.{statement}
 use Rattle.judging.proofs.search.is_outside.Tie as tie
 
 pub is_outside_spec : {M : Type 1} → statement M
-is_outside_spec = tie.close (tie.spec (λ c. simp (lt-ltb _ _ c.if1.true)) (λ c. simp (le-ltb _ _ c.if1.false)))
+is_outside_spec = tie.close (tie.spec (λ c. simp (lt-ltb _ _ c.if-value-least.true)) (λ c. simp (le-ltb _ _ c.if-value-least.false)))

@@ -1,6 +1,6 @@
 -- `judging::search::is_result_outside` meets its contract: an angle and a correction of 32 bits sum to less than 64.
 use Rattle.std.specs.Prelude.{◌≡◌, ℤ, pos, ◌+ℤ◌}
-use Rattle.vocabulary.specs.{ap, ap₂, ◌∙◌, arith, needs, w32, w64, SFits, to_z, of_z, to_z_pos, to_z_of_z_at}
+use Rattle.vocabulary.specs.{ap, ap₂, ◌∙◌, arith, rules, w32, w64, SFits, to_z, of_z, to_z_pos, to_z_of_z_at}
 use Rattle.whole.proofs.Magnitudes.{nat_abs_add, fits_magnitude, magnitude_fits, widened, widens}
 use Rattle.refusals.specs.{Questions.asked, Questions.outside_signed, Ranges.least_angle, Ranges.most_angle}
 use Rattle.judging.proofs.search.is_result_outside.Statement.{statement}
@@ -17,10 +17,9 @@ module _ (c : tie.Start) where
 
 returns : tie.Need-returns
 returns c =
-    c.is-signed-outside.ensures
+    c.is_signed_outside.ensures
     ∙ ap (λ (z : ℤ). asked (outside_signed (pos least_angle) (pos most_angle) z)) (ap (λ (z : ℤ). to_z w64 (of_z w64 z)) (both c.before) ∙ to_z_of_z_at w64 _ (small c.before))
 
 pub is_result_outside_spec : {M : Type 1} → statement M
 is_result_outside_spec =
-    tie.close (tie.spec (λ c. search needs) (λ c. widens w32 w64 c.args.correction tt c.ranges.correction)
-    (λ c. rw (both c) (small c)) (λ c. search needs) (λ c. search needs) (λ c κs. search needs) returns)
+    tie.close (tie.spec (λ c. search rules) (λ c. widens w32 w64 c.args.correction tt c.ranges.correction) (λ c. rw (both c) (small c)) (λ c. search rules) (λ c. search rules) (λ c κs. search rules) returns)

@@ -3,17 +3,17 @@ use Rattle.vocabulary.specs.{w64, to_z_of_z_at}
 use Rattle.judging.proofs.search.is_signed_outside.Statement.{statement}
 use Rattle.judging.proofs.search.is_signed_outside.Tie as tie
 
-returns : tie.Need-returns
+returns : tie.Need-returns-then-value-least
 returns c =
-    let fits = c.before.ranges in
+    let fits = c.ranges in
     simp (to_z_of_z_at w64 _ fits.value, to_z_of_z_at w64 _ fits.least)
-    (simp (simp (to_z_of_z_at w64 _ fits.value, to_z_of_z_at w64 _ fits.least) at c.if1.true))
+    (simp (simp (to_z_of_z_at w64 _ fits.value, to_z_of_z_at w64 _ fits.least) at c.if-value-least.true))
 
-returns-2 : tie.Need-returns-2
+returns-2 : tie.Need-returns-else-value-least
 returns-2 c =
-    let fits = c.before.ranges in
+    let fits = c.ranges in
     simp (to_z_of_z_at w64 _ fits.value, to_z_of_z_at w64 _ fits.most)
-    (simp (simp (to_z_of_z_at w64 _ fits.value, to_z_of_z_at w64 _ fits.least) at c.if1.false))
+    (simp (simp (to_z_of_z_at w64 _ fits.value, to_z_of_z_at w64 _ fits.least) at c.if-value-least.false))
 
 pub is_signed_outside_spec : {M : Type 1} → statement M
 is_signed_outside_spec = tie.close (tie.spec returns returns-2)

@@ -4,10 +4,9 @@ use Rattle.refusals.specs.{declared.Refusal.Refusal, Order.fails_at}
 use Rattle.judging.proofs.tests.angles_verdict.Statement.{statement}
 use Rattle.judging.proofs.tests.angles_verdict.Tie as tie
 
-returns-2 : tie.Need-returns-2
-returns-2 c = sym (ap (fails_at Refusal.AngleOutOfRange) (sym c.before.before.before.lowest-outside.ensures ∙ c.before.place.given.1))
+returns-2 : tie.Need-returns-in-At
+returns-2 c = sym (ap (fails_at Refusal.AngleOutOfRange) (sym c.lowest_outside.ensures ∙ c.in-At.is))
 
 pub angles_verdict_spec : {M : Type 1} → statement M
 angles_verdict_spec =
-    tie.close (tie.spec (λ c κs. tt) (λ c. c.match.keys1) (λ c. c.match.keys2)
-    (λ c. sym (ap (fails_at Refusal.AngleOutOfRange) (sym c.before.before.lowest-outside.ensures ∙ c.enum_told.given.1))) returns-2)
+    tie.close (tie.spec (λ c κs. tt) (λ c. c.in-Nowhere-1.keys1) (λ c. c.in-At-1.keys2) (λ c. sym (ap (fails_at Refusal.AngleOutOfRange) (sym c.lowest_outside.ensures ∙ c.in-Nowhere.is))) returns-2)

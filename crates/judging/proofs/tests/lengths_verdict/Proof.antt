@@ -7,6 +7,4 @@ use Rattle.judging.proofs.tests.lengths_verdict.Tie as tie
 
 pub lengths_verdict_spec : {M : Type 1} → statement M
 lengths_verdict_spec =
-    tie.close (tie.spec (λ c κs. tt)
-    (λ c. sym (ap (λ (b : Bool). fails_if (not b) Refusal.WrongLength) (sym c.before.same-numbers.ensures ∙ c.if1.true)))
-    (λ c. sym (ap (λ (b : Bool). fails_if (not b) Refusal.WrongLength) (sym c.before.same-numbers.ensures ∙ c.if1.false))))
+    tie.close (tie.spec (λ c κs. tt) (λ c. sym (ap (λ (b : Bool). fails_if (not b) Refusal.WrongLength) (sym c.same_numbers.ensures ∙ c.if-same_numbers.true))) (λ c. sym (ap (λ (b : Bool). fails_if (not b) Refusal.WrongLength) (sym c.same_numbers.ensures ∙ c.if-same_numbers.false))))

@@ -5,15 +5,15 @@ use Rattle.refusals.specs.{declared.Refusal.Refusal, Order.fails_if}
 use Rattle.judging.proofs.tests.limit_or_tolerance_verdict.Statement.{statement}
 use Rattle.judging.proofs.tests.limit_or_tolerance_verdict.Tie as tie
 
-returns : tie.Need-returns
+returns : tie.Need-returns-then-most-value
 returns c =
-    let args = c.before.args in
-    sym (ap (λ (b : Bool). fails_if b Refusal.LimitOrToleranceOutOfRange) (lt-ltb args.most args.value c.if1.true))
+    let args = c.args in
+    sym (ap (λ (b : Bool). fails_if b Refusal.LimitOrToleranceOutOfRange) (lt-ltb args.most args.value c.if-most-value.true))
 
-returns-2 : tie.Need-returns-2
+returns-2 : tie.Need-returns-else-most-value
 returns-2 c =
-    let args = c.before.args in
-    sym (ap (λ (b : Bool). fails_if b Refusal.LimitOrToleranceOutOfRange) (le-ltb args.most args.value c.if1.false))
+    let args = c.args in
+    sym (ap (λ (b : Bool). fails_if b Refusal.LimitOrToleranceOutOfRange) (le-ltb args.most args.value c.if-most-value.false))
 
 pub limit_or_tolerance_verdict_spec : {M : Type 1} → statement M
 limit_or_tolerance_verdict_spec = tie.close (tie.spec returns returns-2)

@@ -1,6 +1,6 @@
 -- `lines::first::put_condition` meets its contract: the word, the condition's own number and what the slices have for it.
 use Rattle.std.specs.Prelude.{refl, List, [], ◌∷◌, ◌++◌, ℤ, pos}
-use Rattle.vocabulary.specs.{ap, ◌∙◌, arith, needs, w64, to_z_pos}
+use Rattle.vocabulary.specs.{ap, ◌∙◌, arith, rules, w64, to_z_pos}
 use Rattle.whole.specs.Lists.{listed}
 use Rattle.text.specs.Text.{space, line_feed, line}
 use Rattle.lines.specs.{Lays.numbers_ended, Lines.condition_word}
@@ -11,17 +11,15 @@ use Rattle.lines.proofs.first.put_condition.Tie as tie
 returns : tie.Need-returns
 unfolding condition_word numbers_ended line listed
 returns c =
-    let called = c.before.before.before.before.before in
-    let misclosures = called.before.signed-at in
-    let rests = called.signed-at2 in
+    let misclosures = c.signed_at in
+    let rests = c.signed_at-2 in
     lays_as
     (ap (λ (values : List ℤ). (condition_word ++ (space ∷ [])) ++ numbers_ended 3 values line_feed)
     (six_same {d = pos 0} {e = pos 0} {f = pos 0} (to_z_pos w64 (omega arith))
-    (answered misclosures.type-inv misclosures.ensures) (answered rests.type-inv rests.ensures) refl refl refl)
+    (answered misclosures.type_inv misclosures.ensures) (answered rests.type_inv rests.ensures) refl refl refl)
     ∙ part_line condition_word _ _)
-    c.before.before.put-line.ensures
+    c.put_line.ensures
 
 pub put_condition_spec : {M : Type 1} → statement M
 put_condition_spec =
-    tie.close (tie.spec (λ c. search needs) (λ c. search needs) (λ c κs. search needs) (λ c κs. search needs) (λ c. search needs)
-    (λ c κs. search needs) (λ c. search needs) returns)
+    tie.close (tie.spec (λ c. search rules) (λ c. search rules) (λ c κs. search rules) (λ c κs. search rules) (λ c κs. search rules) (λ c. search rules) returns)

@@ -1,22 +1,21 @@
 -- `lines::first::put_conditions` meets its contract: each turn lays one line more (`printing_more`).
 use Rattle.std.specs.Prelude.{◌-◌}
-use Rattle.vocabulary.specs.{arith, needs}
+use Rattle.vocabulary.specs.{arith, rules}
 use Rattle.whole.specs.Sums.{vector}
 use Rattle.lines.specs.Lines.{first_condition}
 use Rattle.lines.proofs.Laid.{Printing, printing_none, printing_more, printing_all}
 use Rattle.lines.proofs.first.put_conditions.Statement.{statement}
 use Rattle.lines.proofs.first.put_conditions.Tie as tie
 
-abbrev invariant-loop : tie.invariant-loop
+abbrev invariant-loop : tie.invariant-loop-j
 invariant-loop buffer₀ at count misclosures rests position₀ j₀ buffer position j = Printing (first_condition (vector misclosures) (vector rests)) count buffer₀ at buffer position j
 
-abbrev decreases-loop : tie.decreases-loop
+abbrev decreases-loop : tie.decreases-loop-j
 decreases-loop buffer₀ at count misclosures rests position₀ j₀ buffer position j = count - j
 
-loop_again : tie.Need-loop-preserved invariant-loop decreases-loop
-loop_again c = printing_more c.before.before.before.before.before.loop.invariant (omega arith) (search needs) c.before.before.put-condition.ensures
+loop_again : tie.Need-loop-j-preserved invariant-loop decreases-loop
+loop_again c = printing_more c.loop-j.invariant (omega arith) (search rules) c.put_condition-position.ensures
 
 pub put_conditions_spec : {M : Type 1} → statement M
 put_conditions_spec =
-    tie.close (tie.spec invariant-loop decreases-loop (λ c. printing_none _ _ _ _) (λ c κs. search needs) (λ c. search needs) (λ c. search needs)
-    loop_again (λ c. search needs) (λ c. printing_all c.before.loop.invariant (omega arith)))
+    tie.close (tie.spec invariant-loop decreases-loop (λ c. printing_none _ _ _ _) (λ c κs. search rules) (λ c. search rules) (λ c. search rules) loop_again (λ c. search rules) (λ c. printing_all c.loop-j.invariant (omega arith)))

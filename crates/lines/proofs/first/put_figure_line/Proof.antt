@@ -1,6 +1,6 @@
 -- `lines::first::put_figure_line` meets its contract: the denominator's word and number are laid after the figure's name.
 use Rattle.std.specs.Prelude.{[], ◌∷◌, ◌++◌, ℤ, pos}
-use Rattle.vocabulary.specs.{ap, ◌∙◌, arith, needs, w64, to_z_pos}
+use Rattle.vocabulary.specs.{ap, ◌∙◌, arith, rules, w64, to_z_pos}
 use Rattle.whole.specs.Lists.{listed}
 use Rattle.figures.specs.{declared.Counts.Counts, Figure.denominator}
 use Rattle.text.specs.Text.{space, line_feed, decimal, line}
@@ -12,19 +12,15 @@ use Rattle.lines.proofs.first.put_figure_line.Tie as tie
 returns : tie.Need-returns
 unfolding denominator_word numbers_ended line listed
 returns c =
-    let put = c.before.before in
-    let first = put.before.before.before.before.before in
-    let counts = first.before.before.before in
-    let f = counts.before.before.args.figure in
+    let f = c.args.figure in
     let denominated = decimal (pos (denominator f)) in
-    lays_line (figure_named f []) denominator_word (denominated ∷ []) first.put-figure-start.ensures
+    lays_line (figure_named f []) denominator_word (denominated ∷ []) c.put_figure_start-after_start.ensures
     (lays_as
     (ap (λ (z : ℤ). (denominator_word ++ (space ∷ [])) ++ numbers_ended 1 (z ∷ zeros) line_feed)
-    (to_z_pos w64 (omega arith) ∙ ap (λ (r : Counts). pos r.denominator) counts.Counts-of.ensures)
+    (to_z_pos w64 (omega arith) ∙ ap (λ (r : Counts). pos r.denominator) c.counts_of-counts.ensures)
     ∙ part_line denominator_word denominated [])
-    put.put-line.ensures)
+    c.put_line.ensures)
 
 pub put_figure_line_spec : {M : Type 1} → statement M
 put_figure_line_spec =
-    tie.close (tie.spec (λ c κs. search needs) (λ c. search needs) (λ c κs. search needs) (λ c. search needs) (λ c κs. search needs)
-    (λ c. search needs) returns)
+    tie.close (tie.spec (λ c κs. search rules) (λ c. search rules) (λ c κs. search rules) (λ c κs. search rules) (λ c. search rules) returns)

@@ -1,6 +1,6 @@
 -- `lines::put::put_figure_start` meets its contract: the word, the code and n, each with the space after it.
 use Rattle.std.specs.Prelude.{[], ◌∷◌, pos}
-use Rattle.vocabulary.specs.{ap, needs}
+use Rattle.vocabulary.specs.{ap, rules}
 use Rattle.text.specs.Text.{decimal}
 use Rattle.figures.specs.declared.Name.{Name}
 use Rattle.lines.specs.{Lays.line_start, Lines.figure_word}
@@ -11,10 +11,10 @@ use Rattle.lines.proofs.put.put_figure_start.Tie as tie
 returns : tie.Need-returns
 unfolding figure_word
 returns c =
-    let second = c.before.before.put-natural2 in
-    let first = c.before.before.before.before.before.before.before.put-natural in
-    let word = c.before.before.before.before.before.before.before.before.before.before.before.before.put_word in
-    let name = c.before.before.before.before.before.before.before.before.before.before.before.before.before.before.before.name_of in
+    let second = c.put_natural in
+    let first = c.put_natural-after_code in
+    let word = c.put_word-after_word in
+    let name = c.name_of-name in
     let code = decimal (pos name.result.code) in
     let n = decimal (pos name.result.n) in
     lays_as (ap (λ (r : Name). line_start (figure_word ∷ decimal (pos r.code) ∷ decimal (pos r.n) ∷ [])) name.ensures)
@@ -23,5 +23,4 @@ returns c =
 
 pub put_figure_start_spec : {M : Type 1} → statement M
 put_figure_start_spec =
-    tie.close (tie.spec (λ c κs. search needs) (λ c. search needs) (λ c κs. search needs) (λ c. search needs) (λ c κs. search needs)
-    (λ c. search needs) (λ c κs. search needs) (λ c. search needs) returns)
+    tie.close (tie.spec (λ c κs. search rules) (λ c κs. search rules) (λ c. search rules) (λ c κs. search rules) (λ c. search rules) (λ c κs. search rules) (λ c. search rules) returns)

@@ -1,14 +1,14 @@
 -- `lines::put::put_natural` meets its contract: the byte is laid after the number.
-use Rattle.vocabulary.specs.{needs}
+use Rattle.vocabulary.specs.{rules}
 use Rattle.lines.proofs.Laid.{lays_laid, lays_then}
 use Rattle.lines.proofs.put.put_natural.Statement.{statement}
 use Rattle.lines.proofs.put.put_natural.Tie as tie
 
 returns : tie.Need-returns
 returns c =
-    let byte = c.before.before.put_byte in
-    let number = c.before.before.before.before.before.before.put-natural in
+    let byte = c.put_byte in
+    let number = c.put_natural-after in
     lays_then (lays_laid number.ensures.0 number.ensures.1) (lays_laid byte.ensures.0 byte.ensures.1)
 
 pub put_natural_spec : {M : Type 1} → statement M
-put_natural_spec = tie.close (tie.spec (λ c κs. search needs) (λ c κs. search needs) (λ c. search needs) returns)
+put_natural_spec = tie.close (tie.spec (λ c κs. search rules) (λ c κs. search rules) (λ c. search rules) returns)

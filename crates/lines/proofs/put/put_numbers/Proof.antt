@@ -1,7 +1,7 @@
 -- `lines::put::put_numbers` meets its contract: each turn lays one number more with a space after it (`number_started`), and the last has
 -- the byte that ends them (`number_ended`).
 use Rattle.std.specs.Prelude.{◌≡◌, List, [], ◌∷◌, ◌++◌, ℕ, ◌+◌, ◌-◌, ◌≤◌, ℤ, length}
-use Rattle.vocabulary.specs.{ap, ◌∙◌, arith, needs, to_z-of_z}
+use Rattle.vocabulary.specs.{w64, w32, ap, ◌∙◌, arith, rules, to_z-of_z}
 use Rattle.whole.specs.{Lists.listed, Sums.vector}
 use Rattle.text.specs.Text.{space, decimal}
 use Rattle.lines.specs.{Lays.Lays, Lays.line_start, Lays.numbers_ended, Lines.numbers}
@@ -13,44 +13,42 @@ use Rattle.lines.proofs.put.put_numbers.Tie as tie
 abbrev begun : List ℤ → ℕ → List ℕ
 begun values done = line_start (numbers (listed done (vector values)))
 
-abbrev invariant-loop : tie.invariant-loop
+abbrev invariant-loop : tie.invariant-loop-done
 invariant-loop buffer₀ at count end values position₀ done₀ buffer position done =
     (done + 1 ≤ count) × (length buffer ≡ length buffer₀) × Lays (begun values done) buffer₀ at buffer position
 
-abbrev decreases-loop : tie.decreases-loop
+abbrev decreases-loop : tie.decreases-loop-done
 decreases-loop buffer₀ at count end values position₀ done₀ buffer position done = count - done
 
-loop_holds : tie.Need-loop-init invariant-loop decreases-loop
+loop_holds : tie.Need-loop-done-init invariant-loop decreases-loop
 unfolding line_start listed
-loop_holds c = (search needs, search needs, lays_none _ _)
+loop_holds c = (search rules, search rules, lays_none _ _)
 
-loop_again : tie.Need-loop-preserved invariant-loop decreases-loop
+loop_again : tie.Need-loop-done-preserved invariant-loop decreases-loop
 loop_again c =
-    let loop = c.before.before.before.before.before.before.loop in
-    let values = c.before.before.before.before.before.before.before.before.args.t3 in (
-      search needs,
-      search needs,
+    let loop = c.loop-done in
+    let values = c.args.values in (
+      search rules,
+      search rules,
       lays_as
           (ap (λ (z : ℤ). begun values loop.done ++ (decimal z ++ (space ∷ [])))
-          (to_z-of_z (record { sfits = c.before.before.before.put-part-arg2.given }))
+          (to_z-of_z {w = w64} (record { sfits = c.put_part-arg-in-loop-done-1.given }))
           ∙ number_started loop.done (vector values))
-          (lays_then loop.invariant.2 c.before.before.put-part.ensures),
+          (lays_then loop.invariant.2 c.put_part-position.ensures),
     )
 
 returns : tie.Need-returns invariant-loop decreases-loop
 unfolding numbers_ended
 returns c =
-    let loop = c.before.before.before.before.before.before.loop in
-    let a = c.before.before.before.before.before.before.before.before.args in
+    let loop = c.loop-done in
+    let a = c.args in
     let all : loop.done + 1 ≡ a.count = omega arith in
     lays_as
-    (ap (λ (z : ℤ). begun a.t3 loop.done ++ (decimal z ++ (a.end ∷ [])))
-    (to_z-of_z (record { sfits = c.before.before.before.put-part-arg4.given }))
-    ∙ number_ended loop.done (vector a.t3) a.end ∙ ap (λ (k : ℕ). numbers_ended k a.t3 a.end) all)
-    (lays_then loop.invariant.2 c.before.before.put-part2.ensures)
+    (ap (λ (z : ℤ). begun a.values loop.done ++ (decimal z ++ (a.end ∷ [])))
+    (to_z-of_z {w = w64} (record { sfits = c.put_part-arg-3-1.given }))
+    ∙ number_ended loop.done (vector a.values) a.end ∙ ap (λ (k : ℕ). numbers_ended k a.values a.end) all)
+    (lays_then loop.invariant.2 c.put_part.ensures)
 
 pub put_numbers_spec : {M : Type 1} → statement M
 put_numbers_spec =
-    tie.close (tie.spec invariant-loop decreases-loop loop_holds (λ c. search needs) (λ c. search needs) (λ c. search needs) (λ c κs. search needs)
-    (λ c. search needs) (λ c. search needs) loop_again (λ c. search needs) (λ c. search needs) (λ c κs. search needs) (λ c. search needs)
-    returns)
+    tie.close (tie.spec invariant-loop decreases-loop loop_holds (λ c. search rules) (λ c. search rules) (λ c. search rules) (λ c κs. search rules) (λ c. search rules) (λ c. search rules) loop_again (λ c. search rules) (λ c. search rules) (λ c κs. search rules) (λ c. search rules) returns)

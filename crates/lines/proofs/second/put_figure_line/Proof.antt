@@ -1,6 +1,6 @@
 -- `lines::second::put_figure_line` meets its contract: its parts are laid one after the other, the divisor last.
 use Rattle.std.specs.Prelude.{◌≡◌, false, [], ◌∷◌, ◌++◌, ℕ, ℤ, pos}
-use Rattle.vocabulary.specs.{ap, ◌∙◌, needs, to_z-of_z}
+use Rattle.vocabulary.specs.{ap, ◌∙◌, rules, to_z-of_z}
 use Rattle.wide.specs.Wide.{size_of, value_of}
 use Rattle.wide.proofs.Signs.{signed_above}
 use Rattle.wide_words.specs.Words.{joined}
@@ -20,28 +20,21 @@ divisor_value high low = signed_above (size_of (record { high = high; low = low 
 returns : tie.Need-returns
 unfolding w_word
 returns c =
-    let wide = c.before.before in
-    let between = wide.before.before.before.before in
-    let part = between.before.before.before.before in
-    let word = part.before.before.before.before in
-    let first = word.before.before.before.before.before in
-    let start = first.before.before.before in
-    let a = start.args in
+    let a = c.args in
     let f = a.figure in
     let w = decimal a.w in
-    let words = divisor_words (has_side f) a.side-w in
-    let divisor = decimal (joined (pos a.divisor-high) a.divisor-low) in
+    let words = divisor_words (has_side f) a.side_w in
+    let divisor = decimal (joined (pos a.divisor_high) a.divisor_low) in
     lays_line (figure_named f (w_word ∷ w ∷ words)) divisor []
-    (lays_parts (figure_named f []) (w_word ∷ w ∷ words) first.put-figure-start.ensures
-    (lays_parts (w_word ∷ []) (w ∷ words) (part_start w_word word.put_word.ensures)
+    (lays_parts (figure_named f []) (w_word ∷ w ∷ words) c.put_figure_start-after_start.ensures
+    (lays_parts (w_word ∷ []) (w ∷ words) (part_start w_word c.put_word-after_word.ensures)
     (lays_parts (w ∷ []) words
-    (part_start w (lays_as (ap (λ (z : ℤ). decimal z ++ (space ∷ [])) (to_z-of_z start.ranges.w)) part.put-part.ensures))
-    (lays_as (ap (λ (z : ℤ). line_start (divisor_words (has_side f) z)) (to_z-of_z start.ranges.side-w))
-    between.put-divisor-words.ensures))))
+    (part_start w (lays_as (ap (λ (z : ℤ). decimal z ++ (space ∷ [])) (to_z-of_z c.ranges.w)) c.put_part-after_w.ensures))
+    (lays_as (ap (λ (z : ℤ). line_start (divisor_words (has_side f) z)) (to_z-of_z c.ranges.side_w))
+    c.put_divisor_words-after_words.ensures))))
     (part_last divisor
-    (lays_as (ap (λ (z : ℤ). decimal z ++ (line_feed ∷ [])) (divisor_value a.divisor-high a.divisor-low)) wide.put-wide.ensures))
+    (lays_as (ap (λ (z : ℤ). decimal z ++ (line_feed ∷ [])) (divisor_value a.divisor_high a.divisor_low)) c.put_wide.ensures))
 
 pub put_figure_line_spec : {M : Type 1} → statement M
 put_figure_line_spec =
-    tie.close (tie.spec (λ c κs. search needs) (λ c. search needs) (λ c κs. search needs) (λ c κs. search needs) (λ c κs. search needs)
-    (λ c κs. search needs) (λ c. search needs) returns)
+    tie.close (tie.spec (λ c κs. search rules) (λ c κs. search rules) (λ c κs. search rules) (λ c κs. search rules) (λ c κs. search rules) (λ c. search rules) returns)

@@ -1,6 +1,6 @@
 -- `pass_first::first::first_pass_of` meets its contract: each row in its order, and a refusal before any store.
 use Rattle.std.specs.Prelude.{◌≡◌, List, [], ◌∷◌, ◌++◌, ℕ, ◌≤◌, ℤ, pos, length, take, drop, replicate}
-use Rattle.vocabulary.specs.{sym, ◌∙◌, arith, now}
+use Rattle.vocabulary.specs.{sym, ◌∙◌, arith}
 use Rattle.refusals.specs.{declared.Verdict.TheVariants.Passed, declared.Verdict.Verdict, Order.verdict_of, Order.judged}
 use Rattle.refusals.specs.Table.{misclosures_row}
 use Rattle.figures.specs.Figure.{condition_count}
@@ -14,30 +14,29 @@ use Rattle.whole.proofs.Lending.{lent_length, part_again, still_few, again_lengt
 use Rattle.pass_first.proofs.first.first_pass_of.Tie as tie
 
 abbrev entry : tie.Start → FirstLent
-entry s = first_lent (now s.args.misclosures) (now s.args.numerators) (now s.args.rounded) (now s.args.corrected) (now s.args.corrected-rounds) (now s.args.rests)
+entry s = first_lent s.args.misclosures.now s.args.numerators.now s.args.rounded.now s.args.corrected.now s.args.corrected_rounds.now s.args.rests.now
 
-returns : tie.Need-returns
+returns : tie.Need-returns-in-Failed
 returns c =
-    let s = c.before.before.before.before.before.before.before.before in
-    refused_before s.args.figure s.args.limit (now s.args.angles) (now s.args.rounds) (now s.args.fixed) (entry s)
-    c.before.before.first-given-verdict.result _ c.before.before.first-given-verdict.ensures c.enum_told.given.1
+    refused_before c.args.figure c.args.limit c.args.angles.now c.args.rounds.now c.args.fixed.now (entry c.before.before.before.before.before.before.before)
+    c.first_given_verdict-before.result _ c.first_given_verdict-before.ensures c.in-Failed.is
 
 -- ---- the rows before the work have passed
 
-module _ (t : tie.After-enum-told2) where
+module _ (t : tie.In_default) where
   abbrev start : tie.Start
-  start = t.before.before.before.before.before.before.before.before
+  start = t.before.before.before.before.before.before.before
 
-  passed : judged (given_rows start.args.figure start.args.limit (now start.args.angles) (now start.args.rounds) (now start.args.fixed)
-      (first_slices (now start.args.angles) (now start.args.rounds) (now start.args.fixed) (entry start))) ≡ Passed
-  passed = sym t.before.before.first-given-verdict.ensures ∙ t.enum-told2.given.1
+  passed : judged (given_rows start.args.figure start.args.limit start.args.angles.now start.args.rounds.now start.args.fixed.now
+      (first_slices start.args.angles.now start.args.rounds.now start.args.fixed.now (entry start))) ≡ Passed
+  passed = sym t.first_given_verdict-before.ensures ∙ t.in_default.is
 
   -- the length of a slice, by its place in the list
   abbrev m : ℕ
-  m = length (now start.args.misclosures)
+  m = length start.args.misclosures.now
 
   conditions : m ≡ condition_count start.args.figure
-  conditions = length_at start.args.figure start.args.limit (now start.args.angles) (now start.args.rounds) (now start.args.fixed) (entry start) passed 3
+  conditions = length_at start.args.figure start.args.limit start.args.angles.now start.args.rounds.now start.args.fixed.now (entry start) passed 3
 
   few : m ≤ 9
   few = omega (arith, conditions, condition_bound start.args.figure)
@@ -45,19 +44,18 @@ module _ (t : tie.After-enum-told2) where
   lent : m ≡ length (take m (replicate 9 (pos 0)))
   lent = lent_length m (replicate 9 (pos 0)) few
 
-misclosures_into_requires : tie.Need-misclosures-into-requires
+misclosures_into_requires : tie.Need-misclosures_into-requires
 misclosures_into_requires c κs =
-    let t = c.before in
-    let s = start t in
-    let at = length_at s.args.figure s.args.limit (now s.args.angles) (now s.args.rounds) (now s.args.fixed) (entry s) (passed t) in (
+    let s = start c.before in
+    let at = length_at s.args.figure s.args.limit s.args.angles.now s.args.rounds.now s.args.fixed.now (entry s) (passed c.before) in (
       at 0,
       (
         at 2,
         (
-          sym (lent t) ∙ conditions t,
+          sym (lent c.before) ∙ conditions c.before,
           (
-            small_angles s.args.figure s.args.limit (now s.args.angles) (now s.args.rounds) (now s.args.fixed) (entry s) (passed t),
-            small_fixed s.args.figure s.args.limit (now s.args.angles) (now s.args.rounds) (now s.args.fixed) (entry s) (passed t),
+            small_angles s.args.figure s.args.limit s.args.angles.now s.args.rounds.now s.args.fixed.now (entry s) (passed c.before),
+            small_fixed s.args.figure s.args.limit s.args.angles.now s.args.rounds.now s.args.fixed.now (entry s) (passed c.before),
           ),
         ),
       ),
@@ -65,15 +63,15 @@ misclosures_into_requires c κs =
 
 -- ---- the misclosures, where they were lent
 
-module _ (k : tie.After-misclosures-into) where
-  abbrev told : tie.After-enum-told2
+module _ (k : tie.After-misclosures_into) where
+  abbrev told : tie.In_default
   told = k.before.before
 
   abbrev part : List ℤ
-  part = k.misclosures-into.last.1.1.1.0
+  part = k.misclosures_into.new.w
 
   kept : length part ≡ length (take (m told) (replicate 9 (pos 0)))
-  kept = k.misclosures-into.kept.1.1.1.0
+  kept = k.misclosures_into.auto.w
 
   abbrev again : List ℤ
   again = take (m told) (part ++ drop (m told) (replicate 9 (pos 0)))
@@ -84,63 +82,50 @@ module _ (k : tie.After-misclosures-into) where
   aggregate : m told ≡ length again
   aggregate = again_length (m told) (replicate 9 (pos 0)) (few told) part kept
 
-  are : again ≡ misclosures_of (start told).args.figure (now (start told).args.angles) (now (start told).args.fixed)
-  are = part_again (m told) (replicate 9 (pos 0)) (few told) part kept ∙ k.misclosures-into.ensures
+  are : again ≡ misclosures_of (start told).args.figure ((start told).args.angles.now) ((start told).args.fixed.now)
+  are = part_again (m told) (replicate 9 (pos 0)) (few told) part kept ∙ k.misclosures_into.ensures
 
   asked : (v : Verdict) (limit : ℕ) → v ≡ verdict_of (misclosures_row limit again) → limit ≡ limit_of (start told).args.limit
-      → v ≡ verdict_of (misclosures_row (limit_of (start told).args.limit) (misclosures_of (start told).args.figure (now (start told).args.angles) (now (start told).args.fixed)))
+      → v ≡ verdict_of (misclosures_row (limit_of (start told).args.limit) (misclosures_of (start told).args.figure ((start told).args.angles.now) ((start told).args.fixed.now)))
   asked v limit e in-force = e ∙ λ i. verdict_of (misclosures_row (in-force i) (are i))
 
-returns-2 : tie.Need-returns-2
+returns-2 : tie.Need-returns-in-Failed-beyond
 returns-2 c =
-    let k = c.before.before.before.before.before.before in
-    let t = told k in
+    let t = told c.before.before.before.before.before in
     let s = start t in
-    let v = c.before.before in
-    refused_misclosure s.args.figure s.args.limit (now s.args.angles) (now s.args.rounds) (now s.args.fixed) (entry s) (passed t)
-    v.misclosures-verdict.result _ (asked k _ _ v.misclosures-verdict.ensures v.before.limit-in-force.ensures) c.enum-told3.given.1
+    refused_misclosure s.args.figure s.args.limit s.args.angles.now s.args.rounds.now s.args.fixed.now (entry s) (passed t)
+    c.misclosures_verdict-beyond.result _ (asked c.before.before.before.before.before _ _ c.misclosures_verdict-beyond.ensures c.limit_in_force.ensures) c.in-Failed-beyond.is
 
 -- number 6 has passed
-within : (c : tie.After-enum-told4) → (let k = c.before.before.before.before.before.before in let s = start (told k) in
-    verdict_of (misclosures_row (limit_of s.args.limit) (misclosures_of s.args.figure (now s.args.angles) (now s.args.fixed))) ≡ Passed)
+within : (c : tie.In_default-beyond) → (let s = start (told c.before.before.before.before.before) in
+    verdict_of (misclosures_row (limit_of s.args.limit) (misclosures_of s.args.figure s.args.angles.now s.args.fixed.now)) ≡ Passed)
 within c =
-    let v = c.before.before in
-    sym (asked c.before.before.before.before.before.before _ _ v.misclosures-verdict.ensures v.before.limit-in-force.ensures) ∙ c.enum-told4.given.1
+    sym (asked c.before.before.before.before.before _ _ c.misclosures_verdict-beyond.ensures c.limit_in_force.ensures) ∙ c.in_default-beyond.is
 
-first_corrected_requires : tie.Need-first-corrected-requires
+first_corrected_requires : tie.Need-first_corrected-outside-requires
 first_corrected_requires c κs =
-    let k = c.before.before.before.before.before.before.before.before.before.before.before.before in
-    let t = told k in
+    let t = told c.before.before.before.before.before.before.before.before.before.before.before in
     let s = start t in
-    let at = length_at s.args.figure s.args.limit (now s.args.angles) (now s.args.rounds) (now s.args.fixed) (entry s) (passed t) in
-    let small = small_misclosures s.args.figure s.args.limit (now s.args.angles) (now s.args.rounds) (now s.args.fixed) (entry s) (passed t) (within c.before.before.before.before.before.before) in
+    let at = length_at s.args.figure s.args.limit s.args.angles.now s.args.rounds.now s.args.fixed.now (entry s) (passed t) in
+    let small = small_misclosures s.args.figure s.args.limit s.args.angles.now s.args.rounds.now s.args.fixed.now (entry s) (passed t) (within c.before.before.before.before.before.before) in
     let lengths : work_lent (work_of (entry s)) ≡ work_lengths s.args.figure = λ i. at 3 i ∷ at 4 i ∷ at 5 i ∷ at 6 i ∷ at 8 i ∷ [] in (
       at 0,
       (
-        sym (aggregate k) ∙ conditions t,
-        (lengths, λ i. rw (are k) (small i)),
+        sym (aggregate c.before.before.before.before.before.before.before.before.before.before.before) ∙ conditions t,
+        (lengths, λ i. rw (are c.before.before.before.before.before.before.before.before.before.before.before) (small i)),
       ),
     )
 
-abbrev corrected : tie.After-slice-known4 → tie.After-first-corrected
+abbrev corrected : tie.After-slice_known-4-1 → tie.After-first_corrected-outside
 corrected c = c.before.before.before.before.before.before.before.before.before.before
 
-returns-3 : tie.Need-returns-3
+returns-3 : tie.Need-returns
 returns-3 c =
-    let worked = corrected c in
-    let within-limit = worked.before.before.before.before.before.before.before in
-    let k = within-limit.before.before.before.before.before.before in
-    let t = told k in
+    let t = told c.before.before.before.before.before.before.before.before.before.before.before.before.before.before.before.before.before.before.before.before.before.before in
     let s = start t in
-    by_results s.args.figure s.args.limit (now s.args.angles) (now s.args.rounds) (now s.args.fixed) (entry s) (passed t) (within within-limit)
-    (again k) (are k) worked.first-corrected.ensures c.before.before.store-rounds.ensures
+    by_results s.args.figure s.args.limit s.args.angles.now s.args.rounds.now s.args.fixed.now (entry s) (passed t) (within c.before.before.before.before.before.before.before.before.before.before.before.before.before.before.before.before.before)
+    (again c.before.before.before.before.before.before.before.before.before.before.before.before.before.before.before.before.before.before.before.before.before.before) (are c.before.before.before.before.before.before.before.before.before.before.before.before.before.before.before.before.before.before.before.before.before.before) c.first_corrected-outside.ensures c.store_rounds.ensures
 
 pub first_pass_of_spec : {M : Type 1} → statement M
 first_pass_of_spec =
-    tie.close (tie.spec (λ c κs. tt) (λ c. c.match.keys1) returns (λ c. c.match.keys2) (λ c. few c) (λ c. lent c.before)
-    misclosures_into_requires (λ c. share c.before) (λ c. aggregate c.before.before) (λ c κs. tt) (λ c κs. tt)
-    (λ c. c.match2.keys1) returns-2 (λ c. c.match2.keys2) (λ c. share c.before.before.before.before.before.before)
-    (λ c. aggregate c.before.before.before.before.before.before.before) first_corrected_requires (λ c κs. tt)
-    (λ c. (corrected c).first-corrected.auto.1.1.1.0) (λ c. (corrected c).first-corrected.auto.1.1.1.1.0)
-    (λ c. (corrected c).first-corrected.auto.1.1.1.1.1.0) (λ c. (corrected c).first-corrected.auto.1.1.1.1.1.1.0)
-    (λ c. c.before.before.store-rounds.auto.1.1.0) (λ c. (corrected c).first-corrected.auto.1.1.1.1.1.1.1.0) returns-3)
+    tie.close (tie.spec (λ c κs. tt) (λ c. c.in-Failed-1.keys1) returns (λ c. c.in_default-1.keys2) (λ c. few c) (λ c. lent c.before) misclosures_into_requires (λ c. share c.before) (λ c. aggregate c.before.before) (λ c κs. tt) (λ c κs. tt) (λ c. c.in-Failed-beyond-1.keys1) returns-2 (λ c. c.in_default-beyond-1.keys2) (λ c. share c.before.before.before.before.before) (λ c. aggregate c.before.before.before.before.before.before) first_corrected_requires (λ c κs. tt) (λ c. c.first_corrected-outside.auto.misclosures) (λ c. c.first_corrected-outside.auto.numerators) (λ c. c.first_corrected-outside.auto.rounded) (λ c. c.first_corrected-outside.auto.corrected) (λ c. c.store_rounds.auto.lent) (λ c. c.first_corrected-outside.auto.rests) returns-3)

@@ -1,6 +1,6 @@
 -- `pass_first::misclosures::should_be` meets its contract: the targets of each family.
 use Rattle.std.specs.Prelude.{◌≡◌, List, ℕ, suc, ◌+◌, ◌-◌, ◌≤◌, ◌<◌, T, length}
-use Rattle.vocabulary.specs.{sym, ap, ◌∙◌, subst, arith, needs, now, w32, to_z_pos}
+use Rattle.vocabulary.specs.{sym, ap, ◌∙◌, subst, arith, rules, w32, to_z_pos}
 use Rattle.figures.specs.{declared.Figure.Figure, declared.Figure.TheVariants.Quadrilateral, declared.Target.Target}
 use Rattle.figures.specs.declared.Target.TheVariants.{HalfTurn, FullTurn, FixedAngle}
 use Rattle.figures.specs.Figure.{description, target_of, condition_count, fixed_count}
@@ -45,52 +45,44 @@ told f j fixed t e = ap (λ (u : Target). should_be u fixed) (sym e)
 -- ---- the needs
 
 -- what is told of code 2
-inside : (c : tie.At-match-keys2) → T (is_point_inside c.before.args.figure)
-inside c = is_point_inside_lem c.before.args.figure c.match.keys2
+inside : (c : tie.In-PointInTriangle) → T (is_point_inside c.args.figure)
+inside c = is_point_inside_lem c.args.figure c.in-PointInTriangle.in-PointInTriangle-own.keys2
 
-few : (c : tie.Else1) → (let args = c.before.before.args in args.j - length (now args.fixed) < length (now args.fixed))
+few : (c : tie.Else-j-fixed) → (let args = c.args in args.j - length args.fixed.now < length args.fixed.now)
 few c =
-    let start = c.before.before in
-    fixed_few start.args.figure (inside c.before) _ start.requires.0 start.args.j (omega arith)
+    fixed_few c.args.figure (inside c.before) _ c.requires.0 c.args.j (omega arith)
 
-cast_result : tie.Need-overflow-cast-result
+cast_result : tie.Need-overflow_cast-result
 cast_result c =
-    let start = c.before.before.before in
-    record { sfits = omega (arith, start.requires.1.1.1 (start.args.j - length (now start.args.fixed))) }
+    record { sfits = omega (arith, c.requires.1.1.1 (c.args.j - length c.args.fixed.now)) }
 
-returns : tie.Need-returns
+returns : tie.Need-returns-in-Quadrilateral
 returns c =
-    let start = c.before.before in
-    told start.args.figure start.args.j _ HalfTurn (quadrilateral start.args.figure c.enum_told.given.1 start.args.j (omega arith))
+    told c.args.figure c.args.j _ HalfTurn (quadrilateral c.args.figure c.in-Quadrilateral.is c.args.j (omega arith))
 
-returns-2 : tie.Need-returns-2
+returns-2 : tie.Need-returns-then-j-fixed
 returns-2 c =
-    let start = c.before.before in
-    let f = start.args.figure in
-    told f start.args.j _ HalfTurn (point_triangle f (inside c.before) _ start.requires.0 start.args.j (omega arith))
+    let f = c.args.figure in
+    told f c.args.j _ HalfTurn (point_triangle f (inside c.before) _ c.requires.0 c.args.j (omega arith))
 
-returns-3 : tie.Need-returns-3
+returns-3 : tie.Need-returns-else-j-fixed
 returns-3 c =
-    let start = c.before.before.before in
-    let f = start.args.figure in
-    let j = start.args.j in
-    let fixed = length (now start.args.fixed) in
-    to_z_pos w32 (omega (arith, start.requires.1.1.1 (j - fixed)))
-    ∙ told f j _ (FixedAngle (suc (j - fixed))) (point_corner f (inside c.before.before) fixed start.requires.0 j (omega arith) (omega arith))
+    let f = c.args.figure in
+    let j = c.args.j in
+    let fixed = length c.args.fixed.now in
+    to_z_pos w32 (omega (arith, c.requires.1.1.1 (j - fixed)))
+    ∙ told f j _ (FixedAngle (suc (j - fixed))) (point_corner f (inside c.before.before) fixed c.requires.0 j (omega arith) (omega arith))
 
-returns-4 : tie.Need-returns-4
+returns-4 : tie.Need-returns-then-j-conditions
 returns-4 c =
-    let start = c.before.before in
-    let f = start.args.figure in
-    told f start.args.j _ HalfTurn (polygon_triangle f (is_polygon_lem f c.before.match.keys3) start.args.j (omega arith))
+    let f = c.args.figure in
+    told f c.args.j _ HalfTurn (polygon_triangle f (is_polygon_lem f c.in_default.in_default-own.keys3) c.args.j (omega arith))
 
-returns-5 : tie.Need-returns-5
+returns-5 : tie.Need-returns-else-j-conditions
 returns-5 c =
-    let start = c.before.before in
-    let f = start.args.figure in
-    told f start.args.j _ FullTurn (polygon_horizon f (is_polygon_lem f c.before.match.keys3) start.args.j (omega arith) (omega arith))
+    let f = c.args.figure in
+    told f c.args.j _ FullTurn (polygon_horizon f (is_polygon_lem f c.in_default.in_default-own.keys3) c.args.j (omega arith) (omega arith))
 
 pub should_be_spec : {M : Type 1} → statement M
 should_be_spec =
-    tie.close (tie.spec (λ c. search needs) (λ c. omega arith) (λ c. omega (arith, few c)) (λ c. few c.before) cast_result
-    (λ c. search needs) returns returns-2 returns-3 returns-4 returns-5)
+    tie.close (tie.spec (λ c. search rules) (λ c. omega arith) (λ c. omega (arith, few c)) (λ c. few c.before) cast_result (λ c. search rules) returns returns-2 returns-3 returns-4 returns-5)

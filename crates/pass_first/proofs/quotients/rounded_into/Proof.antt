@@ -1,6 +1,6 @@
 -- `pass_first::quotients::rounded_into` meets its contract: each figure's denominator is its type's.
 use Rattle.std.specs.Prelude.{◌≡◌, List, ℤ, length}
-use Rattle.vocabulary.specs.{sym, ap, ◌∙◌, needs, now}
+use Rattle.vocabulary.specs.{sym, ap, ◌∙◌, rules}
 use Rattle.whole.specs.{Lists.listed, Quotient.rounded_quotient, Sums.vector}
 use Rattle.figures.specs.{declared.Figure.Figure, Figure.denominator}
 use Rattle.pass_first.proofs.quotients.rounded_into.Statement.{statement}
@@ -13,27 +13,4 @@ by f g numerators rounded told e = e ∙ ap (λ (h : Figure). listed (length num
 
 pub rounded_into_spec : {M : Type 1} → statement M
 rounded_into_spec =
-    tie.close (tie.spec (λ c. search needs) (λ c. search needs) (λ c κs. c.before.before.before.requires) (λ c. search needs)
-    (λ c. search needs) (λ c κs. c.before.before.before.requires) (λ c. search needs) (λ c. search needs)
-    (λ c κs. c.before.before.before.requires) (λ c. search needs) (λ c. search needs) (λ c κs. c.before.before.before.requires)
-    (λ c. search needs) (λ c. search needs) (λ c κs. c.before.before.before.requires) (λ c. search needs) (λ c. search needs)
-    (λ c κs. c.before.before.before.requires) (λ c. search needs) (λ c. search needs) (λ c κs. c.before.before.before.requires)
-    (λ c. search needs) (λ c. search needs) (λ c κs. c.before.before.before.requires) (λ c. search needs) (λ c. search needs)
-    (λ c κs. c.before.before.before.requires) (λ c. search needs)
-    (λ c. by _ Figure.Quadrilateral (now c.before.before.before.before.before.args.numerators) _ c.before.before.before.enum_told.given.1 c.before.over.ensures)
-    (λ c. search needs)
-    (λ c. by _ Figure.PointInTriangle (now c.before.before.before.before.before.args.numerators) _ c.before.before.before.enum-told2.given.1 c.before.over2.ensures)
-    (λ c. search needs)
-    (λ c. by _ Figure.PointInQuadrilateral (now c.before.before.before.before.before.args.numerators) _ c.before.before.before.enum-told3.given.1 c.before.over3.ensures)
-    (λ c. search needs)
-    (λ c. by _ Figure.CentralTriangle (now c.before.before.before.before.before.args.numerators) _ c.before.before.before.enum-told4.given.1 c.before.over4.ensures)
-    (λ c. search needs)
-    (λ c. by _ Figure.CentralQuadrilateral (now c.before.before.before.before.before.args.numerators) _ c.before.before.before.enum-told5.given.1 c.before.over5.ensures)
-    (λ c. search needs)
-    (λ c. by _ Figure.CentralPentagon (now c.before.before.before.before.before.args.numerators) _ c.before.before.before.enum-told6.given.1 c.before.over6.ensures)
-    (λ c. search needs)
-    (λ c. by _ Figure.CentralHexagon (now c.before.before.before.before.before.args.numerators) _ c.before.before.before.enum-told7.given.1 c.before.over7.ensures)
-    (λ c. search needs)
-    (λ c. by _ Figure.CentralHeptagon (now c.before.before.before.before.before.args.numerators) _ c.before.before.before.enum-told8.given.1 c.before.over8.ensures)
-    (λ c. search needs)
-    (λ c. by _ Figure.CentralOctagon (now c.before.before.before.before.before.args.numerators) _ c.before.before.before.enum-told9.given.1 c.before.over9.ensures))
+    tie.close (tie.spec (λ c. search rules) (λ c. search rules) (λ c κs. c.requires) (λ c. search rules) (λ c. search rules) (λ c κs. c.requires) (λ c. search rules) (λ c. search rules) (λ c κs. c.requires) (λ c. search rules) (λ c. search rules) (λ c κs. c.requires) (λ c. search rules) (λ c. search rules) (λ c κs. c.requires) (λ c. search rules) (λ c. search rules) (λ c κs. c.requires) (λ c. search rules) (λ c. search rules) (λ c κs. c.requires) (λ c. search rules) (λ c. search rules) (λ c κs. c.requires) (λ c. search rules) (λ c. search rules) (λ c κs. c.requires) (λ c. search rules) (λ c. by _ Figure.Quadrilateral c.args.numerators.now _ c.in-Quadrilateral.is c.over.ensures) (λ c. search rules) (λ c. by _ Figure.PointInTriangle c.args.numerators.now _ c.in-PointInTriangle.is c.over-in-PointInTriangle.ensures) (λ c. search rules) (λ c. by _ Figure.PointInQuadrilateral c.args.numerators.now _ c.in-PointInQuadrilateral.is c.over-in-PointInQuadrilateral.ensures) (λ c. search rules) (λ c. by _ Figure.CentralTriangle c.args.numerators.now _ c.in-CentralTriangle.is c.over-in-CentralTriangle.ensures) (λ c. search rules) (λ c. by _ Figure.CentralQuadrilateral c.args.numerators.now _ c.in-CentralQuadrilateral.is c.over-in-CentralQuadrilateral.ensures) (λ c. search rules) (λ c. by _ Figure.CentralPentagon c.args.numerators.now _ c.in-CentralPentagon.is c.over-in-CentralPentagon.ensures) (λ c. search rules) (λ c. by _ Figure.CentralHexagon c.args.numerators.now _ c.in-CentralHexagon.is c.over-in-CentralHexagon.ensures) (λ c. search rules) (λ c. by _ Figure.CentralHeptagon c.args.numerators.now _ c.in-CentralHeptagon.is c.over-in-CentralHeptagon.ensures) (λ c. search rules) (λ c. by _ Figure.CentralOctagon c.args.numerators.now _ c.in-CentralOctagon.is c.over-in-CentralOctagon.ensures))

@@ -1,7 +1,7 @@
 -- `pass_second::corrections::second_corrected` meets its contract: number 7 is asked of the results, and everything is stored where it
 -- passes.
 use Rattle.std.specs.Prelude.{Bool, cond, ◌≡◌, List, [], ◌∷◌, ◌++◌, ℕ, ◌≤◌, ℤ, pos, length, get_or, take, drop, replicate}
-use Rattle.vocabulary.specs.{sym, ap, ◌∙◌, arith, now}
+use Rattle.vocabulary.specs.{sym, ap, ◌∙◌, arith}
 use Rattle.whole.specs.{Lists.listed, Sums.vector}
 use Rattle.refusals.specs.{declared.Verdict.Verdict, Order.verdict_of, Order.judged, Table.lengths_row, Table.results_row}
 use Rattle.judging.specs.Searches.{results_of}
@@ -18,30 +18,29 @@ use Rattle.pass_second.proofs.corrections.second_corrected.Tie as tie
 
 abbrev entry : tie.Start → SecondWork
 entry s =
-    second_work (now s.args.reduced) (now s.args.side-reduced) (now s.args.numerators-high) (now s.args.numerators-low)
-    (now s.args.rounded) (now s.args.adjusted) (now s.args.rests)
+    second_work s.args.reduced.now s.args.side_reduced.now s.args.numerators_high.now s.args.numerators_low.now
+    s.args.rounded.now s.args.adjusted.now s.args.rests.now
 
 -- an array of words
 abbrev no_words : List ℕ
 no_words = replicate 24 0
 
-few : (s : tie.Start) → length (now s.args.angles) ≤ 24
+few : (s : tie.Start) → length s.args.angles.now ≤ 24
 few s = omega (arith, s.requires.1.0, angle_bound s.args.figure)
 
 -- the slices for the results, by their places in the list of lengths
 room : (s : tie.Start) (k : ℕ) → get_or (work_lent (entry s)) k 0 ≡ get_or (work_lengths s.args.figure) k 0
 room s k = ap (λ (l : List ℕ). get_or l k 0) s.requires.1.1.1.1.0
 
-corrections_into_requires : tie.Need-corrections-into-requires
+corrections_into_requires : tie.Need-corrections_into-requires
 corrections_into_requires c κs =
-    let s = c.before.before.before.before.before.before.before in
-    let f = s.args.figure in
-    let pre = s.requires in
-    let n = sym (lent_length _ (replicate 24 (pos 0)) (few s)) ∙ pre.1.0 ∙ sym pre.1.1.0 in
-    let words = sym (lent_length _ no_words (few s)) ∙ pre.1.0 ∙ sym pre.1.1.0 in
-    let beside : (s.args.sides ≡ 0 → ⊥) → length (now s.args.b) ≡ length (now s.args.a) =
+    let f = c.args.figure in
+    let pre = c.requires in
+    let n = sym (lent_length _ (replicate 24 (pos 0)) (few c.before.before.before.before.before.before.before)) ∙ pre.1.0 ∙ sym pre.1.1.0 in
+    let words = sym (lent_length _ no_words (few c.before.before.before.before.before.before.before)) ∙ pre.1.0 ∙ sym pre.1.1.0 in
+    let beside : (c.args.sides ≡ 0 → ⊥) → length c.args.b.now ≡ length c.args.a.now =
     λ some. pre.1.1.1.0 ∙ ap (λ (b : Bool). cond b (angle_count f) 0) (side_some f (λ e. some (pre.0 ∙ e))) ∙ sym pre.1.1.0 in (
-      rw c.before.before.before.Counts-of.ensures (denominator_bound f),
+      rw c.counts_of-denominator.ensures (denominator_bound f),
       (
         pre.1.1.1.1.1.1.0,
         (
@@ -52,12 +51,12 @@ corrections_into_requires c κs =
     )
 
 -- what the corrections left, each at the start of its array
-module _ (k : tie.After-corrections-into) where
+module _ (k : tie.After-corrections_into) where
   abbrev start : tie.Start
   start = k.before.before.before.before.before.before.before.before
 
   abbrev n : ℕ
-  n = length (now start.args.angles)
+  n = length start.args.angles.now
 
   abbrev f : Figure
   f = start.args.figure
@@ -69,22 +68,22 @@ module _ (k : tie.After-corrections-into) where
   again_words part = take n (part ++ drop n no_words)
 
   abbrev high_part : List ℤ
-  high_part = k.corrections-into.last.1.1.1.1.1.1.0
+  high_part = k.corrections_into.new.high
 
   abbrev low_part : List ℕ
-  low_part = k.corrections-into.last.1.1.1.1.1.1.1.0
+  low_part = k.corrections_into.new.low
 
   abbrev tenths_part : List ℤ
-  tenths_part = k.corrections-into.last.1.1.1.1.1.1.1.1.0
+  tenths_part = k.corrections_into.new.tenths
 
   high_kept : length high_part ≡ length (take n (replicate 24 (pos 0)))
-  high_kept = k.corrections-into.kept.1.1.1.1.1.1.0
+  high_kept = k.corrections_into.auto.high
 
   low_kept : length low_part ≡ length (take n no_words)
-  low_kept = k.corrections-into.kept.1.1.1.1.1.1.1.0
+  low_kept = k.corrections_into.auto.low
 
   tenths_kept : length tenths_part ≡ length (take n (replicate 24 (pos 0)))
-  tenths_kept = k.corrections-into.kept.1.1.1.1.1.1.1.1.0
+  tenths_kept = k.corrections_into.auto.tenths
 
   share : (part : List ℤ) → length part ≡ length (take n (replicate 24 (pos 0))) → n ≤ length (part ++ drop n (replicate 24 (pos 0)))
   share part same = still_few n (replicate 24 (pos 0)) (few start) part same
@@ -98,23 +97,23 @@ module _ (k : tie.After-corrections-into) where
   aggregate_words : n ≡ length (again_words low_part)
   aggregate_words = again_length n no_words (few start) low_part low_kept
 
-  whole : k.before.before.before.before.Counts-of.result.denominator ≡ denominator f
-  whole = ap (λ (m : Counts). m.denominator) k.before.before.before.before.Counts-of.ensures
+  whole : k.counts_of-denominator.result.denominator ≡ denominator f
+  whole = ap (λ (m : Counts). m.denominator) k.counts_of-denominator.ensures
 
   abbrev a : List ℤ
-  a = now start.args.a
+  a = start.args.a.now
 
   abbrev b : List ℤ
-  b = now start.args.b
+  b = start.args.b.now
 
   highs : again high_part ≡ highs_from (denominator f) start.args.sides start.args.pair a b
   highs =
-      part_again n (replicate 24 (pos 0)) (few start) high_part high_kept ∙ k.corrections-into.ensures.0
+      part_again n (replicate 24 (pos 0)) (few start) high_part high_kept ∙ k.corrections_into.ensures.0
       ∙ ap (λ (d : ℕ). highs_from d start.args.sides start.args.pair a b) whole
 
   lows : again_words low_part ≡ lows_from (denominator f) start.args.sides start.args.pair a b
   lows =
-      part_again n no_words (few start) low_part low_kept ∙ k.corrections-into.ensures.1.0
+      part_again n no_words (few start) low_part low_kept ∙ k.corrections_into.ensures.1.0
       ∙ ap (λ (d : ℕ). lows_from d start.args.sides start.args.pair a b) whole
 
   abbrev rounded : List ℤ
@@ -122,56 +121,54 @@ module _ (k : tie.After-corrections-into) where
 
   tenths : again tenths_part ≡ rounded
   tenths =
-      part_again n (replicate 24 (pos 0)) (few start) tenths_part tenths_kept ∙ k.corrections-into.ensures.1.1
+      part_again n (replicate 24 (pos 0)) (few start) tenths_part tenths_kept ∙ k.corrections_into.ensures.1.1
       ∙ ap (λ (d : ℕ). tenths_from d start.args.sides start.args.pair a b) whole
 
   abbrev new : SecondWork
-  new = second_from f (now start.args.angles) start.args.sides start.args.pair a b
+  new = second_from f start.args.angles.now start.args.sides start.args.pair a b
 
   abbrev verdict : Verdict
-  verdict = verdict_of (results_row (results_of (now start.args.angles) rounded))
+  verdict = verdict_of (results_row (results_of start.args.angles.now rounded))
 
   -- the lengths are right, so that number 7 decides
-  decided : judged (results_rows (now start.args.angles) (again tenths_part) (length (now start.args.adjusted))) ≡ verdict
+  decided : judged (results_rows start.args.angles.now (again tenths_part) (length start.args.adjusted.now)) ≡ verdict
   decided =
       let own = n ∷ n ∷ [] in
-      let same : length (again tenths_part) ∷ length (now start.args.adjusted) ∷ [] ≡ own =
-      λ i. sym (aggregate tenths_part tenths_kept) i ∷ (room start 5 ∙ sym start.pre.1.0) i ∷ [] in
-      first_passes (lengths_row (length (again tenths_part) ∷ length (now start.args.adjusted) ∷ []) own) (results_row (results_of (now start.args.angles) (again tenths_part)))
+      let same : length (again tenths_part) ∷ length start.args.adjusted.now ∷ [] ≡ own =
+      λ i. sym (aggregate tenths_part tenths_kept) i ∷ (room start 5 ∙ sym start.requires.1.0) i ∷ [] in
+      first_passes (lengths_row (length (again tenths_part) ∷ length start.args.adjusted.now ∷ []) own) (results_row (results_of start.args.angles.now (again tenths_part)))
       (lengths_pass _ own same)
-      ∙ ap (λ (l : List ℤ). verdict_of (results_row (results_of (now start.args.angles) l))) tenths
+      ∙ ap (λ (l : List ℤ). verdict_of (results_row (results_of start.args.angles.now l))) tenths
 
 -- where the results were asked
-module _ (asked : tie.After-results-into) where
-  abbrev made : tie.After-corrections-into
+module _ (asked : tie.After-results_into-outside) where
+  abbrev made : tie.After-corrections_into
   made = asked.before.before.before.before.before.before
 
-  answered : asked.results-into.result ≡ verdict made
-  answered = asked.results-into.ensures.answered ∙ decided made
+  answered : asked.results_into-outside.result ≡ verdict made
+  answered = asked.results_into-outside.ensures.answered ∙ decided made
 
-store_second_requires : tie.Need-store-second-requires
+store_second_requires : tie.Need-store_second-requires
 store_second_requires c κs =
-    let told = c.before.before.before.before.before.before.before.before.before in
-    let asked = told.before.before.before.before in
-    let k = made asked in
+    let k = made c.before.before.before.before.before.before.before.before.before.before.before.before in
     let s = start k in
-    let passed = sym (answered asked) ∙ told.enum_told.given.1 in
+    let passed = sym (answered c.before.before.before.before.before.before.before.before.before.before.before.before) ∙ c.in-Passed.is in
     let many = sym (aggregate k (tenths_part k) (tenths_kept k)) in (
-      room s 0 ∙ sym s.pre.1.1.0,
+      room s 0 ∙ sym s.requires.1.1.0,
       (
-        room s 1 ∙ sym s.pre.1.1.1.0,
+        room s 1 ∙ sym s.requires.1.1.1.0,
         (
-          room s 2 ∙ sym s.pre.1.0 ∙ aggregate k (high_part k) (high_kept k),
+          room s 2 ∙ sym s.requires.1.0 ∙ aggregate k (high_part k) (high_kept k),
           (
-            room s 3 ∙ sym s.pre.1.0 ∙ aggregate_words k,
+            room s 3 ∙ sym s.requires.1.0 ∙ aggregate_words k,
             (
-              many ∙ s.pre.1.0,
+              many ∙ s.requires.1.0,
               (
                 room s 4,
                 (
                   room s 6,
-                  λ i. passed_small (now s.args.angles) (again k (tenths_part k)) many s.pre.1.1.1.1.1.0
-                      (ap (λ (l : List ℤ). verdict_of (results_row (results_of (now s.args.angles) l))) (tenths k) ∙ passed) i,
+                  λ i. passed_small s.args.angles.now (again k (tenths_part k)) many s.requires.1.1.1.1.1.0
+                      (ap (λ (l : List ℤ). verdict_of (results_row (results_of s.args.angles.now l))) (tenths k) ∙ passed) i,
                 ),
               ),
             ),
@@ -181,69 +178,48 @@ store_second_requires c κs =
     )
 
 -- where everything is stored
-module _ (c : tie.After-rests) where
-  abbrev stores : tie.After-store-second
+module _ (c : tie.After-rests-1) where
+  abbrev stores : tie.After-store_second
   stores = c.before.before.before.before.before.before.before
 
-  abbrev passing : tie.After-enum-told
+  abbrev passing : tie.In-Passed
   passing = stores.before.before.before.before.before.before.before.before.before.before
 
-  abbrev results : tie.After-results-into
-  results = passing.before.before.before.before
+  abbrev results : tie.After-results_into-outside
+  results = passing.before.before.before
 
-returns : tie.Need-returns
+returns : tie.Need-returns-in-Passed
 returns c =
-    let told = passing c in
-    let asked = results c in
-    let k = made asked in
+    let k = made c.before.before.before.before.before.before.before.before.before.before.before.before.before.before.before.before.before.before.before.before in
     let s = start k in
-    let held = (stores c).store-second.ensures in
-    let passed = sym (answered asked) ∙ told.enum_told.given.1 in
+    let held = c.store_second.ensures in
+    let passed = sym (answered c.before.before.before.before.before.before.before.before.before.before.before.before.before.before.before.before.before.before.before.before) ∙ c.in-Passed.is in
     let high = held.highs_are ∙ highs k in
     let low = held.lows_are ∙ lows k in
     let tenth = held.rounded_are ∙ tenths k in
-    let adjusted = asked.results-into.ensures.leaves ∙ taken _ _ _ (decided k ∙ passed) ∙ ap (results_from (now s.args.angles)) (tenths k) in
+    let adjusted = c.results_into-outside.ensures.leaves ∙ taken _ _ _ (decided k ∙ passed) ∙ ap (results_from s.args.angles.now) (tenths k) in
     let rests = held.rests_are ∙ ap (λ (l : List ℤ). listed (condition_count (f k)) (condition_sum (f k) (vector l))) (tenths k) in
     record {
-      answered = answered asked;
+      answered = answered c.before.before.before.before.before.before.before.before.before.before.before.before.before.before.before.before.before.before.before.before;
       leaves =
           written (verdict k) (new k) _ passed
           (λ i. second_work (held.reduced_are i) (held.side_reduced_are i) (high i) (low i) (tenth i) (adjusted i) (rests i));
     }
 
-returns-2 : tie.Need-returns-2
+returns-2 : tie.Need-returns-in_default
 returns-2 c =
-    let asked = c.before.before.before.before in
-    let k = made asked in
+    let k = made c.before.before.before in
     let s = start k in
-    let failed = sym (answered asked) ∙ c.enum-told2.given.1 in
-    let untouched = asked.results-into.ensures.leaves ∙ sym (kept _ _ _ _ (decided k ∙ failed)) in
+    let failed = sym (answered c.before.before.before) ∙ c.in_default.is in
+    let untouched = c.results_into-outside.ensures.leaves ∙ sym (kept _ _ _ _ (decided k ∙ failed)) in
     record {
-      answered = answered asked;
+      answered = answered c.before.before.before;
       leaves =
-          (λ i. second_work (now s.args.reduced) (now s.args.side-reduced) (now s.args.numerators-high) (now s.args.numerators-low)
-          (now s.args.rounded) (untouched i) (now s.args.rests))
+          (λ i. second_work s.args.reduced.now s.args.side_reduced.now s.args.numerators_high.now s.args.numerators_low.now
+          s.args.rounded.now (untouched i) s.args.rests.now)
           ∙ kept (verdict k) (new k) _ _ failed;
     }
 
 pub second_corrected_spec : {M : Type 1} → statement M
 second_corrected_spec =
-    tie.close (tie.spec (λ c κs. tt) (λ c. few c.before.before.before.before)
-    (λ c. lent_length _ (replicate 24 (pos 0)) (few c.before.before.before.before.before))
-    (λ c. few c.before.before.before.before.before)
-    (λ c. lent_length _ no_words (few c.before.before.before.before.before.before))
-    (λ c. few c.before.before.before.before.before.before)
-    (λ c. lent_length _ (replicate 24 (pos 0)) (few c.before.before.before.before.before.before.before)) corrections_into_requires
-    (λ c. let k = c.before.before.before in share k (tenths_part k) (tenths_kept k))
-    (λ c. let k = c.before.before.before.before in aggregate k (tenths_part k) (tenths_kept k)) (λ c κs. tt) (λ c. c.match.keys1)
-    (λ c. let k = c.before.before.before.before.before.before.before.before.before.before in share k (high_part k) (high_kept k))
-    (λ c. let k = c.before.before.before.before.before.before.before.before.before.before.before in aggregate k (high_part k) (high_kept k))
-    (λ c. share_words c.before.before.before.before.before.before.before.before.before.before.before)
-    (λ c. aggregate_words c.before.before.before.before.before.before.before.before.before.before.before.before)
-    (λ c. let k = c.before.before.before.before.before.before.before.before.before.before.before.before in share k (tenths_part k) (tenths_kept k))
-    (λ c. let k = c.before.before.before.before.before.before.before.before.before.before.before.before.before in aggregate k (tenths_part k) (tenths_kept k))
-    store_second_requires (λ c. c.match.keys2) (λ c. (stores c).store-second.auto.1.1.1.1.1.1.0)
-    (λ c. (stores c).store-second.auto.1.1.1.1.1.1.1.0) (λ c. (stores c).store-second.auto.1.1.1.1.1.1.1.1.0)
-    (λ c. (stores c).store-second.auto.1.1.1.1.1.1.1.1.1.0) (λ c. (stores c).store-second.auto.1.1.1.1.1.1.1.1.1.1.0)
-    (λ c. (results c).results-into.auto.1.1.0) (λ c. (stores c).store-second.auto.1.1.1.1.1.1.1.1.1.1.1.0) returns
-    (λ c. c.before.before.before.before.results-into.auto.1.1.0) returns-2)
+    tie.close (tie.spec (λ c κs. tt) (λ c. few c.before.before.before.before) (λ c. lent_length _ (replicate 24 (pos 0)) (few c.before.before.before.before.before)) (λ c. few c.before.before.before.before.before) (λ c. lent_length _ no_words (few c.before.before.before.before.before.before)) (λ c. few c.before.before.before.before.before.before) (λ c. lent_length _ (replicate 24 (pos 0)) (few c.before.before.before.before.before.before.before)) corrections_into_requires (λ c. share c.before.before.before (tenths_part c.before.before.before) (tenths_kept c.before.before.before)) (λ c. aggregate c.before.before.before.before (tenths_part c.before.before.before.before) (tenths_kept c.before.before.before.before)) (λ c κs. tt) (λ c. c.in-Passed-1.keys1) (λ c. share c.before.before.before.before.before.before.before.before.before (high_part c.before.before.before.before.before.before.before.before.before) (high_kept c.before.before.before.before.before.before.before.before.before)) (λ c. aggregate c.before.before.before.before.before.before.before.before.before.before (high_part c.before.before.before.before.before.before.before.before.before.before) (high_kept c.before.before.before.before.before.before.before.before.before.before)) (λ c. share_words c.before.before.before.before.before.before.before.before.before.before) (λ c. aggregate_words c.before.before.before.before.before.before.before.before.before.before.before) (λ c. share c.before.before.before.before.before.before.before.before.before.before.before (tenths_part c.before.before.before.before.before.before.before.before.before.before.before) (tenths_kept c.before.before.before.before.before.before.before.before.before.before.before)) (λ c. aggregate c.before.before.before.before.before.before.before.before.before.before.before.before (tenths_part c.before.before.before.before.before.before.before.before.before.before.before.before) (tenths_kept c.before.before.before.before.before.before.before.before.before.before.before.before)) store_second_requires (λ c. c.in_default-1.keys2) (λ c. c.store_second.auto.reduced) (λ c. c.store_second.auto.side_reduced) (λ c. c.store_second.auto.numerators_high) (λ c. c.store_second.auto.numerators_low) (λ c. c.store_second.auto.rounded) (λ c. c.results_into-outside.auto.results) (λ c. c.store_second.auto.rests) returns (λ c. c.results_into-outside.auto.results) returns-2)

@@ -1,22 +1,18 @@
 -- `pass_second::corrections::store_wide` meets its contract. The invariant: the places passed hold the numbers.
 use Rattle.std.specs.Prelude.{◌-◌, pos, length}
-use Rattle.vocabulary.specs.{◌∙◌, arith, now, w32, w64}
+use Rattle.vocabulary.specs.{◌∙◌, arith, w32, w64}
 use Rattle.whole.specs.Sums.{vector}
 use Rattle.whole.proofs.Magnitudes.{widened, widens}
 use Rattle.whole.proofs.Lists.{Filled, filled_none, filled_more, filled_all, listed_get_or}
 use Rattle.pass_second.proofs.corrections.store_wide.Statement.{statement}
 use Rattle.pass_second.proofs.corrections.store_wide.Tie as tie
 
-abbrev invariant-loop : tie.invariant-loop
+abbrev invariant-loop : tie.invariant-loop-i
 invariant-loop x lent₀ i₀ lent i = Filled (length x) (vector x) i lent
 
-abbrev decreases-loop : tie.decreases-loop
+abbrev decreases-loop : tie.decreases-loop-i
 decreases-loop x lent₀ i₀ lent i = length x - i
 
 pub store_wide_spec : {M : Type 1} → statement M
 store_wide_spec =
-    tie.close (tie.spec invariant-loop decreases-loop (λ c. filled_none _ _ _ c.requires) (λ c. omega arith) (λ c. omega arith)
-    (λ c. widens w32 w64 (vector (now c.before.before.before.args.x) c.before.before.loop.i) tt (record { sfits = c.lent.given }))
-    (λ c. omega arith) (λ c. omega arith) (λ c. omega arith) (λ c. omega arith)
-    (λ c. filled_more c.before.before.loop.invariant (omega arith) (widened w32 w64 _ tt (record { sfits = c.lent.given })))
-    (λ c. omega arith) (λ c. filled_all c.before.loop.invariant (omega arith) ∙ listed_get_or (pos 0) _))
+    tie.close (tie.spec invariant-loop decreases-loop (λ c. filled_none _ _ _ c.requires) (λ c. omega arith) (λ c. omega arith) (λ c. widens w32 w64 (vector c.args.x.now c.loop-i.i) tt (record { sfits = c.lent-1.given })) (λ c. omega arith) (λ c. omega arith) (λ c. omega arith) (λ c. omega arith) (λ c. filled_more c.loop-i.invariant (omega arith) (widened w32 w64 _ tt (record { sfits = c.lent-1.given }))) (λ c. omega arith) (λ c. filled_all c.loop-i.invariant (omega arith) ∙ listed_get_or (pos 0) _))

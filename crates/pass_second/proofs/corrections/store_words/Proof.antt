@@ -5,14 +5,12 @@ use Rattle.whole.proofs.Lists.{Filled, filled_none, filled_more, filled_all, lis
 use Rattle.pass_second.proofs.corrections.store_words.Statement.{statement}
 use Rattle.pass_second.proofs.corrections.store_words.Tie as tie
 
-abbrev invariant-loop : tie.invariant-loop
+abbrev invariant-loop : tie.invariant-loop-i
 invariant-loop x lent₀ i₀ lent i = Filled (length x) (λ k. get_or x k 0) i lent
 
-abbrev decreases-loop : tie.decreases-loop
+abbrev decreases-loop : tie.decreases-loop-i
 decreases-loop x lent₀ i₀ lent i = length x - i
 
 pub store_words_spec : {M : Type 1} → statement M
 store_words_spec =
-    tie.close (tie.spec invariant-loop decreases-loop (λ c. filled_none _ _ _ c.requires) (λ c. omega arith) (λ c. omega arith) (λ c. omega arith)
-    (λ c. omega arith) (λ c. omega arith) (λ c. omega arith) (λ c. filled_more c.before.before.loop.invariant (omega arith) refl)
-    (λ c. omega arith) (λ c. filled_all c.before.loop.invariant (omega arith) ∙ listed_get_or 0 _))
+    tie.close (tie.spec invariant-loop decreases-loop (λ c. filled_none _ _ _ c.requires) (λ c. omega arith) (λ c. omega arith) (λ c. omega arith) (λ c. omega arith) (λ c. omega arith) (λ c. omega arith) (λ c. filled_more c.loop-i.invariant (omega arith) refl) (λ c. omega arith) (λ c. filled_all c.loop-i.invariant (omega arith) ∙ listed_get_or 0 _))

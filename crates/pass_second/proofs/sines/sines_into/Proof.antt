@@ -1,6 +1,6 @@
 -- `pass_second::sines::sines_into` meets its contract: d is what the signs give.
 use Rattle.std.specs.Prelude.{◌≡◌, List, ◌++◌, ℕ, ◌≤◌, ◌<◌, ℤ, pos, nat_abs, length, take, drop, replicate}
-use Rattle.vocabulary.specs.{sym, ap, ◌∙◌, subst, arith, needs, now, w64, to_z_of_z_at}
+use Rattle.vocabulary.specs.{sym, ap, ◌∙◌, subst, arith, rules, w64, to_z_of_z_at}
 use Rattle.whole.specs.{Lists.listed, Sums.dot, Sums.squares as sums_squares, Sums.vector}
 use Rattle.refusals.specs.Ranges.{most_difference}
 use Rattle.pass_rules.specs.Pass.{given}
@@ -12,22 +12,21 @@ use Rattle.pass_second.proofs.{SineSteps.own_reduced, SineSteps.own_squares, Sin
 use Rattle.pass_second.proofs.sines.sines_into.Statement.{statement}
 use Rattle.pass_second.proofs.sines.sines_into.Tie as tie
 
-few : (s : tie.Start) → length (now s.args.differences) ≤ 24
+few : (s : tie.Start) → length s.args.differences.now ≤ 24
 few s = omega (arith, s.requires.1.1.0, angle_bound s.args.figure)
 
-signed_into_requires : tie.Need-signed-into-requires
+signed_into_requires : tie.Need-signed_into-sums-requires
 signed_into_requires c κs =
-    let s = c.before.before in
-    let pre = s.requires in (
+    let pre = c.requires in (
       pre.1.0 ∙ sym pre.1.1.0,
       (
-        sym (lent_length (length (now s.args.differences)) (replicate 24 (pos 0)) (few s)),
-        (few s, (λ i h. pre.0 i (subst (λ (n : ℕ). i < n) pre.1.1.0 h), (pre.1.1.1.1.0, pre.1.1.1.1.1))),
+        sym (lent_length (length c.args.differences.now) (replicate 24 (pos 0)) (few c.before.before)),
+        (few c.before.before, (λ i h. pre.0 i (subst (λ (n : ℕ). i < n) pre.1.1.0 h), (pre.1.1.1.1.0, pre.1.1.1.1.1))),
       ),
     )
 
 -- d, where it was lent
-module _ (c : tie.After-signed-into) where
+module _ (c : tie.After-signed_into-sums) where
   abbrev start : tie.Start
   start = c.before.before.before
 
@@ -35,53 +34,46 @@ module _ (c : tie.After-signed-into) where
   f = start.args.figure
 
   abbrev differences : List ℤ
-  differences = now start.args.differences
+  differences = start.args.differences.now
 
   abbrev rule : ℕ → ℤ
   rule = signed_by start.args.signs differences
 
   abbrev d : List ℤ
-  d = take (length differences) (c.signed-into.new.1.1.1.0 ++ drop (length differences) (replicate 24 (pos 0)))
+  d = take (length differences) (c.signed_into-sums.new.d ++ drop (length differences) (replicate 24 (pos 0)))
 
   d_again : d ≡ listed (angle_count f) rule
   d_again =
-      part_again (length differences) (replicate 24 (pos 0)) (few start) c.signed-into.new.1.1.1.0 c.signed-into.auto.1.1.1.0
-      ∙ c.signed-into.ensures.1 ∙ ap (λ (k : ℕ). listed k rule) start.pre.1.1.0
+      part_again (length differences) (replicate 24 (pos 0)) (few start) c.signed_into-sums.new.d c.signed_into-sums.auto.d
+      ∙ c.signed_into-sums.ensures.1 ∙ ap (λ (k : ℕ). listed k rule) start.requires.1.1.0
 
   d_length : length differences ≡ length d
-  d_length = again_length (length differences) (replicate 24 (pos 0)) (few start) c.signed-into.new.1.1.1.0 c.signed-into.auto.1.1.1.0
+  d_length = again_length (length differences) (replicate 24 (pos 0)) (few start) c.signed_into-sums.new.d c.signed_into-sums.auto.d
 
   d_small : (i : ℕ) → i < angle_count f → nat_abs (rule i) ≤ most_difference
-  d_small i h = product_magnitude (vector start.args.signs i) (vector differences i) 1 most_difference (start.pre.0 i h) (start.pre.1.1.1.1.1 i)
+  d_small i h = product_magnitude (vector start.args.signs i) (vector differences i) 1 most_difference (start.requires.0 i h) (start.requires.1.1.1.1.1 i)
 
-reduced_into_requires : tie.Need-reduced-into-requires
+reduced_into_requires : tie.Need-reduced_into-squares-requires
 reduced_into_requires c κs =
-    let s = c.before.before.before in
-    let pre = (start s).requires in
-    (sym (d_length s) ∙ pre.1.1.0, (pre.1.1.1.0, own_small (f s) (d s) (rule s) (d_again s) most_difference (d_small s)))
+    let pre = (start c.before.before.before).requires in
+    (sym (d_length c.before.before.before) ∙ pre.1.1.0, (pre.1.1.1.0, own_small (f c.before.before.before) (d c.before.before.before) (rule c.before.before.before) (d_again c.before.before.before) most_difference (d_small c.before.before.before)))
 
 returns : tie.Need-returns
 returns c =
-    let reduced = c.before.before in
-    let s = reduced.before.before.before.before in
-    let count = (start s).requires.1.1.0 in
-    let made = s.signed-into.ensures.0 in
-    let signs = (start s).args.signs in
+    let count = (start c.before.before.before.before.before.before).requires.1.1.0 in
+    let made = c.signed_into-sums.ensures.0 in
+    let signs = (start c.before.before.before.before.before.before).args.signs in
     let misclosure =
-    to_z_of_z_at w64 _ (record { sfits = c.struct_told.given.0.1 }) ∙ ap (λ (sums : SignedSums). sums.misclosure) made
-    ∙ ap (λ (k : ℕ). dot k (vector signs) (given (now (start s).args.log-sines))) count in
-    let squares = to_z_of_z_at w64 _ (record { sfits = reduced.reduced-into.type-inv }) ∙ reduced.reduced-into.ensures.0 ∙ own_squares (f s) (d s) (rule s) (d_again s) in
+    to_z_of_z_at w64 _ (record { sfits = c.struct_told-1.given.0.1 }) ∙ ap (λ (sums : SignedSums). sums.misclosure) made
+    ∙ ap (λ (k : ℕ). dot k (vector signs) (given ((start c.before.before.before.before.before.before).args.log_sines.now))) count in
+    let squares = to_z_of_z_at w64 _ (record { sfits = c.reduced_into-squares.type_inv }) ∙ c.reduced_into-squares.ensures.0 ∙ own_squares (f c.before.before.before.before.before.before) (d c.before.before.before.before.before.before) (rule c.before.before.before.before.before.before) (d_again c.before.before.before.before.before.before) in
     let difference-squares =
-    to_z_of_z_at w64 _ (record { sfits = c.struct_told.given.1.0.1 }) ∙ ap (λ (sums : SignedSums). sums.difference_squares) made
-    ∙ ap (λ (k : ℕ). sums_squares k (rule s)) count in (
+    to_z_of_z_at w64 _ (record { sfits = c.struct_told-1.given.1.0.1 }) ∙ ap (λ (sums : SignedSums). sums.difference_squares) made
+    ∙ ap (λ (k : ℕ). sums_squares k (rule c.before.before.before.before.before.before)) count in (
       λ k. record { misclosure = misclosure k; squares = squares k; difference_squares = difference-squares k },
-      reduced.reduced-into.ensures.1 ∙ own_reduced (f s) (d s) (rule s) (d_again s),
+      c.reduced_into-squares.ensures.1 ∙ own_reduced (f c.before.before.before.before.before.before) (d c.before.before.before.before.before.before) (rule c.before.before.before.before.before.before) (d_again c.before.before.before.before.before.before),
     )
 
 pub sines_into_spec : {M : Type 1} → statement M
 sines_into_spec =
-    tie.close (tie.spec (λ c. few c.before)
-    (λ c. lent_length (length (now c.before.before.args.differences)) (replicate 24 (pos 0)) (few c.before.before))
-    signed_into_requires
-    (λ c. let s = c.before in still_few (length (differences s)) (replicate 24 (pos 0)) (few (start s)) s.signed-into.new.1.1.1.0 s.signed-into.auto.1.1.1.0)
-    (λ c. d_length c.before.before) reduced_into_requires (λ c. search needs) returns)
+    tie.close (tie.spec (λ c. few c.before) (λ c. lent_length (length c.args.differences.now) (replicate 24 (pos 0)) (few c.before.before)) signed_into_requires (λ c. still_few (length (differences c.before)) (replicate 24 (pos 0)) (few (start c.before)) c.signed_into-sums.new.d c.signed_into-sums.auto.d) (λ c. d_length c.before.before) reduced_into_requires (λ c. search rules) returns)

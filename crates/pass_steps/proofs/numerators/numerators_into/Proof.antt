@@ -1,7 +1,7 @@
 -- `pass_steps::numerators::numerators_into` meets its contract: no product is taken where a count is not the figure's own or a misclosure
 -- is too great.
 use Rattle.std.specs.Prelude.{◌≡◌, length}
-use Rattle.vocabulary.specs.{sym, ap, ◌∙◌, needs, now}
+use Rattle.vocabulary.specs.{sym, ap, ◌∙◌, rules}
 use Rattle.refusals.specs.{Order.verdict_of, Promise.stored, Table.misclosures_row}
 use Rattle.figures.specs.{declared.Counts.Counts, Figure.angle_count, Figure.condition_count}
 use Rattle.pass_steps.specs.{Premises.most_applied, Steps.numerators_from}
@@ -10,63 +10,46 @@ use Rattle.pass_steps.proofs.Judged.{misclosures_small, kept, written}
 use Rattle.pass_steps.proofs.numerators.numerators_into.Statement.{statement}
 use Rattle.pass_steps.proofs.numerators.numerators_into.Tie as tie
 
-module _ (c : tie.After-counts-of) where
-  angles : c.Counts-of.result.angles ≡ angle_count c.before.args.figure
-  angles = ap (λ (n : Counts). n.angles) c.Counts-of.ensures
+module _ (c : tie.After-counts_of-counts) where
+  angles : c.counts_of-counts.result.angles ≡ angle_count c.args.figure
+  angles = ap (λ (n : Counts). n.angles) c.counts_of-counts.ensures
 
-  conditions : c.Counts-of.result.conditions ≡ condition_count c.before.args.figure
-  conditions = ap (λ (n : Counts). n.conditions) c.Counts-of.ensures
+  conditions : c.counts_of-counts.result.conditions ≡ condition_count c.args.figure
+  conditions = ap (λ (n : Counts). n.conditions) c.counts_of-counts.ensures
 
-table_applied_requires : tie.Need-table-applied-requires
-table_applied_requires c κs =
-    let asked = c.before.before.before in
-    let second = asked.before in
-    let first = second.before.before in
-    let counted = first.before.before in (
-      first.if1.true ∙ conditions counted,
-      (
-        second.if2.true ∙ angles counted,
-        misclosures_small most_applied (now counted.before.args.w) (sym asked.misclosures-verdict.ensures ∙ c.before.enum_told.given.1),
-      ),
-    )
+table_applied_requires : tie.Need-table_applied-requires
+table_applied_requires c κs = (
+  c.if-w-counts.true ∙ conditions c.before.before.before.before.before.before.before,
+  (
+    c.if-numerators-counts.true ∙ angles c.before.before.before.before.before.before.before,
+    misclosures_small most_applied c.args.w.now (sym c.misclosures_verdict.ensures ∙ c.in-Passed.is),
+  ),
+)
 
-returns : tie.Need-returns
+returns : tie.Need-returns-in-Passed
 returns c =
-    let told = c.before.before.before in
-    let asked = told.before.before in
-    let second = asked.before in
-    let first = second.before.before in
-    let counted = first.before.before in
-    written _ _ _ (sym asked.misclosures-verdict.ensures ∙ told.enum_told.given.1) c.before.table-applied.ensures
-    ∙ sym (fits _ _ _ _ _ _ (first.if1.true ∙ conditions counted) (second.if2.true ∙ angles counted))
+    written _ _ _ (sym c.misclosures_verdict.ensures ∙ c.in-Passed.is) c.table_applied.ensures
+    ∙ sym (fits _ _ _ _ _ _ (c.if-w-counts.true ∙ conditions c.before.before.before.before.before.before.before.before.before) (c.if-numerators-counts.true ∙ angles c.before.before.before.before.before.before.before.before.before))
 
-returns-2 : tie.Need-returns-2
+returns-2 : tie.Need-returns-in_default
 returns-2 c =
-    let asked = c.before.before in
-    let second = asked.before in
-    let first = second.before.before in
-    let counted = first.before.before in
-    kept _ _ _ _ (sym asked.misclosures-verdict.ensures ∙ c.enum-told2.given.1)
-    ∙ sym (fits _ _ _ _ _ _ (first.if1.true ∙ conditions counted) (second.if2.true ∙ angles counted))
+    kept _ _ _ _ (sym c.misclosures_verdict.ensures ∙ c.in_default.is)
+    ∙ sym (fits _ _ _ _ _ _ (c.if-w-counts.true ∙ conditions c.before.before.before.before.before.before) (c.if-numerators-counts.true ∙ angles c.before.before.before.before.before.before))
 
-returns-3 : tie.Need-returns-3
+returns-3 : tie.Need-returns-else-numerators-counts
 returns-3 c =
-    let first = c.before.before in
-    let counted = first.before.before in
-    let args = counted.before.args in
-    second_unfit (length (now args.w)) (condition_count args.figure) (length (now args.numerators)) (angle_count args.figure)
-    (stored (verdict_of (misclosures_row most_applied (now args.w))) (numerators_from args.figure (now args.w)) (now args.numerators)) (now args.numerators)
-    (first.if1.true ∙ conditions counted) (λ e. c.if2.false (e ∙ sym (angles counted)))
+    let args = c.args in
+    second_unfit (length args.w.now) (condition_count args.figure) (length args.numerators.now) (angle_count args.figure)
+    (stored (verdict_of (misclosures_row most_applied args.w.now)) (numerators_from args.figure args.w.now) args.numerators.now) args.numerators.now
+    (c.if-w-counts.true ∙ conditions c.before.before.before.before) (λ e. c.if-numerators-counts.false (e ∙ sym (angles c.before.before.before.before)))
 
-returns-4 : tie.Need-returns-4
+returns-4 : tie.Need-returns-else-w-counts
 returns-4 c =
-    let counted = c.before.before in
-    let args = counted.before.args in
-    first_unfit (length (now args.w)) (condition_count args.figure) (length (now args.numerators)) (angle_count args.figure)
-    (stored (verdict_of (misclosures_row most_applied (now args.w))) (numerators_from args.figure (now args.w)) (now args.numerators)) (now args.numerators)
-    (λ e. c.if1.false (e ∙ sym (conditions counted)))
+    let args = c.args in
+    first_unfit (length args.w.now) (condition_count args.figure) (length args.numerators.now) (angle_count args.figure)
+    (stored (verdict_of (misclosures_row most_applied args.w.now)) (numerators_from args.figure args.w.now) args.numerators.now) args.numerators.now
+    (λ e. c.if-w-counts.false (e ∙ sym (conditions c.before.before)))
 
 pub numerators_into_spec : {M : Type 1} → statement M
 numerators_into_spec =
-    tie.close (tie.spec (λ c κs. search needs) (λ c κs. search needs) (λ c. search needs) table_applied_requires (λ c. search needs)
-    (λ c. search needs) returns returns-2 returns-3 returns-4)
+    tie.close (tie.spec (λ c κs. search rules) (λ c κs. search rules) (λ c. search rules) table_applied_requires (λ c. search rules) (λ c. search rules) returns returns-2 returns-3 returns-4)

@@ -12,7 +12,7 @@ bound a b f g = rw (nat_abs_mul a b) (mul-le-mul (fits_magnitude w8 a f) g)
 read : (c : tie.Start) → to_z w32 (of_z w32 (to_z w8 (of_z w8 c.args.coefficient))) *ℤ to_z w32 (of_z w32 c.args.misclosure) ≡ c.args.coefficient *ℤ c.args.misclosure
 read c = ap₂ ◌*ℤ◌ (widened w8 w32 c.args.coefficient tt c.ranges.coefficient) (to_z-of_z c.ranges.misclosure)
 
-mul_result : tie.Need-overflow-mul-result
+mul_result : tie.Need-overflow_mul-result
 mul_result c =
     let small = bound c.args.coefficient c.args.misclosure c.ranges.coefficient c.requires in
     rw (read c) (magnitude_fits w32 (c.args.coefficient *ℤ c.args.misclosure) (omega (arith, small)))

@@ -1,6 +1,6 @@
 -- `sheet_reader::columns::angle_column` meets its contract: the arms are the clauses of `angle_column`.
 use Rattle.std.specs.Prelude.{ℕ, ◌+◌, ◌≡◌, refl}
-use Rattle.vocabulary.specs.{sym, ap, ap₂, ◌∙◌, arith, needs}
+use Rattle.vocabulary.specs.{sym, ap, ap₂, ◌∙◌, arith, rules}
 use Rattle.figures.specs.declared.Figure.{Figure}
 use Rattle.sheet_layout.specs.{declared.Kind.Kind, declared.Pass.Pass, Kinds.pass_of, Kinds.carries_rounds, Kinds.of_pass, Layout.rounds_bits}
 use Rattle.sheet_layout.proofs.Sizes.{rounds_small}
@@ -22,25 +22,19 @@ of_pass_lem kind f told starts steps own e =
     clause Pass.First = refl
     clause Pass.Second = refl
 
-add_t8 : tie.Need-overflow-add-t8
-add_t8 c = let step = c.before.before.before.before in omega (arith, rounds_small step.before.args.kind step.rounds-step.ensures)
+add_t8 : tie.Need-overflow_add-result-in-Second
+add_t8 c = omega (arith, rounds_small c.args.kind c.rounds_step-rounds.ensures)
 
-returns : tie.Need-returns
+returns : tie.Need-returns-in-First
 returns c =
-    let pass = c.before.before in
-    let step = pass.before in
-    let a = step.before.args in
-    of_pass_lem a.kind a.figure Pass.First refl step.rounds-step.ensures pass.pass_of.ensures c.enum_told.given.1
+    let a = c.args in
+    of_pass_lem a.kind a.figure Pass.First refl c.rounds_step-rounds.ensures c.pass_of.ensures c.in-First.is
 
-returns-2 : tie.Need-returns-2
+returns-2 : tie.Need-returns-in-Second
 returns-2 c =
-    let pass = c.before.before.before in
-    let step = pass.before in
-    let a = step.before.args in
-    of_pass_lem a.kind a.figure Pass.Second c.rows_at.ensures step.rounds-step.ensures pass.pass_of.ensures c.before.enum-told2.given.1
+    let a = c.args in
+    of_pass_lem a.kind a.figure Pass.Second c.rows_at.ensures c.rounds_step-rounds.ensures c.pass_of.ensures c.in-Second.is
 
 pub angle_column_spec : {M : Type 1} → statement M
 angle_column_spec =
-    tie.close (tie.spec (λ c κs. search needs) (λ c κs. search needs) (λ c. search needs)
-    (λ c. let step = c.before.before.before in omega (arith, rounds_small step.before.args.kind step.rounds-step.ensures))
-    (λ c. search needs) (λ c κs. search needs) add_t8 returns returns-2)
+    tie.close (tie.spec (λ c κs. search rules) (λ c κs. search rules) (λ c. search rules) (λ c. omega (arith, rounds_small c.args.kind c.rounds_step-rounds.ensures)) (λ c. search rules) (λ c κs. search rules) add_t8 returns returns-2)

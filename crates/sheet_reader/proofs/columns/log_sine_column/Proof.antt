@@ -1,20 +1,17 @@
 -- `sheet_reader::columns::log_sine_column` meets its contract: a log-sine stands 23 bits after the start of its row, and the bits of the
 -- rounds.
 use Rattle.std.specs.Prelude.{ℕ, ◌+◌}
-use Rattle.vocabulary.specs.{ap₂, arith, needs}
+use Rattle.vocabulary.specs.{ap₂, arith, rules}
 use Rattle.sheet_layout.proofs.Sizes.{side_bound, rounds_small}
 use Rattle.sheet_reader.specs.Columns.{column_from}
 use Rattle.sheet_reader.proofs.columns.log_sine_column.Statement.{statement}
 use Rattle.sheet_reader.proofs.columns.log_sine_column.Tie as tie
 
-add_t6 : tie.Need-overflow-add-t6
+add_t6 : tie.Need-overflow_add-result-2
 add_t6 c =
-    let a = c.before.before.args in
-    omega (arith, c.rows_at.ensures, side_bound a.figure, rounds_small a.kind c.before.rounds-step.ensures)
+    let a = c.args in
+    omega (arith, c.rows_at.ensures, side_bound a.figure, rounds_small a.kind c.rounds_step-rounds.ensures)
 
 pub log_sine_column_spec : {M : Type 1} → statement M
 log_sine_column_spec =
-    tie.close (tie.spec (λ c κs. search needs) (λ c κs. search needs)
-    (λ c. omega (arith, c.rows_at.ensures, side_bound c.before.before.args.figure)) add_t6
-    (λ c. omega (arith, rounds_small c.before.before.args.kind c.before.rounds-step.ensures))
-    (λ c. ap₂ (λ (start step : ℕ). column_from (start + 23 + step) (65 + step) 27) c.rows_at.ensures c.before.rounds-step.ensures))
+    tie.close (tie.spec (λ c κs. search rules) (λ c κs. search rules) (λ c. omega (arith, c.rows_at.ensures, side_bound c.args.figure)) add_t6 (λ c. omega (arith, rounds_small c.args.kind c.rounds_step-rounds.ensures)) (λ c. ap₂ (λ (start step : ℕ). column_from (start + 23 + step) (65 + step) 27) c.rows_at.ensures c.rounds_step-rounds.ensures))

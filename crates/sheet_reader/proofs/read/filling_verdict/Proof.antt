@@ -1,6 +1,6 @@
 -- `sheet_reader::read::filling_verdict` meets its contract: the filling begins where the fields end, and is less than a byte wide.
 use Rattle.std.specs.Prelude.{ℕ, ◌-◌, ◌*◌, Bool, true, false, not, List, ◌≡◌, eqb}
-use Rattle.vocabulary.specs.{needs, sym, ap, ◌∙◌, arith, eq-eqb, ne_eqb}
+use Rattle.vocabulary.specs.{rules, sym, ap, ◌∙◌, arith, eq-eqb, ne_eqb}
 use Rattle.refusals.specs.{declared.Refusal.Refusal, Order.fails_if, Order.verdict_of, Table.filling_row}
 use Rattle.bits.specs.Bits.{field_at, filling_width}
 use Rattle.figures.specs.declared.Figure.{Figure}
@@ -19,41 +19,34 @@ rest kind f s b z = rw (b, z)
 
 -- what was read there is the filling
 found : (c : tie.After-field)
-    → (let a = c.before.before.before.args in c.field.result ≡ field_at a.sheet.now (bit_count a.kind a.figure) (filling_width (bit_count a.kind a.figure)))
+    → (let a = c.args in c.field.result ≡ field_at a.sheet.now (bit_count a.kind a.figure) (filling_width (bit_count a.kind a.figure)))
 found c =
-    let start = c.before.before.before in
-    let a = start.args in
-    c.field.ensures ∙ rest a.kind a.figure a.sheet.now c.before.bit-count.ensures start.requires
+    let a = c.args in
+    c.field.ensures ∙ rest a.kind a.figure a.sheet.now c.bit_count-end.ensures c.requires
 
-mul_left : tie.Need-overflow-mul-left
+mul_left : tie.Need-overflow_mul-left
 mul_left c =
-    let start = c.before.before in
-    let a = start.args in
-    omega (arith, few_bits a.kind a.figure, bits_nearly a.kind a.figure, start.requires)
+    let a = c.args in
+    omega (arith, few_bits a.kind a.figure, bits_nearly a.kind a.figure, c.requires)
 
-sub_left : tie.Need-overflow-sub-left
+sub_left : tie.Need-overflow_sub-left
 sub_left c =
-    let start = c.before.before in
-    let a = start.args in
-    omega (arith, bits_within a.kind a.figure, start.requires, c.bit-count.ensures)
+    let a = c.args in
+    omega (arith, bits_within a.kind a.figure, c.requires, c.bit_count-end.ensures)
 
-cast_field : tie.Need-overflow-cast-field
+cast_field : tie.Need-overflow_cast-left
 cast_field c =
-    let start = c.before.before in
-    let a = start.args in
-    omega (arith, bits_nearly a.kind a.figure, start.requires, c.bit-count.ensures)
+    let a = c.args in
+    omega (arith, bits_nearly a.kind a.figure, c.requires, c.bit_count-end.ensures)
 
 -- the row's question is whether the filling is not 0
 asked_so : (c : tie.After-field) (t : Bool) → not (eqb c.field.result 0) ≡ t
-    → (let a = c.before.before.before.args in fails_if t Refusal.FillingBitSet ≡ verdict_of (filling_row (filling_bits a.kind a.figure a.sheet.now)))
+    → (let a = c.args in fails_if t Refusal.FillingBitSet ≡ verdict_of (filling_row (filling_bits a.kind a.figure a.sheet.now)))
 asked_so c t e =
-    let start = c.before.before.before in
-    let a = start.args in
+    let a = c.args in
     sym (ap (λ (b : Bool). fails_if b Refusal.FillingBitSet)
-    (filling_asked a.kind a.figure a.sheet.now start.requires ∙ ap (λ (n : ℕ). not (eqb n 0)) (sym (found c)) ∙ e))
+    (filling_asked a.kind a.figure a.sheet.now c.requires ∙ ap (λ (n : ℕ). not (eqb n 0)) (sym (found c)) ∙ e))
 
 pub filling_verdict_spec : {M : Type 1} → statement M
 filling_verdict_spec =
-    tie.close (tie.spec (λ c κs. search needs) mul_left sub_left cast_field (λ c κs. search needs)
-    (λ c. asked_so c.before true (ap not (ne_eqb _ 0 c.if1.true)))
-    (λ c. asked_so c.before false (ap not (eq-eqb _ 0 c.if1.false))))
+    tie.close (tie.spec (λ c κs. search rules) mul_left sub_left cast_field (λ c κs. search rules) (λ c. asked_so c.before true (ap not (ne_eqb _ 0 c.if-field-ne0.true))) (λ c. asked_so c.before false (ap not (eq-eqb _ 0 c.if-field-ne0.false))))

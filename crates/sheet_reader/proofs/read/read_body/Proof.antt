@@ -6,40 +6,27 @@ use Rattle.sheet_reader.proofs.read.read_body.Statement.{statement}
 use Rattle.sheet_reader.proofs.read.read_body.Tie as tie
 
 -- what the function was given, and the slices that were lent
-abbrev start : tie.After-shape-verdict → tie.Start
+abbrev start : tie.After-shape_verdict-shape → tie.Start
 start found = found.before.before.before.before.before.before.before.before
 
 abbrev lent : tie.Start → Slices
-lent start = let a = start.args in slices a.angles.now a.rounds.now a.fixed.now a.log-sines.now a.differences.now a.log-sides.now
+lent start = let a = start.args in slices a.angles.now a.rounds.now a.fixed.now a.log_sines.now a.differences.now a.log_sides.now
 
-returns : tie.Need-returns
+returns : tie.Need-returns-in-Failed
 returns c =
-    let found = c.before.before.before in
-    let s = start found in
-    shape_refused s.args.kind s.args.figure s.args.sheet.now (lent s) _ found.shape-verdict.ensures c.before.shape.given.1
+    let s = start c.before in
+    shape_refused s.args.kind s.args.figure s.args.sheet.now (lent s) _ c.shape_verdict-shape.ensures c.in-Failed.is
 
-read_values_requires : tie.Need-read-values-requires
+read_values_requires : tie.Need-read_values-requires
 read_values_requires c κs =
-    let told = c.before.before.before.before.before.before in
-    let found = told.before.before in
-    let s = start found in
-    right_lengths s.args.kind s.args.figure s.args.sheet.now (lent s) found.shape-verdict.ensures told.enum_told.given.1
+    let s = start c.before.before.before.before.before.before.before in
+    right_lengths s.args.kind s.args.figure s.args.sheet.now (lent s) c.shape_verdict-shape.ensures c.in_default.is
 
-returns-2 : tie.Need-returns-2
+returns-2 : tie.Need-returns
 returns-2 c =
-    let read = c.before.before.before.before.before.before.before.before.before.before.before in
-    let told = read.before.before.before.before.before.before.before in
-    let found = told.before.before in
-    let s = start found in
-    values_decide s.args.kind s.args.figure s.args.sheet.now (lent s) found.shape-verdict.ensures told.enum_told.given.1 read.read-values.ensures
+    let s = start c.before.before.before.before.before.before.before.before.before.before.before.before.before.before.before.before.before.before.before in
+    values_decide s.args.kind s.args.figure s.args.sheet.now (lent s) c.shape_verdict-shape.ensures c.in_default.is c.read_values.ensures
 
 pub read_body_spec : {M : Type 1} → statement M
 read_body_spec =
-    tie.close (tie.spec (λ c. refl) (λ c κs. tt) (λ c. c.match.keys1) returns (λ c. c.match.keys2) read_values_requires
-    (λ c. c.before.before.before.before.before.before.before.before.before.before.before.read-values.auto.1.1.1.0)
-    (λ c. c.before.before.before.before.before.before.before.before.before.before.before.read-values.auto.1.1.1.1.0)
-    (λ c. c.before.before.before.before.before.before.before.before.before.before.before.read-values.auto.1.1.1.1.1.0)
-    (λ c. c.before.before.before.before.before.before.before.before.before.before.before.read-values.auto.1.1.1.1.1.1.0)
-    (λ c. c.before.before.before.before.before.before.before.before.before.before.before.read-values.auto.1.1.1.1.1.1.1.0)
-    (λ c. c.before.before.before.before.before.before.before.before.before.before.before.read-values.auto.1.1.1.1.1.1.1.1.0)
-    returns-2)
+    tie.close (tie.spec (λ c. refl) (λ c κs. tt) (λ c. c.in-Failed-1.keys1) returns (λ c. c.in_default-1.keys2) read_values_requires (λ c. c.read_values.auto.angles) (λ c. c.read_values.auto.rounds) (λ c. c.read_values.auto.fixed) (λ c. c.read_values.auto.log_sines) (λ c. c.read_values.auto.differences) (λ c. c.read_values.auto.log_sides) returns-2)

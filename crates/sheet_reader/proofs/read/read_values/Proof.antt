@@ -10,24 +10,24 @@ use Rattle.sheet_reader.proofs.read.read_values.Tie as tie
 
 -- the slices that were lent
 abbrev lent : tie.Start → Slices
-lent start = let a = start.args in slices a.angles.now a.rounds.now a.fixed.now a.log-sines.now a.differences.now a.log-sides.now
+lent start = let a = start.args in slices a.angles.now a.rounds.now a.fixed.now a.log_sines.now a.differences.now a.log_sides.now
 
 -- they have the lengths of their sorts
-module _ (c : tie.After-limit-or-tolerance-in) where
+module _ (c : tie.After-limit_or_tolerance_in-bound) where
   abbrev given : tie.Start
   given = c.before.before.before.before.before.before.before
 
   room : (length given.args.angles.now ≤ most_angles) × (length given.args.rounds.now ≤ most_angles) × (length given.args.fixed.now ≤ most_fixed)
-      × (length given.args.log-sines.now ≤ most_angles) × (length given.args.differences.now ≤ most_angles) × (length given.args.log-sides.now ≤ most_sides)
-  room = have_room given.args.kind given.args.figure (lent given) given.pre
+      × (length given.args.log_sines.now ≤ most_angles) × (length given.args.differences.now ≤ most_angles) × (length given.args.log_sides.now ≤ most_sides)
+  room = have_room given.args.kind given.args.figure (lent given) given.requires
 
 -- the values that were taken, where they were lent
-module _ (c : tie.After-take-values) where
-  abbrev bounded : tie.After-limit-or-tolerance-in
+module _ (c : tie.After-take_values) where
+  abbrev bounded : tie.After-limit_or_tolerance_in-bound
   bounded = c.before.before.before.before.before.before.before
 
   abbrev angles : List ℕ
-  angles = c.take-values.new.1.1.1.0
+  angles = c.take_values.new.angles
 
   abbrev angles_count : ℕ
   angles_count = length (given bounded).args.angles.now
@@ -36,10 +36,10 @@ module _ (c : tie.After-take-values) where
   angles_array = replicate most_angles 0
 
   angles_kept : length angles ≡ length (take angles_count angles_array)
-  angles_kept = c.take-values.auto.1.1.1.0
+  angles_kept = c.take_values.auto.angles
 
   abbrev rounds : List ℕ
-  rounds = c.take-values.new.1.1.1.1.0
+  rounds = c.take_values.new.rounds
 
   abbrev rounds_count : ℕ
   rounds_count = length (given bounded).args.rounds.now
@@ -48,10 +48,10 @@ module _ (c : tie.After-take-values) where
   rounds_array = replicate most_angles 1
 
   rounds_kept : length rounds ≡ length (take rounds_count rounds_array)
-  rounds_kept = c.take-values.auto.1.1.1.1.0
+  rounds_kept = c.take_values.auto.rounds
 
   abbrev fixed : List ℕ
-  fixed = c.take-values.new.1.1.1.1.1.0
+  fixed = c.take_values.new.fixed
 
   abbrev fixed_count_lem : ℕ
   fixed_count_lem = length (given bounded).args.fixed.now
@@ -60,22 +60,22 @@ module _ (c : tie.After-take-values) where
   fixed_array = replicate most_fixed 0
 
   fixed_kept : length fixed ≡ length (take fixed_count_lem fixed_array)
-  fixed_kept = c.take-values.auto.1.1.1.1.1.0
+  fixed_kept = c.take_values.auto.fixed
 
   abbrev log_sines_lem : List ℕ
-  log_sines_lem = c.take-values.new.1.1.1.1.1.1.0
+  log_sines_lem = c.take_values.new.log_sines
 
   abbrev log_sines_count : ℕ
-  log_sines_count = length (given bounded).args.log-sines.now
+  log_sines_count = length (given bounded).args.log_sines.now
 
   abbrev log_sines_array : List ℕ
   log_sines_array = replicate most_angles 0
 
   log_sines_kept : length log_sines_lem ≡ length (take log_sines_count log_sines_array)
-  log_sines_kept = c.take-values.auto.1.1.1.1.1.1.0
+  log_sines_kept = c.take_values.auto.log_sines
 
   abbrev differences : List ℤ
-  differences = c.take-values.new.1.1.1.1.1.1.1.0
+  differences = c.take_values.new.differences
 
   abbrev differences_count : ℕ
   differences_count = length (given bounded).args.differences.now
@@ -84,19 +84,19 @@ module _ (c : tie.After-take-values) where
   differences_array = replicate most_angles (pos 0)
 
   differences_kept : length differences ≡ length (take differences_count differences_array)
-  differences_kept = c.take-values.auto.1.1.1.1.1.1.1.0
+  differences_kept = c.take_values.auto.differences
 
   abbrev log_sides_lem : List ℕ
-  log_sides_lem = c.take-values.new.1.1.1.1.1.1.1.1.0
+  log_sides_lem = c.take_values.new.log_sides
 
   abbrev log_sides_count : ℕ
-  log_sides_count = length (given bounded).args.log-sides.now
+  log_sides_count = length (given bounded).args.log_sides.now
 
   abbrev log_sides_array : List ℕ
   log_sides_array = replicate most_sides 0
 
   log_sides_kept : length log_sides_lem ≡ length (take log_sides_count log_sides_array)
-  log_sides_kept = c.take-values.auto.1.1.1.1.1.1.1.1.0
+  log_sides_kept = c.take_values.auto.log_sides
 
   all : slices (take angles_count (angles ++ drop angles_count angles_array))
       (take rounds_count (rounds ++ drop rounds_count rounds_array))
@@ -112,7 +112,7 @@ module _ (c : tie.After-take-values) where
       (part_again log_sines_count log_sines_array (room bounded).3 log_sines_lem log_sines_kept)
       (part_again differences_count differences_array (room bounded).4 differences differences_kept)
       (part_again log_sides_count log_sides_array (room bounded).5 log_sides_lem log_sides_kept)
-      ∙ c.take-values.ensures
+      ∙ c.take_values.ensures
 
   angles_few : angles_count ≤ length (angles ++ drop angles_count angles_array)
   angles_few = still_few angles_count angles_array (room bounded).0 angles angles_kept
@@ -150,59 +150,29 @@ module _ (c : tie.After-take-values) where
   log_sides_again : log_sides_count ≡ length (take log_sides_count (log_sides_lem ++ drop log_sides_count log_sides_array))
   log_sides_again = again_length log_sides_count log_sides_array (room bounded).5 log_sides_lem log_sides_kept
 
-take_values_requires : tie.Need-take-values-requires
+take_values_requires : tie.Need-take_values-requires
 take_values_requires c κs =
-    let b = c.before.before.before.before.before.before in
-    let a = (given b).args in (
-      same_counts (length-take-le _ _ (room b).0)
-          (length-take-le _ _ (room b).1)
-          (length-take-le _ _ (room b).2)
-          (length-take-le _ _ (room b).3)
-          (length-take-le _ _ (room b).4)
-          (length-take-le _ _ (room b).5)
-          ∙ (given b).requires,
-      ap (λ (n : ℕ). take n (replicate most_angles 1)) (as_many a.kind a.figure (lent (given b)) (given b).requires 1),
+    let a = (given c.before.before.before.before.before.before).args in (
+      same_counts (length-take-le _ _ (room c.before.before.before.before.before.before).0)
+          (length-take-le _ _ (room c.before.before.before.before.before.before).1)
+          (length-take-le _ _ (room c.before.before.before.before.before.before).2)
+          (length-take-le _ _ (room c.before.before.before.before.before.before).3)
+          (length-take-le _ _ (room c.before.before.before.before.before.before).4)
+          (length-take-le _ _ (room c.before.before.before.before.before.before).5)
+          ∙ (given c.before.before.before.before.before.before).requires,
+      ap (λ (n : ℕ). take n (replicate most_angles 1)) (as_many a.kind a.figure (lent (given c.before.before.before.before.before.before)) (given c.before.before.before.before.before.before).requires 1),
     )
 
-judge_and_store_requires : tie.Need-judge-and-store-requires
+judge_and_store_requires : tie.Need-judge_and_store-requires
 judge_and_store_requires c κs =
-    let t = c.before.before.before.before.before.before.before.before.before.before.before.before.before.before.before.before.before.before in
-    same_counts (angles_again t) (rounds_again t) (fixed_again t) (log_sines_again t) (differences_again t) (log_sides_again t)
+    same_counts (angles_again c.before.before.before.before.before.before.before.before.before.before.before.before.before.before.before.before.before.before) (rounds_again c.before.before.before.before.before.before.before.before.before.before.before.before.before.before.before.before.before.before) (fixed_again c.before.before.before.before.before.before.before.before.before.before.before.before.before.before.before.before.before.before) (log_sines_again c.before.before.before.before.before.before.before.before.before.before.before.before.before.before.before.before.before.before) (differences_again c.before.before.before.before.before.before.before.before.before.before.before.before.before.before.before.before.before.before) (log_sides_again c.before.before.before.before.before.before.before.before.before.before.before.before.before.before.before.before.before.before)
 
 returns : tie.Need-returns
 returns c =
-    let judged = c.before.before.before.before.before.before.before.before.before.before.before in
-    let t = judged.before.before.before.before.before.before.before.before.before.before.before.before.before.before.before.before.before.before.before in
-    let b = bounded t in
+    let b = bounded c.before.before.before.before.before.before.before.before.before.before.before.before.before.before.before.before.before.before.before.before.before.before.before.before.before.before.before.before.before.before in
     let a = (given b).args in
-    values_are a.kind a.figure (lent (given b)) (b.limit-or-tolerance-in.ensures _) (all t) judged.judge-and-store.ensures
+    values_are a.kind a.figure (lent (given b)) (b.limit_or_tolerance_in-bound.ensures _) (all c.before.before.before.before.before.before.before.before.before.before.before.before.before.before.before.before.before.before.before.before.before.before.before.before.before.before.before.before.before.before) c.judge_and_store.ensures
 
 pub read_values_spec : {M : Type 1} → statement M
 read_values_spec =
-    tie.close (tie.spec (λ c κs. tt) (λ c. (room c).0) (λ c. sym (length-take-le _ _ (room c.before).0)) (λ c. (room c.before).1)
-    (λ c. sym (length-take-le _ _ (room c.before.before).1)) (λ c. (room c.before.before).2)
-    (λ c. sym (length-take-le _ _ (room c.before.before.before).2)) (λ c. (room c.before.before.before).3)
-    (λ c. sym (length-take-le _ _ (room c.before.before.before.before).3)) (λ c. (room c.before.before.before.before).4)
-    (λ c. sym (length-take-le _ _ (room c.before.before.before.before.before).4))
-    (λ c. (room c.before.before.before.before.before).5)
-    (λ c. sym (length-take-le _ _ (room c.before.before.before.before.before.before).5)) take_values_requires
-    (λ c. angles_few c.before.before.before.before.before.before)
-    (λ c. angles_again c.before.before.before.before.before.before.before)
-    (λ c. rounds_few c.before.before.before.before.before.before.before)
-    (λ c. rounds_again c.before.before.before.before.before.before.before.before)
-    (λ c. fixed_few c.before.before.before.before.before.before.before.before)
-    (λ c. fixed_again c.before.before.before.before.before.before.before.before.before)
-    (λ c. log_sines_few c.before.before.before.before.before.before.before.before.before)
-    (λ c. log_sines_again c.before.before.before.before.before.before.before.before.before.before)
-    (λ c. differences_few c.before.before.before.before.before.before.before.before.before.before)
-    (λ c. differences_again c.before.before.before.before.before.before.before.before.before.before.before)
-    (λ c. log_sides_few c.before.before.before.before.before.before.before.before.before.before.before)
-    (λ c. log_sides_again c.before.before.before.before.before.before.before.before.before.before.before.before)
-    judge_and_store_requires
-    (λ c. c.before.before.before.before.before.before.before.before.before.before.before.judge-and-store.auto.1.1.1.1.1.1.1.1.1.0)
-    (λ c. c.before.before.before.before.before.before.before.before.before.before.before.judge-and-store.auto.1.1.1.1.1.1.1.1.1.1.0)
-    (λ c. c.before.before.before.before.before.before.before.before.before.before.before.judge-and-store.auto.1.1.1.1.1.1.1.1.1.1.1.0)
-    (λ c. c.before.before.before.before.before.before.before.before.before.before.before.judge-and-store.auto.1.1.1.1.1.1.1.1.1.1.1.1.0)
-    (λ c. c.before.before.before.before.before.before.before.before.before.before.before.judge-and-store.auto.1.1.1.1.1.1.1.1.1.1.1.1.1.0)
-    (λ c. c.before.before.before.before.before.before.before.before.before.before.before.judge-and-store.auto.1.1.1.1.1.1.1.1.1.1.1.1.1.1.0)
-    returns)
+    tie.close (tie.spec (λ c κs. tt) (λ c. (room c).0) (λ c. sym (length-take-le _ _ (room c.before).0)) (λ c. (room c.before).1) (λ c. sym (length-take-le _ _ (room c.before.before).1)) (λ c. (room c.before.before).2) (λ c. sym (length-take-le _ _ (room c.before.before.before).2)) (λ c. (room c.before.before.before).3) (λ c. sym (length-take-le _ _ (room c.before.before.before.before).3)) (λ c. (room c.before.before.before.before).4) (λ c. sym (length-take-le _ _ (room c.before.before.before.before.before).4)) (λ c. (room c.before.before.before.before.before).5) (λ c. sym (length-take-le _ _ (room c.before.before.before.before.before.before).5)) take_values_requires (λ c. angles_few c.before.before.before.before.before.before) (λ c. angles_again c.before.before.before.before.before.before.before) (λ c. rounds_few c.before.before.before.before.before.before.before) (λ c. rounds_again c.before.before.before.before.before.before.before.before) (λ c. fixed_few c.before.before.before.before.before.before.before.before) (λ c. fixed_again c.before.before.before.before.before.before.before.before.before) (λ c. log_sines_few c.before.before.before.before.before.before.before.before.before) (λ c. log_sines_again c.before.before.before.before.before.before.before.before.before.before) (λ c. differences_few c.before.before.before.before.before.before.before.before.before.before) (λ c. differences_again c.before.before.before.before.before.before.before.before.before.before.before) (λ c. log_sides_few c.before.before.before.before.before.before.before.before.before.before.before) (λ c. log_sides_again c.before.before.before.before.before.before.before.before.before.before.before.before) judge_and_store_requires (λ c. c.judge_and_store.auto.angles) (λ c. c.judge_and_store.auto.rounds) (λ c. c.judge_and_store.auto.fixed) (λ c. c.judge_and_store.auto.log_sines) (λ c. c.judge_and_store.auto.differences) (λ c. c.judge_and_store.auto.log_sides) returns)

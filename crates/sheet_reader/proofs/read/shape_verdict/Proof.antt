@@ -1,6 +1,6 @@
 -- `sheet_reader::read::shape_verdict` meets its contract: the branches are the tests in their order.
 use Rattle.std.specs.Prelude.{ℕ, List, [], ◌∷◌, ◌≡◌, length}
-use Rattle.vocabulary.specs.{sym, ap, ap₂, ◌∙◌, needs, eq-eqb, ne_eqb}
+use Rattle.vocabulary.specs.{sym, ap, ap₂, ◌∙◌, rules, eq-eqb, ne_eqb}
 use Rattle.refusals.specs.{declared.Refusal.Refusal, declared.Verdict.Verdict, Order.answer_of, Order.verdict_of, Order.judged}
 use Rattle.refusals.specs.{declared.Verdict.TheVariants.Passed, declared.Verdict.TheVariants.Failed, Table.lengths_row, Table.filling_row}
 use Rattle.refusals.proofs.Answers.{answer_of_one}
@@ -36,30 +36,27 @@ module _ {lengths : Verdict} (filling : Verdict) where
   unfolding answer_of
   passes e = sym (ap (λ (v : Verdict). answer_of (v ∷ filling ∷ [])) e ∙ answer_of_one filling)
 
-returns : tie.Need-returns
+returns : tie.Need-returns-then-sheet-sheet_size
 returns c =
-    let a = c.before.before.before.before.args in
-    wrong_size a.kind a.figure a.sheet.now a.lent.now (λ e. c.if1.true (e ∙ sym c.before.sheet-size.ensures))
+    let a = c.args in
+    wrong_size a.kind a.figure a.sheet.now a.lent.now (λ e. c.if-sheet-sheet_size.true (e ∙ sym c.sheet_size.ensures))
 
 -- the first test has left the right size
-sized : (c : tie.Else1) → (let a = c.before.before.before.before.args in length a.sheet.now ≡ sheet_size a.kind a.figure)
-sized c = c.if1.false ∙ c.before.sheet-size.ensures
+sized : (c : tie.Else-sheet-sheet_size) → (let a = c.args in length a.sheet.now ≡ sheet_size a.kind a.figure)
+sized c = c.if-sheet-sheet_size.false ∙ c.sheet_size.ensures
 
-enum_told : tie.Need-enum-told
-enum_told c = search needs
+enum_told : tie.Need-enum_told-1
+enum_told c = search rules
 
 -- the three tests, from where the last of them is done
-told : (c : tie.After-filling-verdict) {verdict : Verdict}
-    → verdict ≡ answer_of (c.before.lengths-verdict.result ∷ c.filling-verdict.result ∷ [])
-    → let a = c.before.before.before.before.before.before.before.before.args in verdict ≡ judged (shape_rows a.kind a.figure a.sheet.now a.lent.now)
+told : (c : tie.After-filling_verdict-filling) {verdict : Verdict}
+    → verdict ≡ answer_of (c.lengths_verdict-lengths.result ∷ c.filling_verdict-filling.result ∷ [])
+    → let a = c.args in verdict ≡ judged (shape_rows a.kind a.figure a.sheet.now a.lent.now)
 told c e =
-    let left = c.before.before.before.before in
-    let a = left.before.before.before.before.args in
-    right_size a.kind a.figure a.sheet.now a.lent.now (sized left) c.before.before.before.lengths-of.ensures
-    c.before.lengths-verdict.ensures c.filling-verdict.ensures e
+    let a = c.args in
+    right_size a.kind a.figure a.sheet.now a.lent.now (sized c.before.before.before.before) c.lengths_of-own.ensures
+    c.lengths_verdict-lengths.ensures c.filling_verdict-filling.ensures e
 
 pub shape_verdict_spec : {M : Type 1} → statement M
 shape_verdict_spec =
-    tie.close (tie.spec (λ c κs. search needs) returns (λ c κs. search needs) (λ c. search needs) (λ c κs. search needs)
-    (λ c κs. sized c.before.before.before) enum_told (λ c. told c.before.before (fails _ c.enum_told.given.1))
-    (λ c. search needs) (λ c. told c.before.before (passes _ c.enum-told2.given.1)))
+    tie.close (tie.spec (λ c κs. search rules) returns (λ c κs. search rules) (λ c. search rules) (λ c κs. search rules) (λ c κs. sized c.before.before.before) enum_told (λ c. told c.before (fails _ c.in-Failed.is)) (λ c. search rules) (λ c. told c.before (passes _ c.in_default.is)))

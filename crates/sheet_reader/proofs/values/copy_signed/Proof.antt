@@ -7,21 +7,17 @@ use Rattle.whole.proofs.Lists.{Filled, filled_none, filled_more, filled_all, lis
 use Rattle.sheet_reader.proofs.values.copy_signed.Statement.{statement}
 use Rattle.sheet_reader.proofs.values.copy_signed.Tie as tie
 
-abbrev invariant-loop : tie.invariant-loop
+abbrev invariant-loop : tie.invariant-loop-i
 invariant-loop from to₀ i₀ to i = Filled (length to₀) (λ k. get_or from k (pos 0)) i to
 
-abbrev decreases-loop : tie.decreases-loop
+abbrev decreases-loop : tie.decreases-loop-i
 decreases-loop from to₀ i₀ to i = length to₀ - i
 
 returns : tie.Need-returns invariant-loop decreases-loop
 returns c =
-    let start = c.before.before in
-    filled_all c.before.loop.invariant (omega arith)
-    ∙ ap (λ (n : ℕ). listed n (λ k. get_or start.args.from.now k (pos 0))) start.requires ∙ listed_get_or (pos 0) start.args.from.now
+    filled_all c.loop-i.invariant (omega arith)
+    ∙ ap (λ (n : ℕ). listed n (λ k. get_or c.args.from.now k (pos 0))) c.requires ∙ listed_get_or (pos 0) c.args.from.now
 
 pub copy_signed_spec : {M : Type 1} → statement M
 copy_signed_spec =
-    tie.close (tie.spec invariant-loop decreases-loop (λ c. filled_none _ _ _ refl) (λ c. omega arith) (λ c. omega arith) (λ c. omega arith)
-    (λ c. omega arith) (λ c. omega arith) (λ c. omega arith)
-    (λ c. filled_more c.before.before.loop.invariant (omega arith) (to_z_of_z_at w32 _ (record { sfits = c.to.given })))
-    (λ c. c.before.loop.invariant.size) returns)
+    tie.close (tie.spec invariant-loop decreases-loop (λ c. filled_none _ _ _ refl) (λ c. omega arith) (λ c. omega arith) (λ c. omega arith) (λ c. omega arith) (λ c. omega arith) (λ c. omega arith) (λ c. filled_more c.loop-i.invariant (omega arith) (to_z_of_z_at w32 _ (record { sfits = c.to-1.given }))) (λ c. c.loop-i.invariant.size) returns)

@@ -6,5 +6,4 @@ use Rattle.sheet_writer.proofs.packer.power_of_two.Tie as tie
 
 pub power_of_two_spec : {M : Type 1} → statement M
 power_of_two_spec =
-    tie.close (tie.spec (λ c. omega arith)
-    (λ c. shl_exact 1 c.args.exponent 64 (omega arith) (omega arith) ∙ one-mul (2 ^ c.args.exponent)))
+    tie.close (tie.spec (λ c. omega arith) (λ c. shl_exact 1 c.args.exponent 64 (omega arith) (omega arith) ∙ one-mul (2 ^ c.args.exponent)))

@@ -1,6 +1,6 @@
 -- `sheet_writer::packer::put_word` meets its contract: each byte is stored after those before it.
 use Rattle.std.specs.Prelude.{List, [], ◌∷◌, ◌++◌, ◌≡◌, refl, ℕ, ◌+◌, ◌≤◌, ◌<◌, length, take, set}
-use Rattle.vocabulary.specs.{append_assoc, ap, ◌∙◌, arith, add-one, needs, length-set, take-suc-set}
+use Rattle.vocabulary.specs.{append_assoc, ap, ◌∙◌, arith, add-one, rules, length-set, take-suc-set}
 use Rattle.sheet_writer.proofs.packer.put_word.Statement.{statement}
 use Rattle.sheet_writer.proofs.packer.put_word.Tie as tie
 
@@ -22,7 +22,4 @@ four s at a b c d h =
 
 pub put_word_spec : {M : Type 1} → statement M
 put_word_spec =
-    tie.close (tie.spec (λ c. search needs) (λ c. omega arith) (λ c. search needs) (λ c. omega arith) (λ c. rw length-set (omega arith))
-    (λ c. search needs) (λ c. omega arith) (λ c. rw (length-set, length-set) (omega arith)) (λ c. search needs) (λ c. omega arith)
-    (λ c. rw (length-set, length-set, length-set) (omega arith)) (λ c. search needs)
-    (λ c. let a = c.args in four a.sheet.now a.at _ _ _ _ c.requires))
+    tie.close (tie.spec (λ c. search rules) (λ c. omega arith) (λ c. search rules) (λ c. omega arith) (λ c. rw length-set (omega arith)) (λ c. search rules) (λ c. omega arith) (λ c. rw (length-set, length-set) (omega arith)) (λ c. search rules) (λ c. omega arith) (λ c. rw (length-set, length-set, length-set) (omega arith)) (λ c. search rules) (λ c. let a = c.args in four a.sheet.now a.at _ _ _ _ c.requires))

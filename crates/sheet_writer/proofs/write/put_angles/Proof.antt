@@ -13,30 +13,24 @@ use Rattle.sheet_writer.proofs.write.put_angles.Tie as tie
 abbrev row : Bool → List ℕ → List ℕ → ℕ → List Field
 row carried angles rounds i = angle_fields carried (numbered angles i 0) (numbered rounds i 0)
 
-abbrev invariant-loop : tie.invariant-loop
+abbrev invariant-loop : tie.invariant-loop-done
 invariant-loop sheet₀ carried angles rounds packer₀ done₀ sheet packer done = PackedRows sheet₀ packer₀ (row carried angles rounds) (length angles) done sheet packer
 
-abbrev decreases-loop : tie.decreases-loop
+abbrev decreases-loop : tie.decreases-loop-done
 decreases-loop sheet₀ carried angles rounds packer₀ done₀ sheet packer done = length angles - done
 
-put_angle_requires : tie.Need-put-angle-requires invariant-loop decreases-loop
+put_angle_requires : tie.Need-put_angle-packer-requires invariant-loop decreases-loop
 put_angle_requires c κs =
-    let at = c.before.before.before.before in
-    let start = at.before.before.before.before in
-    let a = start.args in
-    rows_room a.sheet.now a.start (row a.carried a.angles.now a.rounds.now) (length a.angles.now) at.loop.invariant
-    (23 + rounds_bits a.carried) (λ i. angle_width a.carried (numbered a.angles.now i 0) (numbered a.rounds.now i 0)) start.requires.0 (omega arith)
+    let a = c.args in
+    rows_room a.sheet.now a.start (row a.carried a.angles.now a.rounds.now) (length a.angles.now) c.loop-done.invariant
+    (23 + rounds_bits a.carried) (λ i. angle_width a.carried (numbered a.angles.now i 0) (numbered a.rounds.now i 0)) c.requires.0 (omega arith)
 
-loop_again : tie.Need-loop-preserved invariant-loop decreases-loop
+loop_again : tie.Need-loop-done-preserved invariant-loop decreases-loop
 loop_again c =
-    let put = c.before.before in
-    let at = put.before.before.before.before.before in
-    let a = at.before.before.before.before.args in
-    rows_more a.sheet.now a.start (row a.carried a.angles.now a.rounds.now) (length a.angles.now) at.loop.invariant
-    (omega arith) put.put-angle.auto.0 put.put-angle.ensures
+    let a = c.args in
+    rows_more a.sheet.now a.start (row a.carried a.angles.now a.rounds.now) (length a.angles.now) c.loop-done.invariant
+    (omega arith) c.put_angle-packer.auto.sheet c.put_angle-packer.ensures
 
 pub put_angles_spec : {M : Type 1} → statement M
 put_angles_spec =
-    tie.close (tie.spec invariant-loop decreases-loop (λ c. rows_none _ _ _ _ c.before.before.before.requires.0.well) (λ c. omega arith)
-    (λ c. omega arith) (λ c. omega arith) put_angle_requires (λ c. omega arith) (λ c. omega arith) loop_again
-    (λ c. c.before.loop.invariant.long) (λ c. rows_all _ _ _ _ c.before.loop.invariant (omega arith)))
+    tie.close (tie.spec invariant-loop decreases-loop (λ c. rows_none _ _ _ _ c.requires.0.well) (λ c. omega arith) (λ c. omega arith) (λ c. omega arith) put_angle_requires (λ c. omega arith) (λ c. omega arith) loop_again (λ c. c.loop-done.invariant.long) (λ c. rows_all _ _ _ _ c.loop-done.invariant (omega arith)))

@@ -12,32 +12,26 @@ use Rattle.sheet_writer.proofs.write.put_column.Tie as tie
 abbrev row : ℕ → List ℕ → ℕ → List Field
 row width values i = field_from width (numbered values i 0) ∷ []
 
-abbrev invariant-loop : tie.invariant-loop
+abbrev invariant-loop : tie.invariant-loop-done
 invariant-loop sheet₀ width values packer₀ done₀ sheet packer done = PackedRows sheet₀ packer₀ (row width values) (length values) done sheet packer
 
-abbrev decreases-loop : tie.decreases-loop
+abbrev decreases-loop : tie.decreases-loop-done
 decreases-loop sheet₀ width values packer₀ done₀ sheet packer done = length values - done
 
-put_requires : tie.Need-put-requires invariant-loop decreases-loop
+put_requires : tie.Need-put-packer-requires invariant-loop decreases-loop
 put_requires c κs =
-    let at = c.before.before.before in
-    let start = at.before.before.before in
-    let a = start.args in (
-      rows_room a.sheet.now a.start (row a.width a.values.now) (length a.values.now) at.loop.invariant a.width
-          (one_width a.width a.values.now) start.requires.0 (omega arith),
-      start.requires.1,
+    let a = c.args in (
+      rows_room a.sheet.now a.start (row a.width a.values.now) (length a.values.now) c.loop-done.invariant a.width
+          (one_width a.width a.values.now) c.requires.0 (omega arith),
+      c.requires.1,
     )
 
-loop_again : tie.Need-loop-preserved invariant-loop decreases-loop
+loop_again : tie.Need-loop-done-preserved invariant-loop decreases-loop
 loop_again c =
-    let put = c.before.before in
-    let at = put.before.before.before.before in
-    let a = at.before.before.before.args in
-    rows_more a.sheet.now a.start (row a.width a.values.now) (length a.values.now) at.loop.invariant (omega arith)
-    put.put.auto.0 put.put.ensures
+    let a = c.args in
+    rows_more a.sheet.now a.start (row a.width a.values.now) (length a.values.now) c.loop-done.invariant (omega arith)
+    c.put-packer.auto.sheet c.put-packer.ensures
 
 pub put_column_spec : {M : Type 1} → statement M
 put_column_spec =
-    tie.close (tie.spec invariant-loop decreases-loop (λ c. rows_none _ _ _ _ c.before.before.requires.0.well) (λ c. omega arith) (λ c. omega arith)
-    put_requires (λ c. omega arith) (λ c. omega arith) loop_again (λ c. c.before.loop.invariant.long)
-    (λ c. rows_all _ _ _ _ c.before.loop.invariant (omega arith)))
+    tie.close (tie.spec invariant-loop decreases-loop (λ c. rows_none _ _ _ _ c.requires.0.well) (λ c. omega arith) (λ c. omega arith) put_requires (λ c. omega arith) (λ c. omega arith) loop_again (λ c. c.loop-done.invariant.long) (λ c. rows_all _ _ _ _ c.loop-done.invariant (omega arith)))

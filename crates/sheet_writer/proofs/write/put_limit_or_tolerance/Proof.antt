@@ -1,6 +1,6 @@
 -- `sheet_writer::write::put_limit_or_tolerance` meets its contract: the arms have the widths of L and of e.
 use Rattle.std.specs.Prelude.{List, [], ◌∷◌, ◌≡◌, ℕ}
-use Rattle.vocabulary.specs.{sym, subst, arith, needs}
+use Rattle.vocabulary.specs.{sym, subst, arith, rules}
 use Rattle.sheet_layout.specs.{declared.Pass.Pass, Kinds.of_pass, Layout.limit, Layout.tolerance, Layout.width_of}
 use Rattle.sheet_writer.specs.{declared.packer.Packer.Packer, Packer.HasRoom, Packer.Packs, Parts.field_from}
 use Rattle.sheet_writer.proofs.write.put_limit_or_tolerance.Statement.{statement}
@@ -18,8 +18,4 @@ module _ {pass told : Pass} (e : pass ≡ told) where
 
 pub put_limit_or_tolerance_spec : {M : Type 1} → statement M
 put_limit_or_tolerance_spec =
-    tie.close (tie.spec (λ c. search needs)
-    (λ c κs. (room_of c.before.enum_told.given.1 c.before.before.before.before.requires, omega arith)) (λ c. search needs)
-    (λ c κs. (room_of c.before.enum-told2.given.1 c.before.before.before.before.requires, omega arith)) (λ c. search needs)
-    (λ c. let put = c.before.before in packs_of put.before.before.enum_told.given.1 _ put.put.ensures) (λ c. search needs)
-    (λ c. let put = c.before.before in packs_of put.before.before.enum-told2.given.1 _ put.put2.ensures))
+    tie.close (tie.spec (λ c. search rules) (λ c κs. (room_of c.in-First.is c.requires, omega arith)) (λ c. search rules) (λ c κs. (room_of c.in-Second.is c.requires, omega arith)) (λ c. search rules) (λ c. packs_of c.in-First.is _ c.put.ensures) (λ c. search rules) (λ c. packs_of c.in-Second.is _ c.put-in-Second.ensures))

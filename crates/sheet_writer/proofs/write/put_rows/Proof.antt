@@ -20,37 +20,30 @@ read_back : {a b : List ℕ} {p q : Packer} (carried : Bool) (angle rounds log_s
 read_back {a} {b} {p} {q} carried angle rounds log_sine_lem {difference} fits packs =
     subst (λ (d : ℤ). Packs a p (row_of carried angle rounds log_sine_lem d) b q) (to_z_of_z_at w32 difference fits) packs
 
-abbrev invariant-loop : tie.invariant-loop
+abbrev invariant-loop : tie.invariant-loop-done
 invariant-loop sheet₀ carried angles rounds log_sines_lem differences packer₀ done₀ sheet packer done =
     PackedRows sheet₀ packer₀ (row carried angles rounds log_sines_lem differences) (length angles) done sheet packer
 
-abbrev decreases-loop : tie.decreases-loop
+abbrev decreases-loop : tie.decreases-loop-done
 decreases-loop sheet₀ carried angles rounds log_sines_lem differences packer₀ done₀ sheet packer done = length angles - done
 
-put_row_requires : tie.Need-put-row-requires invariant-loop decreases-loop
+put_row_requires : tie.Need-put_row-packer-requires invariant-loop decreases-loop
 put_row_requires c κs =
-    let at = c.before.before.before.before.before.before in
-    let start = at.before.before.before.before.before in
-    let a = start.args in
-    rows_room a.sheet.now a.start (row a.carried a.angles.now a.rounds.now a.log-sines.now a.differences.now) (length a.angles.now)
-    at.loop.invariant (65 + rounds_bits a.carried)
-    (λ i. row_width a.carried (numbered a.angles.now i 0) (numbered a.rounds.now i 0) (numbered a.log-sines.now i 0) (numbered a.differences.now i (pos 0)))
-    start.requires.0 (omega arith)
+    let a = c.args in
+    rows_room a.sheet.now a.start (row a.carried a.angles.now a.rounds.now a.log_sines.now a.differences.now) (length a.angles.now)
+    c.loop-done.invariant (65 + rounds_bits a.carried)
+    (λ i. row_width a.carried (numbered a.angles.now i 0) (numbered a.rounds.now i 0) (numbered a.log_sines.now i 0) (numbered a.differences.now i (pos 0)))
+    c.requires.0 (omega arith)
 
-loop_again : tie.Need-loop-preserved invariant-loop decreases-loop
+loop_again : tie.Need-loop-done-preserved invariant-loop decreases-loop
 loop_again c =
-    let put = c.before.before in
-    let at = put.before.before.before.before.before.before.before in
-    let a = at.before.before.before.before.before.args in
-    let done = at.loop.done in
-    rows_more a.sheet.now a.start (row a.carried a.angles.now a.rounds.now a.log-sines.now a.differences.now) (length a.angles.now)
-    at.loop.invariant (omega arith) put.put-row.auto.0
-    (read_back a.carried (get_or a.angles.now done 0) (get_or a.rounds.now done 0) (get_or a.log-sines.now done 0)
-    {difference = get_or a.differences.now done (pos 0)} (record { sfits = put.before.put-row-arg2.given }) put.put-row.ensures)
+    let a = c.args in
+    let done = c.loop-done.done in
+    rows_more a.sheet.now a.start (row a.carried a.angles.now a.rounds.now a.log_sines.now a.differences.now) (length a.angles.now)
+    c.loop-done.invariant (omega arith) c.put_row-packer.auto.sheet
+    (read_back a.carried (get_or a.angles.now done 0) (get_or a.rounds.now done 0) (get_or a.log_sines.now done 0)
+    {difference = get_or a.differences.now done (pos 0)} (record { sfits = c.put_row-arg-in-loop-done-1.given }) c.put_row-packer.ensures)
 
 pub put_rows_spec : {M : Type 1} → statement M
 put_rows_spec =
-    tie.close (tie.spec invariant-loop decreases-loop (λ c. rows_none _ _ _ _ c.before.before.before.before.requires.0.well) (λ c. omega arith)
-    (λ c. omega arith) (λ c. omega arith) (λ c. omega arith) (λ c. omega arith) (λ c. omega arith) (λ c. omega arith) put_row_requires
-    (λ c. omega arith) (λ c. omega arith) loop_again (λ c. c.before.loop.invariant.long)
-    (λ c. rows_all _ _ _ _ c.before.loop.invariant (omega arith)))
+    tie.close (tie.spec invariant-loop decreases-loop (λ c. rows_none _ _ _ _ c.requires.0.well) (λ c. omega arith) (λ c. omega arith) (λ c. omega arith) (λ c. omega arith) (λ c. omega arith) (λ c. omega arith) (λ c. omega arith) put_row_requires (λ c. omega arith) (λ c. omega arith) loop_again (λ c. c.loop-done.invariant.long) (λ c. rows_all _ _ _ _ c.loop-done.invariant (omega arith)))

@@ -6,15 +6,12 @@ use Rattle.text.proofs.{Numbers.length_natural, Spelling.length_last, Spelling.l
 use Rattle.text.proofs.numerals.digit_count.Statement.{statement}
 use Rattle.text.proofs.numerals.digit_count.Tie as tie
 
-abbrev invariant-loop : tie.invariant-loop
+abbrev invariant-loop : tie.invariant-loop-uncounted
 invariant-loop value uncounted₀ count₀ uncounted count = count + length (natural uncounted) ≡ length (natural value) + 1
 
-abbrev decreases-loop : tie.decreases-loop
+abbrev decreases-loop : tie.decreases-loop-uncounted
 decreases-loop value uncounted₀ count₀ uncounted count = uncounted
 
 pub digit_count_spec : {M : Type 1} → statement M
 digit_count_spec =
-    tie.close (tie.spec invariant-loop decreases-loop (λ c. omega arith)
-    (λ c. omega (arith, length_natural 20 c.before.before.args.value (lit< tt) (omega arith))) (λ c. omega arith)
-    (λ c. omega (arith, length_before c.before.loop.uncounted (omega arith)))
-    (λ c. omega (arith, length_last c.before.loop.uncounted (omega arith))))
+    tie.close (tie.spec invariant-loop decreases-loop (λ c. omega arith) (λ c. omega (arith, length_natural 20 c.args.value (lit< tt) (omega arith))) (λ c. omega arith) (λ c. omega (arith, length_before c.loop-uncounted.uncounted (omega arith))) (λ c. omega (arith, length_last c.loop-uncounted.uncounted (omega arith))))

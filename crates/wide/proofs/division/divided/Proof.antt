@@ -11,32 +11,26 @@ words : (c : tie.Start) → InWords c.args.n
 words c = in_words c.args.n (omega arith) (omega arith)
 
 -- whichever way the divisor's high word decides
-split : (c : tie.Joined1) → Split c.before.before.args.n c.before.before.args.d c.if1.high c.if1.left
+split : (c : tie.Joined-d-eq0) → Split c.args.n c.args.d c.if-d-eq0.high c.if-d-eq0.left
 split c =
-    let start = c.before.before in
-    let n = start.args.n in
-    let d = start.args.d in
+    let n = c.args.n in
+    let d = c.args.d in
     ⊎_elim
-    (λ w. rw (w.5, w.6) (split_word n d (words start) w.0.taken start.requires))
-    (λ w. rw (w.1, w.2) (split_none n d (words start) w.0.left))
-    c.if1.branch
+    (λ w. rw (w.high-is, w.left-is) (split_word n d (words c.before.before) w.if-d-eq0.true c.requires))
+    (λ w. rw (w.high-is, w.left-is) (split_none n d (words c.before.before) w.if-d-eq0.false))
+    c.if-d-eq0.branch-raw
 
-rem_left : tie.Need-nonzero-rem-left
+rem_left : tie.Need-nonzero_rem-left
 rem_left c =
-    let start = c.before.before.before.before.before.before in
-    low_some start.args.d c.before.before.before.before.if1.true start.requires
+    low_some c.args.d c.if-d-eq0.true c.requires
 
 returns : tie.Need-returns
-returns c =
-    let word = c.before in
-    let start = word.before.before.before in (
-      split_joined start.args.n start.args.d word.before.if1.high word.before.if1.false word.word-divided.result.word
-          (size_of word.word-divided.result.rest) (split word.before) word.word-divided.ensures.0,
-      word.word-divided.ensures.1,
-    )
+returns c = (
+  split_joined c.args.n c.args.d c.if-d-eq0.high c.if-d-eq0.left c.word_divided-quotient.result.word
+      (size_of c.word_divided-quotient.result.rest) (split c.before.before) c.word_divided-quotient.ensures.0,
+  c.word_divided-quotient.ensures.1,
+)
 
 pub divided_spec : {M : Type 1} → statement M
 divided_spec =
-    tie.close (tie.spec
-    (λ c. let start = c.before.before.before.before in low_some start.args.d c.before.before.if1.true start.requires) rem_left
-    (λ c κs. (split c).short) returns)
+    tie.close (tie.spec (λ c. low_some c.args.d c.if-d-eq0.true c.requires) rem_left (λ c κs. (split c).short) returns)

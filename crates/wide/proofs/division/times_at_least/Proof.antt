@@ -1,7 +1,7 @@
 -- `wide::division::times_at_least` meets its contract: a size without a high word is divided as a word, and of any other the leading bits
 -- are, by one more than those of the divisor, which is never too much.
 use Rattle.std.specs.Prelude.{◌≡◌, ◌-◌, ◌^◌, ◌≤◌}
-use Rattle.vocabulary.specs.{mul-le-mul_right, lt_of_le_of_lt, arith, needs, pow_pos}
+use Rattle.vocabulary.specs.{mul-le-mul_right, lt_of_le_of_lt, arith, rules, pow_pos}
 use Rattle.wide.specs.Wide.{size_of}
 use Rattle.wide.proofs.Sizes.{in_words, high_within}
 use Rattle.wide.proofs.Divisions.{times_within, times_some, times_low, low_some}
@@ -12,34 +12,26 @@ high : (c : tie.Start) → c.args.d.high ≤ c.args.n.high
 high c = high_within c.args.n c.args.d (in_words c.args.n (omega arith) (omega arith)) c.requires.1
 
 -- so a divisor of what has no high word has none
-none : (c : tie.Then1) → c.before.before.args.d.high ≡ 0
-none c = omega (arith, high c.before.before, c.if1.true)
+none : (c : tie.Then-n-eq0) → c.args.d.high ≡ 0
+none c = omega (arith, high c.before.before, c.if-n-eq0.true)
 
-returns : tie.Need-returns
+returns : tie.Need-returns-then-n-eq0
 returns c =
-    let start = c.before.before.before.before in
-    times_low start.args.n start.args.d c.before.before.if1.true (none c.before.before) start.requires.0 start.requires.1
+    times_low c.args.n c.args.d c.if-n-eq0.true (none c.before.before) c.requires.0 c.requires.1
 
-raised_requires-2 : tie.Need-raised-requires-2
-raised_requires-2 c κs =
-    let zeros = c.before in
-    let start = zeros.before.before.before in (
-      zeros.leading_zeros.ensures.0,
-      lt_of_le_of_lt (mul-le-mul_right (2 ^ zeros.leading_zeros.result) (high start)) zeros.leading_zeros.ensures.1,
-    )
+raised_requires-2 : tie.Need-raised-lower-requires
+raised_requires-2 c κs = (
+  c.leading_zeros-zeros.ensures.0,
+  lt_of_le_of_lt (mul-le-mul_right (2 ^ c.leading_zeros-zeros.result) (high c.before.before.before.before)) c.leading_zeros-zeros.ensures.1,
+)
 
-returns-2 : tie.Need-returns-2
-returns-2 c =
-    let upper = c.before.before in
-    let zeros = upper.before in
-    let start = zeros.before.before.before in (
-      times_some upper.raised.result c.before.raised2.result c.if2.true,
-      rw (upper.raised.ensures, c.before.raised2.ensures)
-          (times_within (size_of start.args.n) (size_of start.args.d) (2 ^ (64 - zeros.leading_zeros.result)) (pow_pos (64 - zeros.leading_zeros.result))),
-    )
+returns-2 : tie.Need-returns-then-lower-upper
+returns-2 c = (
+  times_some c.raised-upper.result c.raised-lower.result c.if-lower-upper.true,
+  rw (c.raised-upper.ensures, c.raised-lower.ensures)
+      (times_within (size_of c.args.n) (size_of c.args.d) (2 ^ (64 - c.leading_zeros-zeros.result)) (pow_pos (64 - c.leading_zeros-zeros.result))),
+)
 
 pub times_at_least_spec : {M : Type 1} → statement M
 times_at_least_spec =
-    tie.close (tie.spec
-    (λ c. let start = c.before.before.before.before in low_some start.args.d (none c.before.before) start.requires.0) returns
-    (λ c κs. search needs) (λ c κs. search needs) raised_requires-2 (λ c. search needs) (λ c. search needs) returns-2 (λ c. search needs))
+    tie.close (tie.spec (λ c. low_some c.args.d (none c.before.before) c.requires.0) returns (λ c κs. search rules) (λ c κs. search rules) raised_requires-2 (λ c. search rules) (λ c. search rules) returns-2 (λ c. search rules))

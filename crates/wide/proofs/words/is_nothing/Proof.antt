@@ -5,5 +5,4 @@ use Rattle.wide.proofs.words.is_nothing.Tie as tie
 
 pub is_nothing_spec : {M : Type 1} → statement M
 is_nothing_spec =
-    tie.close (tie.spec (λ c. nothing_low c.before.before.before.args.a c.before.if1.true)
-    (λ c. nothing_high c.before.before.args.a c.if1.false))
+    tie.close (tie.spec (λ c. nothing_low c.args.a c.if-a-eq0.true) (λ c. nothing_high c.args.a c.if-a-eq0.false))

@@ -1,6 +1,6 @@
 -- `wide::words::sizes_difference` meets its contract: word by word, with one borrowed from the high word where the low words need it.
 use Rattle.std.specs.Prelude.{◌≤◌, ◌<◌}
-use Rattle.vocabulary.specs.{arith, needs}
+use Rattle.vocabulary.specs.{arith, rules}
 use Rattle.wide.proofs.Sizes.{InWords, in_words, radix_is, high_within, high_more, difference_plain, difference_borrowed}
 use Rattle.wide.proofs.words.sizes_difference.Statement.{statement}
 use Rattle.wide.proofs.words.sizes_difference.Tie as tie
@@ -14,24 +14,20 @@ plain c = high_within c.args.a c.args.b (larger c) c.requires
 borrowed : (c : tie.Start) → c.args.a.low < c.args.b.low → c.args.b.high < c.args.a.high
 borrowed c l = high_more c.args.a c.args.b (larger c) c.requires l
 
-sub_t8 : tie.Need-overflow-sub-t8
+sub_t8 : tie.Need-overflow_sub-result-else-b-a-2
 sub_t8 c =
-    let start = c.before.before.before.before.before in
-    let less : start.args.b.high < start.args.a.high = borrowed start c.before.before.if1.false in
+    let less : c.args.b.high < c.args.a.high = borrowed c.before.before.before.before.before c.if-b-a.false in
     omega arith
 
-returns : tie.Need-returns
+returns : tie.Need-returns-then-b-a
 returns c =
-    let start = c.before.before.before.before.before.before.before in
-    difference_plain start.args.a start.args.b (plain start) c.before.before.before.before.if1.true
+    difference_plain c.args.a c.args.b (plain c.before.before.before.before.before.before.before) c.if-b-a.true
 
-returns-2 : tie.Need-returns-2
+returns-2 : tie.Need-returns-else-b-a
 returns-2 c =
-    let start = c.before.before.before.before.before.before.before in
-    let less = c.before.before.before.before.if1.false in
-    difference_borrowed start.args.a start.args.b (borrowed start less) less _ (omega (arith, radix_is))
+    let less = c.if-b-a.false in
+    difference_borrowed c.args.a c.args.b (borrowed c.before.before.before.before.before.before.before less) less _ (omega (arith, radix_is))
 
 pub sizes_difference_spec : {M : Type 1} → statement M
 sizes_difference_spec =
-    tie.close (tie.spec (λ c. plain c.before.before.before.before.before) (λ c. plain c.before.before.before.before.before)
-    sub_t8 (λ c. search needs) (λ c. search needs) (λ c. search needs) returns returns-2)
+    tie.close (tie.spec (λ c. plain c.before.before.before.before.before) (λ c. plain c.before.before.before.before.before) sub_t8 (λ c. search rules) (λ c. search rules) (λ c. search rules) returns returns-2)

@@ -10,15 +10,13 @@ left c = in_words c.args.a (omega arith) (omega arith)
 right : (c : tie.Start) → InWords c.args.b
 right c = in_words c.args.b (omega arith) (omega arith)
 
-returns : tie.Need-returns
+returns : tie.Need-returns-then-a-b
 returns c =
-    let at = c.before.before.before.before.before in
-    less_low at.args.a at.args.b (left at) (right at) c.before.before.if1.true
+    less_low c.args.a c.args.b (left c.before.before.before.before.before) (right c.before.before.before.before.before) c.if-a-b.true
 
-returns-2 : tie.Need-returns-2
+returns-2 : tie.Need-returns-else-a-b
 returns-2 c =
-    let at = c.before.before.before.before.before in
-    less_words at.args.a at.args.b (left at) (right at) c.before.before.if1.false
+    less_words c.args.a c.args.b (left c.before.before.before.before.before) (right c.before.before.before.before.before) c.if-a-b.false
 
 pub sizes_less_spec : {M : Type 1} → statement M
 sizes_less_spec = tie.close (tie.spec returns returns-2)

@@ -324,6 +324,7 @@ def try_wrong_programs(folder):
         edit.unlink()
     edits = (
         ("a_comment", "// What a test says.", "// Another.", "NOT REFUSED"),
+        ("a_comment_in_a_body", "Refusal::NoSuchFigure => 1,", "Refusal::NoSuchFigure => 1, // as it was", "NOT REFUSED"),
         ("a_failure_lost", "Verdict::Passed => later,", "Verdict::Passed => earlier,", None),
         ("no_such_text", "// None.", "// Another.", "BAD EDIT"),
     )
@@ -333,7 +334,7 @@ def try_wrong_programs(folder):
     status, text, _ = call(words)
     told = [(name, said) for name, *_, said in edits if said and f"FAILED must-fail refusals/{name}.edit: {said}" in text]
     right = [(name, said) for name, *_, said in edits if said]
-    expect("wrong programs that are not", (status, told, text.splitlines()[-1]), (1, right, "1 passed, 2 failed"))
+    expect("wrong programs that are not", (status, told, text.splitlines()[-1]), (1, right, "1 passed, 3 failed"))
     for name, *_ in edits:
         if name != "a_failure_lost":
             (folder / crate / "must-fail" / f"{name}.edit").unlink()

@@ -127,7 +127,7 @@ module _ (f : Figure) (given : SecondGiven) (lent : List ℕ) (named : figure_of
 
   one_done : has_side f ≡ false → OneSine f (sine_misclosure f e) (side_misclosure f e) (divisor f e) left
   one_done one = record {
-    sum_of_squares_lem = one_squares f e one;
+    sum_of_squares_is = one_squares f e one;
     no_side = no_misclosure f e one;
     numerators = λ i h. joined_numerators f e i ∙ one_numerators f e one i h;
   }
@@ -135,8 +135,8 @@ module _ (f : Figure) (given : SecondGiven) (lent : List ℕ) (named : figure_of
   two_done : has_side f ≡ true → TwoSines f given (sine_misclosure f e) (side_misclosure f e) (divisor f e) left
   unfolding signed_in reduced_in reduced_coefficient misclosure_in
   two_done both = record {
-    side_reduced_lem = side_reduced_at f e both;
-    side_misclosure_lem = refl;
+    side_reduced_is = side_reduced_at f e both;
+    side_misclosure_is = refl;
     determinant = two_determinant f e both;
     numerators = λ i h. joined_numerators f e i ∙ two_numerators f e both i h;
   }
@@ -156,7 +156,7 @@ module _ (f : Figure) (given : SecondGiven) (lent : List ℕ) (named : figure_of
     side_many = length_listed (side_reduced_count f) (side_reduced f e);
     condition_many = length_listed M₂ (second_rest f e);
     reduced = slice_at N₂ (second_reduced f e);
-    sine_misclosure_lem = pole_misclosure f e;
+    sine_misclosure_is = pole_misclosure f e;
     one_sine = one_done;
     two_sines = two_done;
     rounded = λ i h.

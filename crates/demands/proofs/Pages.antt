@@ -65,7 +65,7 @@ module _ (f : Figure) (given : ℕ → ℤ) (rounds : List ℕ) (numerators roun
       → FirstPage f rounds first_page_text
   first_page cancel rest result horizon = record {
     names = first_names;
-    denominator_word_lem = first_figure_part 3;
+    denominator_word_is = first_figure_part 3;
     denominator_is = denominator_read;
     corrections_cancel = λ j h.
         condition_agrees f (of_angle first_page_text 2) numerators (angle_read 2) j h
@@ -126,7 +126,7 @@ module _ (f : Figure) (w sideW divisor : ℤ) (given : ℕ → ℤ) (rounds : Li
         → ((i : ℕ) → i < angle_count f → of_angle page (3 + place) i ≡ naturals rounds i) → SecondPageFrom f rounds page place
     page_from place word given-at numerator_at rounded_at result_at rounds-at = record {
       names = second_names;
-      w_word_lem = word;
+      w_word_is = word;
       corrections_close = λ j h. condition_agrees f (of_angle page place) numerators numerator_at j h ∙ close j h;
       rests = λ j h. condition_agrees f (of_angle page (1 + place)) rounded rounded_at j h ∙ rest j h ∙ sym (second_condition_lem 1 j h);
       results = λ i h. ap₂ ◌+ℤ◌ (given-at i h) (rounded_at i h) ∙ result i h ∙ sym (result_at i h);
@@ -142,7 +142,7 @@ module _ (f : Figure) (w sideW divisor : ℤ) (given : ℕ → ℤ) (rounds : Li
         let at = angle_at_lem (one_angle_read f w sideW divisor given (naturals rounds) reduced side_reduced numerators rounded results rests one) in
         record {
           page = page_from 3 (figure_part 3 read) (at 1) (at 3) (at 4) (at 5) (at 6);
-          s_word_lem = figure_part 5 read;
+          s_word_is = figure_part 5 read;
           s_is =
               ap read_number (figure_part 6 read) ∙ read_decimal divisor ∙ divisor_is
               ∙ sym (squares_ext (angle_count f) (of_angle page 2) reduced (at 2));
@@ -163,7 +163,7 @@ module _ (f : Figure) (w sideW divisor : ℤ) (given : ℕ → ℤ) (rounds : Li
         let wb : number_on page 0 5 ≡ sideW = ap read_number (figure_part 5 read) ∙ read_decimal sideW in
         record {
           page = page_from 4 (figure_part 3 read) (at 1) (at 4) (at 5) (at 6) (at 7);
-          determinant_word_lem = figure_part 6 read;
+          determinant_word_is = figure_part 6 read;
           determinant_is =
               ap read_number (figure_part 7 read) ∙ read_decimal divisor ∙ divisor_is
               ∙ sym (determinant_agrees f (of_angle page 2) (of_angle page 3) reduced side_reduced (at 2) (at 3));

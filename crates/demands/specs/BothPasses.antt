@@ -40,11 +40,11 @@ pub record LeastOfAll (f : Figure) (differences : List ℤ) (misclosures : ℕ �
 
 -- ---- ours
 
--- their common denominator, D-as-S
+-- their common denominator, D·S
 abbrev pub common_denominator : Figure → (S : ℕ) → ℕ
 common_denominator f S = denominator f * S
 
--- "the exact first plus exact second corrections", first / D + second / S, over D-as-S
+-- "the exact first plus exact second corrections", first / D + second / S, over D·S
 abbrev pub first_plus_second : Figure → (S : ℕ) → (first second : ℕ → ℤ) → ℕ → ℤ
 first_plus_second f S first second i = pos S *ℤ first i +ℤ pos (denominator f) *ℤ second i
 
@@ -52,7 +52,7 @@ first_plus_second f S first second i = pos S *ℤ first i +ℤ pos (denominator 
 pub record BothTogether (f : Figure) (differences : List ℤ) (misclosures first second : ℕ → ℤ) (w sideW : ℤ) (S : ℕ) : Type 0 where
   pub denominator_positive : 0 < common_denominator f S
   pub least : LeastOfAll f differences misclosures (common_denominator f S) (first_plus_second f S first second)
-  -- ours change the sine sum by what the first corrections did, less 100·W; times D-as-S
+  -- ours change the sine sum by what the first corrections did, less 100·W; times D·S
   pub sine : sine_change f (pole f) differences (first_plus_second f S first second)
       ≡ pos S *ℤ sine_change f (pole f) differences first -ℤ pos 100 *ℤ w *ℤ pos (common_denominator f S)
   -- and where there are two, the other likewise

@@ -74,7 +74,7 @@ numerators_in lent i = joined (vector lent.high_numerators i) (get_or lent.low_n
 -- of a figure with one sine condition
 pub record OneSine (f : Figure) (w sideW divisor : ℤ) (lent : SecondLent) : Type 0 where
   -- "S is the sum of A²"
-  pub sum_of_squares_lem : divisor ≡ squares (angle_count f) (vector lent.reduced)
+  pub sum_of_squares_is : divisor ≡ squares (angle_count f) (vector lent.reduced)
   -- there is one W
   pub no_side : sideW ≡ pos 0
   -- "Exact correction in tenths: −100·D·A·W / S"
@@ -98,10 +98,10 @@ exact_of_two f a b wa wb i =
 
 -- of a figure with two: "A, B the reduced coefficients of pole and side"
 pub record TwoSines (f : Figure) (given : SecondGiven) (w sideW divisor : ℤ) (lent : SecondLent) : Type 0 where
-  pub side_reduced_lem : (i : ℕ) → i < angle_count f
+  pub side_reduced_is : (i : ℕ) → i < angle_count f
       → vector lent.side_reduced i ≡ reduced_by f (signed (side f) given.entries.differences) i
   -- "log side 1 + r of 1 − c of 1 − log side 4 − l of 4 + c of 4"
-  pub side_misclosure_lem : sideW
+  pub side_misclosure_is : sideW
       ≡ signed_sum f (side f) given.entries.log_sines +ℤ dot (side_count f) (vector (side f).sides) (angle_at given.entries.log_sides)
   pub determinant : divisor ≡ determinant_of f (vector lent.reduced) (vector lent.side_reduced)
   pub numerators : (i : ℕ) → i < angle_count f
@@ -120,7 +120,7 @@ pub record SecondDone (given : SecondGiven) (w sideW divisor : ℤ) (lent : Seco
   pub reduced : (i : ℕ) → i < angle_count figure
       → vector lent.reduced i ≡ reduced_by figure (signed (pole figure) given.entries.differences) i
   -- "W is the signed sum of log-sines"
-  pub sine_misclosure_lem : w ≡ signed_sum figure (pole figure) given.entries.log_sines
+  pub sine_misclosure_is : w ≡ signed_sum figure (pole figure) given.entries.log_sines
   -- S and the exact corrections over it; or B, the other W, the determinant and the exact corrections over that
   pub one_sine : has_side figure ≡ false → OneSine figure w sideW divisor lent
   pub two_sines : has_side figure ≡ true → TwoSines figure given w sideW divisor lent

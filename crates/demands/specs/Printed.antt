@@ -41,7 +41,7 @@ pub record Names (f : Figure) (text : List ℕ) : Type 0 where
 -- a text of a first pass; `rounds` are those that the sheet has
 pub record FirstPage (f : Figure) (rounds : List ℕ) (text : List ℕ) : Type 0 where
   pub names : Names f text
-  pub denominator_word_lem : part text 0 3 ≡ denominator_word
+  pub denominator_word_is : part text 0 3 ≡ denominator_word
   pub denominator_is : number_on text 0 4 ≡ pos (denominator f)
   -- the numerators of a condition's angles sum to −D times the misclosure
   pub corrections_cancel : (j : ℕ) → j < condition_count f
@@ -60,7 +60,7 @@ pub record FirstPage (f : Figure) (rounds : List ℕ) (text : List ℕ) : Type 0
 -- them, then the results, and the rounds last
 pub record SecondPageFrom (f : Figure) (rounds : List ℕ) (text : List ℕ) (place : ℕ) : Type 0 where
   pub names : Names f text
-  pub w_word_lem : part text 0 3 ≡ w_word
+  pub w_word_is : part text 0 3 ≡ w_word
   -- the numerators of each condition sum to 0
   pub corrections_close : (j : ℕ) → j < condition_count f → condition_sum f (of_angle text place) j ≡ pos 0
   -- and the rounded ones to its rest
@@ -73,7 +73,7 @@ pub record SecondPageFrom (f : Figure) (rounds : List ℕ) (text : List ℕ) (pl
 -- of a figure with one sine condition
 pub record OneSinePage (f : Figure) (rounds : List ℕ) (text : List ℕ) : Type 0 where
   pub page : SecondPageFrom f rounds text 3
-  pub s_word_lem : part text 0 5 ≡ s_word
+  pub s_word_is : part text 0 5 ≡ s_word
   -- S is the sum of A², with A as printed
   pub s_is : number_on text 0 6 ≡ squares (angle_count f) (of_angle text 2)
   -- each numerator is −100·D·A·W, with A and W as printed
@@ -83,7 +83,7 @@ pub record OneSinePage (f : Figure) (rounds : List ℕ) (text : List ℕ) : Type
 -- of a figure with two: M-100
 pub record TwoSinesPage (f : Figure) (rounds : List ℕ) (text : List ℕ) : Type 0 where
   pub page : SecondPageFrom f rounds text 4
-  pub determinant_word_lem : part text 0 6 ≡ determinant_word
+  pub determinant_word_is : part text 0 6 ≡ determinant_word
   -- the determinant is [AA][BB] − [AB]², with A and B as printed
   pub determinant_is : number_on text 0 7 ≡ determinant_of f (of_angle text 2) (of_angle text 3)
   -- each numerator is −100·D·(A·([BB]·Wa − [AB]·Wb) + B·([AA]·Wb − [AB]·Wa)), with A, B and both W as printed

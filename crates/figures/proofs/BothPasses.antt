@@ -16,7 +16,7 @@ module _ (f : Figure) (w second : ℕ → ℤ) (S : ℤ) where
   abbrev D : ℤ
   D = pos (denominator f)
 
-  -- first / D + second / S, over D-as-S
+  -- first / D + second / S, over D·S
   abbrev pub together : ℕ → ℤ
   together i = S *ℤ numerator f w i +ℤ D *ℤ second i
 

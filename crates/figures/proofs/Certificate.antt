@@ -1,4 +1,4 @@
--- The certificate of a figure as a test that antt computes: C-as-R = −D·I and R = Cᵀ-as-K. `Figures` runs it over the list of all figures.
+-- The certificate of a figure as a test that antt computes: C·R = −D·I and R = Cᵀ·K. `Figures` runs it over the list of all figures.
 -- Assumes nothing.
 use Rattle.std.specs.Prelude.{◌≡◌, Bool, false, ◌&&◌, List, [], ◌∷◌, ◌++◌, map, ℕ, zero, suc, ◌<◌, T, eqb, length, get_or, ℤ, pos, negsuc}
 use Rattle.std.specs.Prelude.{neg_ℤ, ◌+ℤ◌, ◌-ℤ◌, ◌*ℤ◌}

@@ -7,7 +7,7 @@ use Rattle.whole.proofs.Ring.{ring, constant, ◌≐◌, ◌⊕◌, ◌⊗◌, �
 use Rattle.whole.proofs.Sums.{sum_ext, sum_add, sum_scale, dot_ext, dot_zero, applied_rows, applied_multiple, applied_add, applied_scale, applied_composed, applied_identity, moved}
 use Rattle.figures.proofs.Pythagoras as Pythagoras
 
--- C-as-R = −D·I, and every row of R is a combination of rows of C: R = Cᵀ-as-K
+-- C·R = −D·I, and every row of R is a combination of rows of C: R = Cᵀ·K
 pub record Certified (N M : ℕ) (D : ℤ) (C R K : ℕ → ℕ → ℤ) : Type 0 where
   pub cancels : (j k : ℕ) → j < M → k < M → composed N C R j k ≡ neg_ℤ D *ℤ identity j k
   pub spanned : (i j : ℕ) → i < N → j < M → R i j ≡ composed M (transposed C) K i j

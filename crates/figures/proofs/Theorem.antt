@@ -106,7 +106,7 @@ module _ (f : Figure) (d : ℕ → ℤ) where
       ap (λ (t : ℤ). pos (denominator f) *ℤ d i +ℤ t)
       (applied_ext (condition_count f) (table (description f).rows) (applied (angle_count f) (membership (description f)) d) (condition_sum f d) (condition_applied f d) i)
 
-  -- they change no condition: C-as-A = 0
+  -- they change no condition: C·A = 0
   pub reduced_closes : (j : ℕ) → j < condition_count f → condition_sum f (reduced_coefficient f d) j ≡ pos 0
   reduced_closes j b =
       sym (condition_applied f (reduced_coefficient f d) j b)
@@ -134,7 +134,7 @@ reduced_orthogonal f d z closes still =
     ∙ ap (λ (t : ℤ). pos (denominator f) *ℤ t) (dot_comm (angle_count f) z d ∙ still) ∙ *ℤ-zero (pos (denominator f)))
     (dot_comm (angle_count f) z taken ∙ numerators_orthogonal f (condition_sum f d) z closes)
 
--- D·Σ d·B = Σ A-as-B, with A and B the reduced coefficients of d and e
+-- D·Σ d·B = Σ A·B, with A and B the reduced coefficients of d and e
 pub reduced_products : (f : Figure) (d e : ℕ → ℤ)
     → pos (denominator f) *ℤ dot (angle_count f) d (reduced_coefficient f e) ≡ dot (angle_count f) (reduced_coefficient f d) (reduced_coefficient f e)
 reduced_products f d e =

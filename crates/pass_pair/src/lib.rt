@@ -87,6 +87,7 @@ fn clamped_tenths(quotient: Wide) -> i32
     if quotient.negative { -size } else { size }
 }
 
+#[tactic(auto, using(wide::proofs::Sizes::low_word, crate::proofs::Clamping::size_small, crate::proofs::Clamping::size_large, crate::proofs::Clamping::high_large))]
 fn clamped_size(size: Size) -> u64
     ensures { result ≡ clamped_size (size_of size) }
 {

@@ -15,7 +15,7 @@ least_log_sine = 1
 abbrev pub most_log_sine : ℕ
 most_log_sine = 100_000_000
 
--- sine difference for 1'', in hundredths of the sixth decimal, from minus this
+-- sine difference for 1″, in hundredths of the sixth decimal, from minus this
 abbrev pub most_difference : ℕ
 most_difference = 9_999
 

@@ -10,7 +10,7 @@ pub const LEAST_LOG_SINE: u32 = 1;
 
 pub const MOST_LOG_SINE: u32 = 100_000_000;
 
-// Sine difference for 1'', in hundredths of the sixth decimal.
+// Sine difference for 1″, in hundredths of the sixth decimal.
 pub const LEAST_DIFFERENCE: i32 = -9_999;
 
 pub const MOST_DIFFERENCE: i32 = 9_999;

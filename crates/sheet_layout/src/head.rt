@@ -50,6 +50,7 @@ pub fn named_head(kind: u32, code: u32, n: u32) -> Look
 
 // The kind and the figure of a sheet, so that slices of the right lengths can be lent for its values; or why the reader turns it back
 // already.
+#[tactic(auto, using(crate::proofs::Naming::short, crate::proofs::Naming::long_enough, crate::proofs::Naming::fields_decide))]
 pub fn look_at(sheet: &[u8]) -> Look
     ensures { result ≡ look_of sheet.now }
 {

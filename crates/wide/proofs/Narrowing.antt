@@ -1,7 +1,8 @@
 -- Laws of narrowing to one word with a sign. A caller whose number has a magnitude below 2 ^ 63 gets the number.
-use Rattle.std.specs.Prelude.{◌≡◌, refl, ℕ, zero, suc, ◌-◌, ◌^◌, ◌≤◌, ◌<◌, ℤ, pos, negsuc, neg_ℤ, nat_abs}
+use Rattle.std.specs.Prelude.{◌≡◌, refl, true, false, ℕ, zero, suc, ◌-◌, ◌^◌, ◌≤◌, ◌<◌, ℤ, pos, negsuc, neg_ℤ, nat_abs}
 use Rattle.vocabulary.specs.{ap, ◌∙◌, lt_of_le_of_lt, le_refl, le-suc, arith, lt-ltb, le-ltb, mag}
-use Rattle.wide.specs.{Wide.radix, Wide.size_of, Wide.narrowed, declared.Size.Size}
+use Rattle.wide.specs.{Wide.radix, Wide.size_of, Wide.value_of, Wide.narrowed, declared.Size.Size, declared.Wide.Wide}
+use Rattle.wide.proofs.{Signs.signed_size, Signs.signed_above, Signs.signed_below, Sizes.low_word}
 
 narrowed_fits : (z : ℤ) → mag z < 2 ^ 63 → narrowed z ≡ z
 unfolding narrowed
@@ -42,3 +43,16 @@ unfolding size_of radix
 narrowed_high z s e some =
     let high : 0 < s.high = omega (arith, some) in
     narrowed_none z (omega (arith, mag_near z))
+
+-- a number by its size: one without a high word is its low word with the sign, and one with a high word passes one word
+pub narrowed_above : (a : Wide) → a.size.high ≡ 0 → a.negative ≡ false → narrowed (value_of a) ≡ narrowed (pos a.size.low)
+unfolding value_of
+narrowed_above a low above = rw (above, low_word a.size low) (ap narrowed (signed_above a.size.low))
+
+pub narrowed_below : (a : Wide) → a.size.high ≡ 0 → a.negative ≡ true → narrowed (value_of a) ≡ narrowed (neg_ℤ (pos a.size.low))
+unfolding value_of
+narrowed_below a low below = rw (below, low_word a.size low) (ap narrowed (signed_below a.size.low))
+
+pub narrowed_wide : (a : Wide) → (a.size.high ≡ 0 → ⊥) → narrowed (value_of a) ≡ pos 0
+unfolding value_of
+narrowed_wide a some = narrowed_high (value_of a) a.size (signed_size a.negative (size_of a.size)) some

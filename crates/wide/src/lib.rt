@@ -153,6 +153,7 @@ pub fn rounded_quotient(numerator: Wide, denominator: Size) -> Wide
 }
 
 // The number as one word with a sign; 0 where that cannot hold it.
+#[tactic(auto, using(crate::proofs::Narrowing::narrowed_above, crate::proofs::Narrowing::narrowed_below, crate::proofs::Narrowing::narrowed_wide))]
 pub fn narrow(a: Wide) -> i64
     ensures { result ≡ narrowed (value_of a) }
 {

@@ -103,16 +103,6 @@ store_first_requires c κs =
     )
 
 -- where everything is stored
-module _ (c : tie.After-rests-1) where
-  abbrev stores : tie.After-store_first
-  stores = c.before.before.before.before
-
-  abbrev passing : tie.In-Passed
-  passing = stores.before.before.before.before.before.before.before
-
-  abbrev results : tie.After-results_into-outside
-  results = passing.before.before.before
-
 returns : tie.Need-returns-in-Passed
 returns c =
     let s = start c.before.before.before.before.before.before.before.before.before.before.before.before.before.before.before.before.before.before.before in

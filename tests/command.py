@@ -24,7 +24,7 @@ WORKED = ROOT / "sheets" / "document-01-first.sheet"
 TEXT = WORKED.with_suffix(".expected").read_text(encoding="ascii")
 REFUSED = b"\x00"
 LONGEST = ROOT / "sheets" / "polygon-8-kind-5.sheet"
-PATIENCE = 900  # seconds: the first run may have to build the program
+PATIENCE = 3600  # seconds: the first run may have to prove and build the program, after another build
 TOOLS = "bash cat chmod cp env find git mkdir mv readlink rm sleep".split()
 
 # The stand-in for the kit's command: what it is asked, whether another runs, and a program that is half written for a while.

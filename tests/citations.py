@@ -71,11 +71,24 @@ def code_names(text, declaration):
         yield from re.findall(r"(\w+)\s*:(?!:)", taken)
 
 
+def entries(folder):
+    """What stands in a folder, but for what the kit leaves in crates/NAME/out."""
+    return (inner for inner in folder.iterdir() if inner.name != "out" or folder.parent != ROOT / "crates")
+
+
+def files_in(folder):
+    for inner in entries(folder):
+        if inner.is_dir():
+            yield from files_in(inner)
+        else:
+            yield inner
+
+
 @lru_cache(None)
 def declared_in(path):
     """The names that a file declares, or that the files of a folder do."""
     if path.is_dir():
-        return frozenset().union(*(declared_in(inner) for inner in path.iterdir()))
+        return frozenset().union(*(declared_in(inner) for inner in entries(path)))
     declarations = {".rt": RATTLE, ".h": C, ".c": C, ".py": PYTHON}
     if path.suffix in declarations:
         return frozenset(code_names(path.read_text(encoding="utf-8"), declarations[path.suffix]))
@@ -87,7 +100,7 @@ def declared_for(folder):
     """What the sources declare, the crates, and the files of crates and sheets: modules, labels, samples, stdin and stdout.
     Scripts count only for the pages in their own folder, since some of their names are also names of the code."""
     crates = (code.parent.name for code in ROOT.glob("crates/*/src"))
-    files = (path.stem for base in ("crates", "sheets") for path in (ROOT / base).rglob("*") if path.is_file())
+    files = (path.stem for base in ("crates", "sheets") for path in files_in(ROOT / base))
     scripts = frozenset() if folder == ROOT else declared_in(folder)
     return scripts.union(*(declared_in(ROOT / source) for source in SOURCES), crates, files)
 

@@ -27,7 +27,8 @@ ALLOWED = {  # names that nothing here declares
     "read_exact", "read_to_end", "write_all", "Err",  # the kit's input and output
     "then", "else", "overflow", "cast", "bounds", "invariant-", "decreases-",  # parts of its names of goals and loops
     "rt", "PATH", "RATTLE_HOME",  # where the kit is
-    "memcpy", "memset",  # the C library
+    "memcpy", "memmove", "memset",  # the C library
+    "__udivti3",  # the compiler's own library
     "RT_JOBS",  # what the kit takes from the environment
 }
 
@@ -40,7 +41,7 @@ TYPE = re.compile(r"[iu](?:8|16|32|64|128|size)|bool")
 BETWEEN = re.compile(r"(?:[ ,(]|\n(?!\n)|\b(?:and|with|all|in)\b)*")  # from a name to the next one or to its file
 
 ANTT = re.compile(r"^\s*(?:(?:abbrev|unfoldable|pub)\s+)*(?:(?:record|data)\s+(?!\{)|(?=\S+\s+:\s))([^\s(){}]+)")
-RATTLE = re.compile(r"\b(?:fn|struct|enum|const|type|mod)\s+(\w+)")
+RATTLE = re.compile(r"\b(?:fn|struct|enum|trait|const|type|mod)\s+(\w+)")
 C = re.compile(r"^(?:#define\s+|[a-z][\w *]*?\b(?=\w+\())(\w+)", re.M)
 PYTHON = re.compile(r"^(?:\s*(?:def|class)\s+|(?=\w+\s*=))(\w+)", re.M)
 COMMENT = re.compile(r"//.*|/\*[\s\S]*?\*/")

@@ -323,9 +323,9 @@ def try_wrong_programs(folder):
     for edit in (folder / crate / "must-fail").iterdir():
         edit.unlink()
     edits = (
-        ("a_comment", "// What a test says.", "// Another.", "NOT REFUSED"),
+        ("a_comment", "// The answer of two tests in their order, for whoever has both.", "// Another.", "NOT REFUSED"),
         ("a_comment_in_a_body", "Refusal::NoSuchFigure => 1,", "Refusal::NoSuchFigure => 1, // as it was", "NOT REFUSED"),
-        ("a_failure_lost", "Verdict::Passed => later,", "Verdict::Passed => earlier,", None),
+        ("a_failure_lost", "earlier.and(later)", "earlier.and(earlier)", None),
         ("no_such_text", "// None.", "// Another.", "BAD EDIT"),
     )
     for name, old, new, _ in edits:

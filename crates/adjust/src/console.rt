@@ -2,13 +2,14 @@
 ghost use Rattle.std.specs.Prelude.{◌≡◌, length};
 ghost use Rattle.report.specs.Report.{report_text};
 
-use report::{LONGEST_TEXT, Reported, report};
+use report::{LONGEST_TEXT, report};
 use std::io::{Read, Write};
 
 // Works what standard input holds, read until it gives no more. Bytes that an error cut off are no sheet.
 pub(crate) fn work_input(rt: &HostRuntime) {
     // One byte more than the longest sheet, so that a sheet that is too long is seen. When it is full, the next read has
-    // no room and ends the loop.
+    // no room and ends the loop, which counts no index: it reads until nothing more comes. That a read failed is kept beside it, since what
+    // came before it is not worked.
     let mut sheet = [0u8; 223];
     let mut size = 0;
     let mut more = 1;
@@ -40,11 +41,11 @@ fn print_report(rt: &HostRuntime, sheet: &[u8]) -> usize
 {
     let mut text = [0u8; LONGEST_TEXT];
     match report(sheet, &mut text) {
-        Reported::Written(end) => {
+        Some(end) => {
             tell_unless_whole(rt, rt.stdout().write_all(&text[..end]).is_ok());
             end
         }
-        Reported::NoRoom => 0,
+        None => 0,
     }
 }
 

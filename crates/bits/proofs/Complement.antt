@@ -1,8 +1,8 @@
 -- Two's complement: a number that w bits hold is had back from what stands for it, and the other way round. Assumes nothing.
-use Rattle.std.specs.Prelude.{Bool, true, false, cond, ◌&&◌, ◌≡◌, refl, ℕ, zero, suc, ◌-◌, ◌*◌, ◌^◌, ◌≤◌, ◌<◌, leb, ltb, ℤ, pos, negsuc}
+use Rattle.std.specs.Prelude.{Bool, true, false, cond, ◌&&◌, ◌≡◌, refl, ℕ, zero, suc, ◌-◌, ◌*◌, ◌%◌, ◌^◌, ◌≤◌, ◌<◌, leb, ltb, ℤ, pos, negsuc}
 use Rattle.std.specs.Prelude.{neg_ℤ, ◌-ℤ◌}
 use Rattle.vocabulary.specs.{and-true, and-false, true≢false, false≢true, sym, ap, ◌∙◌, subst, dec_le, two-pow-succ, lt_of_not-le, arith}
-use Rattle.vocabulary.specs.{lt-ltb, le-ltb, le-leb, lt-leb, leb-zero, leb-suc-suc, pow_pos, pow_mono, mag, le_z, lt_z}
+use Rattle.vocabulary.specs.{one-mul, shl_exact, lt-ltb, le-ltb, le-leb, lt-leb, leb-zero, leb-suc-suc, pow_pos, pow_mono, mag, le_z, lt_z}
 use Rattle.bits.specs.Complement.{half_range, signed_of, fits_signed, twos_complement}
 
 -- ---- the range of a width
@@ -18,6 +18,9 @@ half_wide w h = rw (lt-leb w 32 h, and-false (leb 1 w)) refl
 pub half_is : (w : ℕ) → 1 ≤ w → w ≤ 32 → half_range w ≡ 2 ^ (w - 1)
 unfolding half_range
 half_is w h k = rw (le-leb 1 w h, le-leb w 32 k) refl
+
+pub half_shifted : (w : ℕ) → 1 ≤ w → w ≤ 32 → 1 * 2 ^ (w - 1) % 4294967296 ≡ half_range w
+half_shifted w h k = shl_exact 1 (w - 1) 32 (omega arith) (omega arith) ∙ one-mul (2 ^ (w - 1)) ∙ sym (half_is w h k)
 
 by_width {ℓ} : {X : Type ℓ} (w : ℕ) → (half_range w ≡ 0 → X) → (1 ≤ w → w ≤ 32 → X) → X
 by_width zero none some = none half_none
@@ -93,6 +96,12 @@ not_negative (negsuc n) t = absurd (false≢true t)
 pub negative : (z : ℤ) → le_z (pos 0) z ≡ false → z ≡ negsuc (mag z)
 negative (pos n) t = absurd (true≢false (sym (leb-zero n) ∙ t))
 negative (negsuc n) t = refl
+
+pub complement_above : (w : ℕ) (z : ℤ) → le_z (pos 0) z ≡ true → mag z < half_range w → twos_complement w z ≡ mag z
+complement_above w z t h = ap (twos_complement w) (not_negative z t) ∙ complement_pos w (mag z) h
+
+pub complement_below : (w : ℕ) (z : ℤ) → le_z (pos 0) z ≡ false → mag z < half_range w → twos_complement w z ≡ 2 * half_range w - suc (mag z)
+complement_below w z t h = ap (twos_complement w) (negative z t) ∙ complement_neg w (mag z) h
 
 -- ---- both round trips, at widths from 1 to 32
 

@@ -1,7 +1,7 @@
 -- A field read and written, by the bits that it is. Assumes nothing.
-use Rattle.std.specs.Prelude.{Bool, true, false, cond, List, ◌++◌, ◌≡◌, refl, ℕ, ◌+◌, ◌*◌, ◌^◌, ◌≤◌, ◌<◌, leb, length, take, drop}
+use Rattle.std.specs.Prelude.{Bool, true, false, cond, List, ◌++◌, ◌≡◌, refl, ℕ, ◌+◌, ◌-◌, ◌*◌, ◌/◌, ◌%◌, ◌^◌, ◌≤◌, ◌<◌, leb, length, take, drop}
 use Rattle.vocabulary.specs.{and-eq-true_iff, and-false, sym, ap, ◌∙◌, subst, arith, leb-true, le-leb, lt-leb, length-append, length-drop}
-use Rattle.vocabulary.specs.{pow_pos, take_at, drop_at, length-take-le}
+use Rattle.vocabulary.specs.{dec_le, lt_of_not-le, pow_pos, take_at, drop_at, length-take-le}
 use Rattle.bits.specs.Bits.{bits, value, bits_of, bytes_of, byte_count, inside, field_at, with_field}
 use Rattle.bits.proofs.Bytes.{AreBytes, length_bits_of, bits_of_bytes_of_whole, bytes_of_bytes, length_bytes_of}
 use Rattle.bits.proofs.Numbers.{length_bits, bits_value, value_lt}
@@ -27,6 +27,14 @@ inside_past s at w h = rw (lt-leb (at + w) (8 * length s) h) refl
 pub inside_wide : (s : List ℕ) (at w : ℕ) → 32 < w → inside s at w ≡ false
 unfolding inside
 inside_wide s at w h = rw (lt-leb w 32 h) (and-false (leb (at + w) (8 * length s)))
+
+-- by whole bytes: those that it spans from the one in which it starts are no more than are left from there
+pub spanned_inside : (s : List ℕ) (at w : ℕ) → w ≤ 32 → at / 8 ≤ length s → leb ((at % 8 + w + 7) / 8) (length s - at / 8) ≡ inside s at w
+spanned_inside s at w n h =
+    elim (dec_le ((at % 8 + w + 7) / 8) (length s - at / 8)) [
+      | yes k ↦ le-leb _ _ k ∙ sym (is_inside s at w (omega arith) n)
+      | no k ↦ lt-leb _ _ (lt_of_not-le k) ∙ sym (inside_past s at w (omega arith))
+    ]
 
 -- ---- bits with another number's in the place of some
 

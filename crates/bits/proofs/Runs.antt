@@ -1,8 +1,9 @@
 -- Whole bytes as one number, and a field as a part of it. Assumes nothing.
 use Rattle.std.specs.Prelude.{Bool, List, [], ◌∷◌, ◌++◌, ◌≡◌, refl, ℕ, ◌+◌, ◌-◌, ◌*◌, ◌/◌, ◌%◌, ◌^◌, ◌≤◌, ◌<◌, length, take, drop, get_or}
-use Rattle.vocabulary.specs.{append-nil, sym, ap, ap₂, ◌∙◌, add-zero, lt_of_lt_of_le, add-one, arith, digits_div, digits_mod, length-drop}
+use Rattle.vocabulary.specs.{append-nil, sym, ap, ap₂, ◌∙◌, lt_of_lt_of_le, add-one, arith, digits_div, digits_mod, length-drop}
 use Rattle.vocabulary.specs.{take-append-drop, pow_mono, take-suc, take-add, take-append-le, drop-append-le, drop_at, drop-drop}
-use Rattle.vocabulary.specs.{get_or-drop, length-take-le}
+use Rattle.vocabulary.specs.{get_or-take, get_or-drop, length-take-le, take_all}
+use Rattle.std.specs.Int.{from_be_bytes, w64}
 use Rattle.bits.specs.Bits.{bits, value, bits_of, field_at}
 use Rattle.bits.proofs.{Bytes.AreBytes, Bytes.length_bits_of_take, Bytes.bits_of_append, Fields.is_inside, Fields.field_at_is}
 use Rattle.bits.proofs.Numbers.{length_bits, value_append, value_bits, value_lt}
@@ -35,50 +36,59 @@ run s i k = value (bits_of (take k (drop i s)))
 length_run : (s : List ℕ) (i k : ℕ) → i + k ≤ length s → length (bits_of (take k (drop i s))) ≡ 8 * k
 length_run s i k within = length_bits_of_take (drop i s) k (omega (arith, length-drop i s))
 
-module _ (s : List ℕ) (i : ℕ) where
-  -- one byte more
-  pub run_more : (k : ℕ) → AreBytes s → i + k < length s → run s i (k + 1) ≡ run s i k * 256 + get_or s (i + k) 0
-  unfolding bits_of
-  run_more k h within =
-      let front : List Bool = bits_of (take k (drop i s)) in
-      let last : ℕ = get_or s (i + k) 0 in
-      ap (run s i) (add-one k)
-      ∙ ap (λ (l : List ℕ). value (bits_of l)) (take-suc (drop i s) k 0 (omega (arith, length-drop i s)))
-      ∙ ap (λ (x : ℕ). value (bits_of (take k (drop i s) ++ (x ∷ [])))) (get_or-drop i s k 0)
-      ∙ ap value (bits_of_append (take k (drop i s)) (last ∷ []) ∙ ap (λ (l : List Bool). front ++ l) (append-nil (bits 8 last)))
-      ∙ value_append front (bits 8 last)
-      ∙ ap₂ (λ (n x : ℕ). value front * 2 ^ n + x) (length_bits 8 last) (value_bits 8 last (h (i + k)))
+-- ---- bytes taken one by one
 
-  -- bytes after bytes
-  pub run_add : (j k : ℕ) → i + (j + k) ≤ length s → run s i (j + k) ≡ run s i j * 2 ^ (8 * k) + run s (i + j) k
-  run_add j k within =
-      let front : List Bool = bits_of (take j (drop i s)) in
-      let back : List Bool = bits_of (take k (drop (i + j) s)) in
-      ap (λ (l : List ℕ). value (bits_of l)) (take-add j k (drop i s))
-      ∙ ap (λ (l : List ℕ). value (bits_of (take j (drop i s) ++ take k l))) (drop-drop j i s)
-      ∙ ap value (bits_of_append (take j (drop i s)) (take k (drop (i + j) s))) ∙ value_append front back
-      ∙ ap (λ (n : ℕ). value front * 2 ^ n + value back) (length_run s (i + j) k (omega arith))
+-- the number of the first k bytes
+abbrev taken : List ℕ → ℕ → ℕ
+taken s k = value (bits_of (take k s))
 
-  -- as many bytes as a field can straddle fit in 40 bits
-  pub run_short : (k : ℕ) → k ≤ 5 → i + k ≤ length s → run s i k < 2 ^ 40
-  run_short k few within =
-      let long : length (bits_of (take k (drop i s))) ≤ 40 = omega (arith, length_run s i k within) in
-      lt_of_lt_of_le (value_lt (bits_of (take k (drop i s)))) (pow_mono long)
-
--- four bytes at once
-pub run_four : (s : List ℕ) (i : ℕ) → AreBytes s → i + 4 ≤ length s
-    → get_or s i 0 * 16777216 + get_or s (i + 1) 0 * 65536 + get_or s (i + 2) 0 * 256 + get_or s (i + 3) 0 ≡ run s i 4
+pub taken_none : value (bits_of []) ≡ 0
 unfolding value bits_of
-run_four s i h within =
-    let none : run s i 0 ≡ 0 = refl in
+taken_none = refl
+
+-- one byte more
+pub taken_more : (s : List ℕ) (k : ℕ) → k < length s → get_or s k 0 < 256 → value (bits_of (take (k + 1) s)) ≡ value (bits_of (take k s)) * 256 + get_or s k 0
+unfolding bits_of
+taken_more s k within small =
+    let front : List Bool = bits_of (take k s) in
+    let last : ℕ = get_or s k 0 in
+    ap (taken s) (add-one k) ∙ ap (λ (l : List ℕ). value (bits_of l)) (take-suc s k 0 within)
+    ∙ ap value (bits_of_append (take k s) (last ∷ []) ∙ ap (λ (l : List Bool). front ++ l) (append-nil (bits 8 last)))
+    ∙ value_append front (bits 8 last)
+    ∙ ap₂ (λ (n x : ℕ). value front * 2 ^ n + x) (length_bits 8 last) (value_bits 8 last small)
+
+-- as many bytes as a field can straddle fit in 40 bits
+pub taken_short : (s : List ℕ) (k : ℕ) → k ≤ length s → k ≤ 5 → value (bits_of (take k s)) < 2 ^ 40
+taken_short s k within few =
+    let long : length (bits_of (take k s)) ≤ 40 = omega (arith, length_bits_of_take s k within) in
+    lt_of_lt_of_le (value_lt (bits_of (take k s))) (pow_mono long)
+
+-- eight bytes at once, as the processor reads them
+eight_bytes : (s : List ℕ) → ((k : ℕ) → k < 8 → get_or s k 0 < 256) → length s ≡ 8 → from_be_bytes w64 s ≡ value (bits_of s)
+eight_bytes s h long =
+    let each : (k : ℕ) → k < 8 → taken s (k + 1) ≡ taken s k * 256 + get_or s k 0 = (λ k few. taken_more s k (omega arith) (h k few)) in
+    let all : taken s 8 ≡ value (bits_of s) = ap (λ (l : List ℕ). value (bits_of l)) (take_all 8 s (omega arith)) in
     omega (
       arith,
-      ap (λ (j : ℕ). get_or s j 0) (add-zero i),
-      run_more s i 0 h (omega arith),
-      run_more s i 1 h (omega arith),
-      run_more s i 2 h (omega arith),
-      run_more s i 3 h (omega arith),
+      taken_none,
+      all,
+      each 0 (omega arith),
+      each 1 (omega arith),
+      each 2 (omega arith),
+      each 3 (omega arith),
+      each 4 (omega arith),
+      each 5 (omega arith),
+      each 6 (omega arith),
+      each 7 (omega arith),
     )
+
+pub eight_within : (s t : List ℕ) (i : ℕ) → AreBytes s → i + 8 ≤ length s → t ≡ take (i + 8 - i) (drop i s)
+    → from_be_bytes w64 t ≡ value (bits_of (take 8 (drop i s)))
+eight_within s t i h within e =
+    let eight : i + 8 - i ≡ 8 = omega arith in
+    let are : t ≡ take 8 (drop i s) = e ∙ ap (λ (n : ℕ). take n (drop i s)) eight in
+    let bytes : (k : ℕ) → k < 8 → get_or (take 8 (drop i s)) k 0 < 256 = (λ k few. omega (arith, get_or-take 8 (drop i s) k 0 few, get_or-drop i s k 0, h (i + k))) in
+    ap (from_be_bytes w64) are ∙ eight_bytes (take 8 (drop i s)) bytes (length-take-le 8 (drop i s) (omega (arith, length-drop i s)))
 
 -- ---- a field within bytes
 

@@ -1,5 +1,8 @@
 // Fields of bits in bytes, most significant bit first: document 01, "Packed sheets". Every public function answers every input, as
 // specs/Bits.antt says.
+// A cast by `as` stands where the library has no `From`, to a narrower type or to and from usize; each is proved to keep its value.
+// What several functions require of a value, its length or its range, stays a premise of each: the values are slices that callers lend,
+// and a type that holds them would be built and taken apart at each of these calls.
 #![tactic(auto)]
 
 ghost use Rattle.std.specs.Prelude.{◌≡◌, ◌+◌, ◌*◌, ◌/◌, ◌%◌, ◌^◌, ◌≤◌, ◌<◌, length, take, drop, set};
@@ -16,6 +19,7 @@ const WIDEST: u32 = 32;
 const WINDOW: usize = 8;
 
 // What a field holds, and 0 where it is not wholly within the bytes, or is wider than 32 bits.
+#[tactic(auto, using(crate::proofs::Fields::field_at_empty, crate::proofs::Fields::field_at_outside, crate::proofs::Fields::inside_wide, crate::proofs::Fields::inside_within))]
 pub fn field(bytes: &[u8], at: usize, width: u32) -> u32
     ensures { result ≡ field_at bytes.now at width }
 {
@@ -35,15 +39,13 @@ pub fn field(bytes: &[u8], at: usize, width: u32) -> u32
         return 0;
     }
     let spanned = (end + 7) / 8;
-    part(
-        number_of(bytes, first, spanned as usize),
-        8 * spanned - end,
-        width,
-    )
+    let number = number_of(&bytes[first..first + spanned as usize]);
+    part(number, 8 * spanned - end, width)
 }
 
 // Writes the last bits of `value` into a field. Nothing changes where the field is not wholly
 // within the bytes, or is wider than 32 bits.
+#[tactic(auto, using(crate::proofs::Fields::with_field_outside, crate::proofs::Fields::inside_within, crate::proofs::Fields::inside_narrow))]
 pub fn put_field(bytes: &mut [u8], at: usize, width: u32, value: u32)
     ensures { bytes.new ≡ with_field bytes.old at width value }
 {
@@ -51,16 +53,15 @@ pub fn put_field(bytes: &mut [u8], at: usize, width: u32, value: u32)
         return;
     }
     let mut rest = value;
-    let mut left = width;
-    while left > 0 {
-        left -= 1;
-        put_bit(bytes, at, left, rest % 2);
+    for place in (0..width).rev() {
+        put_bit(bytes, at, place, rest % 2);
         rest = rest / 2;
     }
 }
 
 // A field lies wholly within the bytes, and is no wider than it may be. Whole bytes are compared,
 // since the end of a field, in bits, may be no number of a usize.
+#[tactic(auto, using(crate::proofs::Fields::spanned_inside, crate::proofs::Fields::inside_past, crate::proofs::Fields::inside_wide))]
 fn is_inside(bytes: &[u8], at: usize, width: u32) -> bool
     ensures { result ≡ inside bytes.now at width }
 {
@@ -80,31 +81,20 @@ fn window(bytes: &[u8], first: usize) -> u64
     requires { first + 8 ≤ length bytes.now }
     ensures { result ≡ value (bits_of (take 8 (drop first bytes.now))) }
 {
-    word(bytes, first) as u64 * 4294967296 + word(bytes, first + 4) as u64
-}
-
-// Four bytes as one number.
-fn word(bytes: &[u8], i: usize) -> u32
-    requires { i + 4 ≤ length bytes.now }
-    ensures { result ≡ value (bits_of (take 4 (drop i bytes.now))) }
-{
-    bytes[i] as u32 * 16777216
-        + bytes[i + 1] as u32 * 65536
-        + bytes[i + 2] as u32 * 256
-        + bytes[i + 3] as u32
+    let mut eight = [0; WINDOW];
+    eight.copy_from_slice(&bytes[first..first + WINDOW]);
+    u64::from_be_bytes(eight)
 }
 
 // As many bytes as a field can straddle, or fewer, as one number.
-fn number_of(bytes: &[u8], first: usize, count: usize) -> u64
-    requires count_in_bounds { first + count ≤ length bytes.now }
-    requires count_bound { count ≤ 5 }
-    ensures { result ≡ value (bits_of (take count (drop first bytes.now))) }
+#[tactic(auto, using(crate::proofs::Runs::taken_none, crate::proofs::Runs::taken_more, crate::proofs::Runs::taken_short))]
+fn number_of(bytes: &[u8]) -> u64
+    requires { length bytes.now ≤ 5 }
+    ensures { result ≡ value (bits_of bytes.now) }
 {
     let mut held = 0;
-    let mut taken = 0;
-    while taken < count {
-        held = held * 256 + bytes[first + taken] as u64;
-        taken += 1;
+    for byte in bytes {
+        held = held * 256 + u64::from(*byte);
     }
     held
 }
@@ -119,6 +109,7 @@ fn part(number: u64, below: u32, width: u32) -> u32
 }
 
 // Writes the bit that is `further` bits after a position.
+#[tactic(auto, using(crate::proofs::Places::set_further))]
 fn put_bit(bytes: &mut [u8], at: usize, further: u32, bit: u32)
     requires further_bound { at + further < 8 * length bytes.old }
     requires further_bound_2 { further < 32 }
@@ -131,15 +122,16 @@ fn put_bit(bytes: &mut [u8], at: usize, further: u32, bit: u32)
 }
 
 // A byte with another bit at a place.
+#[tactic(auto, using(crate::proofs::Places::byte_with_bit, crate::proofs::Places::byte_with_bit_lt, crate::proofs::Places::power_pos))]
 fn with_bit(byte: u8, place: u32, bit: u32) -> u8
     requires place_bound { place < 8 }
     requires bit_bound { bit < 2 }
     ensures { bits 8 result ≡ set (bits 8 byte) place (odd bit) }
 {
     let counts = power_of_two(7 - place);
-    let above = byte as u64 / counts / 2;
-    let below = byte as u64 % counts;
-    ((above * 2 + bit as u64) * counts + below) as u8
+    let above = u64::from(byte) / counts / 2;
+    let below = u64::from(byte) % counts;
+    ((above * 2 + u64::from(bit)) * counts + below) as u8
 }
 
 fn power_of_two(exponent: u32) -> u64

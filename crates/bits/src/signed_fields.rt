@@ -1,5 +1,6 @@
 // Two's complement of a given width: document 01, "Packed sheets", kind 2. Every public function answers every input, as
 // specs/Complement.antt says.
+// A cast by `as` stands where the library has no `From`, to a narrower type or to and from usize; each is proved to keep its value.
 ghost use Rattle.std.specs.Prelude.{◌≡◌};
 ghost use Rattle.std.specs.Int.Signed.{mag};
 ghost use Rattle.bits.specs.Complement.{half_range, signed_of, twos_complement};
@@ -8,6 +9,7 @@ use crate::WIDEST;
 
 // The number that `value` stands for in two's complement of a width, and 0 where the width is not
 // from 1 to 32, or `value` has more bits.
+#[tactic(auto, using(crate::proofs::Complement::half_small, crate::proofs::Complement::signed_low, crate::proofs::Complement::signed_high, crate::proofs::Complement::signed_beyond))]
 pub fn signed(value: u32, width: u32) -> i32
     ensures { result ≡ signed_of width value }
 {
@@ -26,6 +28,7 @@ pub fn signed(value: u32, width: u32) -> i32
 
 // What stands for `value` in two's complement of a width, and 0 where the width is not from 1 to
 // 32, or does not hold `value`.
+#[tactic(auto, using(crate::proofs::Complement::half_small, crate::proofs::Complement::complement_above, crate::proofs::Complement::complement_below, crate::proofs::Complement::complement_beyond))]
 pub fn twos_complement(value: i32, width: u32) -> u32
     ensures { result ≡ twos_complement width value }
 {
@@ -55,6 +58,7 @@ fn steps_to(value: i32) -> u32
 
 // How many numbers of a width are negative, and as many are not. No width but 1 to 32 has any, so
 // that no number passes the tests of the two functions above.
+#[tactic(auto, using(crate::proofs::Complement::half_none, crate::proofs::Complement::half_wide, crate::proofs::Complement::half_shifted))]
 fn half_range(width: u32) -> u32
     ensures { result ≡ half_range width }
 {

@@ -2,7 +2,7 @@
 ghost use Rattle.std.specs.Prelude.{◌≡◌, ◌≤◌, length, take};
 ghost use Rattle.cases.specs.Told.{Tells, counted};
 
-use report::{LONGEST_TEXT, Reported, report};
+use report::{LONGEST_TEXT, report};
 use std::io::Write;
 
 // The line of a case, and 1 where it came out as expected.
@@ -26,12 +26,31 @@ pub fn tell_sheet(rt: &HostRuntime, case: &[u8], sheet: &[u8], expected: &[u8]) 
     tell(rt, case, prints(sheet, expected))
 }
 
+// A case that is a sheet, and the text that it should print.
+#[derive(Clone, Copy)]
+pub struct Case<'a> {
+    pub told: &'a [u8],
+    pub sheet: &'a [u8],
+    pub expected: &'a [u8],
+}
+
+// The lines of such cases, and how many came out as expected.
+pub fn tell_sheets(rt: &HostRuntime, cases: &[Case]) -> u64
+    ensures { result ≤ length cases.now }
+{
+    let mut as_expected = 0;
+    for case in cases {
+        as_expected += tell_sheet(rt, case.told, case.sheet, case.expected);
+    }
+    as_expected
+}
+
 // Whether a sheet's text is exactly these bytes.
 fn prints(sheet: &[u8], expected: &[u8]) -> bool {
     let mut text = [0; LONGEST_TEXT];
     match report(sheet, &mut text) {
-        Reported::Written(end) => holds(&text, end, expected),
-        Reported::NoRoom => false,
+        Some(end) => holds(&text, end, expected),
+        None => false,
     }
 }
 

@@ -1,68 +1,54 @@
 // What a pass itself answers, of code 1, and that a refusal leaves what was lent for the results as it was, all 0.
 use crate::comparing::holds;
 use figures::Figure;
-use lines::{first_lines, refused_lines, second_lines};
+use lines::{FirstWorked, SecondWorked, first_lines, refused_lines, second_lines};
 use pass_first::first_pass;
-use pass_rules::SecondAnswer;
+use pass_rules::{FirstInput, FirstRoom, SecondInput, SecondRoom};
 use pass_second::second_pass;
-use refusals::{Refusal, Verdict};
+use refusals::Refusal;
 use report::LONGEST_TEXT;
 
 pub fn first_pass_refuses(limit: u32, angles: [u32; 8], expected: &[u8]) -> bool {
+    let given = FirstInput {
+        limit,
+        angles: &angles,
+        rounds: &[1; 8],
+        fixed: &[0; 0],
+    };
     let mut misclosures = [0; 3];
     let mut numerators = [0; 8];
     let mut rounded = [0; 8];
     let mut corrected = [0; 8];
     let mut corrected_rounds = [0; 8];
     let mut rests = [0; 3];
-    let Verdict::Failed(refusal) = first_pass(
-        1,
-        0,
-        limit,
-        &angles,
-        &[1; 8],
-        &[0; 0],
-        &mut misclosures,
-        &mut numerators,
-        &mut rounded,
-        &mut corrected,
-        &mut corrected_rounds,
-        &mut rests,
-    ) else {
+    let mut room = FirstRoom {
+        misclosures: &mut misclosures,
+        numerators: &mut numerators,
+        rounded: &mut rounded,
+        corrected: &mut corrected,
+        corrected_rounds: &mut corrected_rounds,
+        rests: &mut rests,
+    };
+    let Err(refusal) = first_pass(1, 0, given, &mut room) else {
         return false;
     };
     reads(refusal, expected)
-        && first_unchanged(
-            misclosures,
-            numerators,
-            rounded,
-            corrected,
-            corrected_rounds,
-            rests,
-        )
+        && first_unchanged(FirstWorked {
+            figure: Figure::Quadrilateral,
+            given: &[0; 0],
+            rounds: &corrected_rounds,
+            numerators: &numerators,
+            rounded: &rounded,
+            results: &corrected,
+            misclosures: &misclosures,
+            rests: &rests,
+        })
 }
 
 // Shown as the program shows results, with no given angles.
-fn first_unchanged(
-    misclosures: [i32; 3],
-    numerators: [i32; 8],
-    rounded: [i32; 8],
-    corrected: [u32; 8],
-    corrected_rounds: [u8; 8],
-    rests: [i32; 3],
-) -> bool {
+fn first_unchanged(worked: FirstWorked<'_>) -> bool {
     let mut text = [0; LONGEST_TEXT];
-    let end = first_lines(
-        &mut text,
-        Figure::Quadrilateral,
-        &[0; 0],
-        &corrected_rounds,
-        &numerators,
-        &rounded,
-        &corrected,
-        &misclosures,
-        &rests,
-    );
+    let end = first_lines(&mut text, worked);
     holds(
         &text,
         end,
@@ -74,6 +60,14 @@ fn first_unchanged(
 
 // With angles of 45° and differences all 0.
 pub fn second_pass_refuses(log_sines: [u32; 8], expected: &[u8]) -> bool {
+    let given = SecondInput {
+        tolerance: 0,
+        angles: &[1620000; 8],
+        rounds: &[1; 8],
+        log_sines: &log_sines,
+        differences: &[0; 8],
+        log_sides: &[0; 0],
+    };
     let mut reduced = [0; 8];
     let mut numerators_high = [0; 8];
     let mut numerators_low = [0; 8];
@@ -81,66 +75,42 @@ pub fn second_pass_refuses(log_sines: [u32; 8], expected: &[u8]) -> bool {
     let mut adjusted = [0; 8];
     let mut adjusted_rounds = [0; 8];
     let mut rests = [0; 3];
-    let SecondAnswer::Refused(refusal) = second_pass(
-        1,
-        0,
-        0,
-        &[1620000; 8],
-        &[1; 8],
-        &log_sines,
-        &[0; 8],
-        &[0; 0],
-        &mut reduced,
-        &mut [0; 0],
-        &mut numerators_high,
-        &mut numerators_low,
-        &mut rounded,
-        &mut adjusted,
-        &mut adjusted_rounds,
-        &mut rests,
-    ) else {
+    let mut room = SecondRoom {
+        reduced: &mut reduced,
+        side_reduced: &mut [0; 0],
+        numerators_high: &mut numerators_high,
+        numerators_low: &mut numerators_low,
+        rounded: &mut rounded,
+        adjusted: &mut adjusted,
+        adjusted_rounds: &mut adjusted_rounds,
+        rests: &mut rests,
+    };
+    let Err(refusal) = second_pass(1, 0, given, &mut room) else {
         return false;
     };
     reads(refusal, expected)
-        && second_unchanged(
-            reduced,
-            numerators_high,
-            numerators_low,
-            rounded,
-            adjusted,
-            adjusted_rounds,
-            rests,
-        )
+        && second_unchanged(SecondWorked {
+            figure: Figure::Quadrilateral,
+            misclosure: 0,
+            side_misclosure: 0,
+            divisor_high: 0,
+            divisor_low: 0,
+            given: &[0; 0],
+            rounds: &adjusted_rounds,
+            reduced: &reduced,
+            side_reduced: &[0; 0],
+            numerators_high: &numerators_high,
+            numerators_low: &numerators_low,
+            rounded: &rounded,
+            results: &adjusted,
+            rests: &rests,
+        })
 }
 
 // Shown as the program shows results, with no given angles, W or S.
-fn second_unchanged(
-    reduced: [i64; 8],
-    numerators_high: [i64; 8],
-    numerators_low: [u64; 8],
-    rounded: [i32; 8],
-    adjusted: [u32; 8],
-    adjusted_rounds: [u8; 8],
-    rests: [i32; 3],
-) -> bool {
+fn second_unchanged(worked: SecondWorked<'_>) -> bool {
     let mut text = [0; LONGEST_TEXT];
-    let end = second_lines(
-        &mut text,
-        Figure::Quadrilateral,
-        0,
-        0,
-        0,
-        0,
-        &[0; 0],
-        &adjusted_rounds,
-        &reduced,
-        &[0; 0],
-        &numerators_high,
-        &numerators_low,
-        &rounded,
-        &adjusted,
-        &rests,
-    );
+    let end = second_lines(&mut text, worked);
     holds(
         &text,
         end,

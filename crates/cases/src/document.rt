@@ -1,7 +1,7 @@
 // Document 01, "Sheets worked through": cases 8 to 10.
 ghost use Rattle.std.specs.Prelude.{◌≤◌};
 
-use crate::comparing::{tell, tell_sheet};
+use crate::comparing::{Case, tell, tell_sheet, tell_sheets};
 use crate::direct::{eight, first_pass_refuses, second_pass_refuses};
 
 pub fn case_8(rt: &HostRuntime) -> u64
@@ -48,18 +48,20 @@ pub fn case_9(rt: &HostRuntime) -> u64
 pub fn case_10(rt: &HostRuntime) -> u64
     ensures { result ≤ 2 }
 {
-    let empty = tell_sheet(
+    tell_sheets(
         rt,
-        b"case 10: an empty sheet gives 12",
-        b"",
-        b"refused 12 0\n",
-    );
-    // The first printed sheet of document 01, and a byte of 0 after it.
-    let too_long = tell_sheet(
-        rt,
-        b"case 10: a kind 1 sheet of code 1 with 27 bytes gives 12",
-        b"\x11\x00\x00\xc5\xc1\x21\x8b\x82\x03\x17\x04\x06\x2e\x08\x0c\x5c\x10\x18\xb8\x20\x31\x70\x40\x62\xe0\x80\x00",
-        b"refused 12 0\n",
-    );
-    empty + too_long
+        &[
+            Case {
+                told: b"case 10: an empty sheet gives 12",
+                sheet: b"",
+                expected: b"refused 12 0\n",
+            },
+            // The first printed sheet of document 01, and a byte of 0 after it.
+            Case {
+                told: b"case 10: a kind 1 sheet of code 1 with 27 bytes gives 12",
+                sheet: b"\x11\x00\x00\xc5\xc1\x21\x8b\x82\x03\x17\x04\x06\x2e\x08\x0c\x5c\x10\x18\xb8\x20\x31\x70\x40\x62\xe0\x80\x00",
+                expected: b"refused 12 0\n",
+            },
+        ],
+    )
 }

@@ -1,10 +1,11 @@
 -- Our own choice keeps both rules, and number 15 asks exactly whether one of them is broken. Assumes nothing.
+use Rattle.std.specs.Prelude.{Err, Ok}
 use Rattle.std.specs.Prelude.{ℕ, zero, suc, ◌≤◌, ◌<◌, Bool, true, false, List, ◌↔◌, ◌⊎◌, ◌≡◌, refl, ℤ, pos, negsuc, nat_abs, ◌+ℤ◌, ◌*ℤ◌}
 use Rattle.std.specs.Prelude.{length, ◌≤ℤ◌, ◌<ℤ◌}
 use Rattle.vocabulary.specs.{zero-le, suc-le-suc, inl, inr, ⊎_elim, sym, ap, subst, ◌∙◌, arith, ≤ℤ_refl, clash_ℤ}
 use Rattle.whole.specs.Sums.{vector}
 use Rattle.whole.proofs.Lists.{length_listed}
-use Rattle.refusals.specs.{declared.Refusal.Refusal, declared.Verdict.TheVariants.Passed, declared.Verdict.TheVariants.Failed}
+use Rattle.refusals.specs.declared.Refusal.{Refusal}
 use Rattle.refusals.specs.{Numbers.numbered, Order.fails_if, Order.verdict_of}
 use Rattle.refusals.specs.Questions.{Question, Holds, asked, less_signed, either, some_at, outside_signed}
 use Rattle.refusals.proofs.{Decided.decided, Decided.decided_not, Decided.not_less_signed, Nowhere.between}
@@ -50,7 +51,7 @@ module _ (f : Figure) (angles fixed : List ℕ) where
 
 -- ---- number 15
 
-either_way : (b : Bool) → (fails_if b Refusal.ChoiceDoesNotClose ≡ Passed) ⊎ (fails_if b Refusal.ChoiceDoesNotClose ≡ Failed Refusal.ChoiceDoesNotClose)
+either_way : (b : Bool) → (fails_if b Refusal.ChoiceDoesNotClose ≡ Ok tt) ⊎ (fails_if b Refusal.ChoiceDoesNotClose ≡ Err Refusal.ChoiceDoesNotClose)
 either_way true = inr refl
 either_way false = inl refl
 
@@ -158,27 +159,27 @@ module _ (f : Figure) (angles fixed : List ℕ) (offered : List ℤ) (own : leng
       ⊎_elim (λ some. no_stray rules some.0 some.1 some.2 some.3) (λ some. no_open rules some.0 some.1 some.2 some.3) held
 
   by_answer : (b : Bool) → asked broken ≡ b
-      → ((fails_if b Refusal.ChoiceDoesNotClose ≡ Passed) ↔ BothRules f angles fixed (vector offered))
-      × ((fails_if b Refusal.ChoiceDoesNotClose ≡ Failed Refusal.ChoiceDoesNotClose) ↔ (BothRules f angles fixed (vector offered) → ⊥))
+      → ((fails_if b Refusal.ChoiceDoesNotClose ≡ Ok tt) ↔ BothRules f angles fixed (vector offered))
+      × ((fails_if b Refusal.ChoiceDoesNotClose ≡ Err Refusal.ChoiceDoesNotClose) ↔ (BothRules f angles fixed (vector offered) → ⊥))
   by_answer true e = (
-    (λ (p : Failed Refusal.ChoiceDoesNotClose ≡ Passed). absurd (let z : ◌≡◌ {A = ℕ} 0 1 = cc in omega arith), λ rules. absurd (only_if rules ((decided broken).0 e))),
+    (λ (p : Err Refusal.ChoiceDoesNotClose ≡ Ok tt). absurd (let z : ◌≡◌ {A = ℕ} 0 1 = cc in omega arith), λ rules. absurd (only_if rules ((decided broken).0 e))),
     (λ p rules. only_if rules ((decided broken).0 e), λ none. refl),
   )
   by_answer false e = (
     (λ p. rules_if ((decided_not broken).0 e), λ rules. refl),
     (
-      λ (p : Passed ≡ Failed Refusal.ChoiceDoesNotClose). absurd (let z : ◌≡◌ {A = ℕ} 0 1 = cc in omega arith),
+      λ (p : (Ok tt) ≡ Err Refusal.ChoiceDoesNotClose). absurd (let z : ◌≡◌ {A = ℕ} 0 1 = cc in omega arith),
       λ none. absurd (none (rules_if ((decided_not broken).0 e))),
     ),
   )
 
   -- it passes exactly if both rules are kept
-  pub row_passes_exactly : (verdict_of (rules_row f angles fixed offered) ≡ Passed) ↔ BothRules f angles fixed (vector offered)
+  pub row_passes_exactly : (verdict_of (rules_row f angles fixed offered) ≡ Ok tt) ↔ BothRules f angles fixed (vector offered)
   row_passes_exactly = (by_answer (asked broken) refl).0
 
-  pub row_fails_exactly : (verdict_of (rules_row f angles fixed offered) ≡ Failed Refusal.ChoiceDoesNotClose) ↔ (BothRules f angles fixed (vector offered) → ⊥)
+  pub row_fails_exactly : (verdict_of (rules_row f angles fixed offered) ≡ Err Refusal.ChoiceDoesNotClose) ↔ (BothRules f angles fixed (vector offered) → ⊥)
   row_fails_exactly = (by_answer (asked broken) refl).1
 
   -- there is no third answer
-  pub row_either : (verdict_of (rules_row f angles fixed offered) ≡ Passed) ⊎ (verdict_of (rules_row f angles fixed offered) ≡ Failed Refusal.ChoiceDoesNotClose)
+  pub row_either : (verdict_of (rules_row f angles fixed offered) ≡ Ok tt) ⊎ (verdict_of (rules_row f angles fixed offered) ≡ Err Refusal.ChoiceDoesNotClose)
   row_either = either_way (asked broken)

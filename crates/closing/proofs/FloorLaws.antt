@@ -2,12 +2,18 @@
 -- is one of them. Assumes nothing.
 use Rattle.std.specs.Prelude.{ℕ, zero, suc, ◌+◌, ◌-◌, ◌*◌, ◌/◌, ◌%◌, ◌≤◌, ◌<◌, ◌⊎◌, ◌≡◌, refl, ℤ, pos, negsuc, neg_ℤ, nat_abs, ◌+ℤ◌, ◌-ℤ◌}
 use Rattle.std.specs.Prelude.{◌*ℤ◌, ◌≤ℤ◌}
+use Rattle.std.specs.Int.{int_div_euclid}
 use Rattle.vocabulary.specs.{inl, inr, ⊎_elim, sym, ap, ap₂, subst, ◌∙◌, mod-lt, div-add-mod, mul-suc, mul-zero, mul-le-mul_right, arith}
 use Rattle.vocabulary.specs.{+ℤ_idr}
 use Rattle.whole.proofs.Magnitudes.{nat_abs_neg, nat_abs_mul, nat_abs_distance}
 use Rattle.whole.proofs.Order.{pos_injective, natural, zero-≤ℤ-pos, ≤ℤ-difference, ≤ℤ-from-difference}
 use Rattle.whole.proofs.Ring.{constant, ◌⊕◌, ◌⊖◌, ◌⊗◌, ⊝◌, ◌≐◌, ring, difference_zero}
 use Rattle.closing.specs.Floor.{floor_quotient, ceiling_quotient, floor_remainder}
+
+-- what std divides so is what is defined here
+pub euclidean : (z : ℤ) (d : ℕ) → int_div_euclid z (pos d) ≡ floor_quotient z d
+euclidean (pos n) d = refl
+euclidean (negsuc n) d = refl
 
 module _ (d : ℕ) (positive : 0 < d) where
   parts : (n : ℕ) → d * (n / d) + n % d ≡ n

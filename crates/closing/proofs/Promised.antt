@@ -1,20 +1,22 @@
 -- From what the steps promise to what the two operations do. Assumes nothing.
-use Rattle.std.specs.Prelude.{ℕ, ◌≤◌, ◌<◌, Bool, true, false, not, ◌&&◌, ◌||◌, List, [], ◌∷◌, ◌≡◌, refl, ℤ, pos, nat_abs, ◌+ℤ◌, ◌-ℤ◌}
+use Rattle.std.specs.Prelude.{Err, None, Ok, Option, Some}
+use Rattle.refusals.specs.Numbers.{Verdict}
+use Rattle.std.specs.Prelude.{ℕ, ◌≤◌, ◌<◌, Bool, true, false, ◌||◌, List, [], ◌∷◌, ◌≡◌, refl, ℤ, pos, nat_abs, ◌+ℤ◌, ◌-ℤ◌}
 use Rattle.std.specs.Prelude.{length}
-use Rattle.vocabulary.specs.{zero-le, true≢false, sym, ap, ap₂, subst, ◌∙◌, dec_lt, le_trans, arith, ne_eqb, lit≤, list-get_or_eq_default}
+use Rattle.vocabulary.specs.{zero-le, true≢false, sym, ap, ap₂, subst, ◌∙◌, dec_lt, le_trans, arith, lit≤, list-get_or_eq_default}
 use Rattle.vocabulary.specs.{lt_z}
 use Rattle.whole.specs.{Lists.listed, Sums.vector}
 use Rattle.whole.proofs.Lists.{listed_ext}
-use Rattle.refusals.specs.{declared.Refusal.Refusal, declared.Verdict.Verdict, Numbers.numbered, Promise.stored, Ranges.most_limit}
-use Rattle.refusals.specs.{declared.Verdict.TheVariants.Passed, declared.Verdict.TheVariants.Failed, Table.lengths_row, Table.choice_row}
+use Rattle.refusals.specs.{declared.Refusal.Refusal, Numbers.numbered, Promise.stored, Ranges.most_limit}
+use Rattle.refusals.specs.{Table.lengths_row, Table.choice_row}
 use Rattle.refusals.specs.Order.{Row, verdict_of, fails_if, judged}
 use Rattle.refusals.specs.Questions.{asked, outside_signed, any_place}
 use Rattle.refusals.proofs.{Answers.answer_of_one, Decided.not_less_signed, InSteps.judged_after_pass, InSteps.judged_after_failure}
-use Rattle.figures.specs.{declared.Figure.Figure, declared.Named.Named, declared.Named.TheVariants.As, declared.Named.TheVariants.Nothing}
+use Rattle.figures.specs.declared.Figure.{Figure}
 use Rattle.figures.specs.Figure.{denominator, angle_count, condition_count, figure_of, of_named}
 use Rattle.figures.proofs.Figures.{denominator_positive}
 use Rattle.pass_rules.specs.FirstPass.{misclosure, first_numerator, misclosures_of, numerators_of, first_result_lengths, first_rows}
-use Rattle.pass_rules.specs.Promises.{FirstGiven, FirstLent, first_results_lent, first_values_of, first_verdict_of, FirstPromiseOf}
+use Rattle.pass_rules.specs.Promises.{FirstGiven, FirstLent, first_results_lent, FirstPromiseOf}
 use Rattle.pass_rules.proofs.{FirstAccepted.Accepted, FirstAccepted.accepted, PassRows.none_judged, PassRows.one_judged}
 use Rattle.pass_first.proofs.FirstBounds.{misclosure_small, first_numerator_small}
 use Rattle.pass_steps.specs.Premises.{Within, most_summed}
@@ -33,11 +35,6 @@ right_false : (a b : Bool) → (a || b) ≡ false → b ≡ false
 right_false true b e = absurd (true≢false e)
 right_false false b e = e
 
--- a part of what is stored
-stored_part : {L M : Type 0} (part : L → M) (v : Verdict) (new old : L) → part (stored v new old) ≡ stored v (part new) (part old)
-stored_part part Passed new old = refl
-stored_part part (Failed r) new old = refl
-
 -- ---- the first pass, whose slices for results have the figure's lengths
 
 module _ (f : Figure) (limit : ℕ) (angles rounds fixed : List ℕ) where
@@ -49,27 +46,13 @@ module _ (f : Figure) (limit : ℕ) (angles rounds fixed : List ℕ) where
     pub pass_answered : answer ≡ judged (pass_rows f limit angles rounds fixed)
     pass_answered = promise.answered ∙ same_rows
 
-    pub pass_leaves : {M : Type 0} (part : FirstLent → M)
-        → part exit ≡ stored (judged (pass_rows f limit angles rounds fixed)) (part (first_values_of f angles rounds fixed)) (part entry)
-    pass_leaves part =
-        ap part promise.leaves ∙ stored_part part (first_verdict_of f limit angles rounds fixed entry) (first_values_of f angles rounds fixed) entry
-        ∙ ap (λ (v : Verdict). stored v (part (first_values_of f angles rounds fixed)) (part entry)) same_rows
-
   -- what an accepted one says of its numbers
-  module _ (passed : judged (pass_rows f limit angles rounds fixed) ≡ Passed) where
+  module _ (passed : judged (pass_rows f limit angles rounds fixed) ≡ Ok tt) where
     ok : Accepted f limit angles rounds fixed (length angles ∷ length rounds ∷ length fixed ∷ first_result_lengths f)
     ok = accepted f limit angles rounds fixed _ passed
 
     pub numerators_small : Within most_numerator (numerators_of f angles fixed)
     numerators_small = listed_within (angle_count f) (first_numerator f angles fixed) most_numerator (λ i h. first_numerator_small f limit angles rounds fixed _ ok i)
-
-    pub numerators_are : {exact : List ℤ} (before : List ℤ) → exact ≡ stored (judged (pass_rows f limit angles rounds fixed)) (numerators_of f angles fixed) before
-        → exact ≡ numerators_of f angles fixed
-    numerators_are before e = e ∙ ap (λ (v : Verdict). stored v (numerators_of f angles fixed) before) passed
-
-    pub misclosures_are : {w : List ℤ} (before : List ℤ) → w ≡ stored (judged (pass_rows f limit angles rounds fixed)) (misclosures_of f angles fixed) before
-        → w ≡ misclosures_of f angles fixed
-    misclosures_are before e = e ∙ ap (λ (v : Verdict). stored v (misclosures_of f angles fixed) before) passed
 
     pub misclosures_small : Within most_limit (misclosures_of f angles fixed)
     misclosures_small = listed_within (condition_count f) (misclosure f angles fixed) most_limit (misclosure_small f limit angles rounds fixed _ ok)
@@ -94,41 +77,31 @@ module _ (f : Figure) (limit : ℕ) (angles rounds fixed : List ℕ) (lent : ℕ
   abbrev length_row : Row
   length_row = lengths_row (lent ∷ []) (angle_count f ∷ [])
 
-  pub length_wrong : (lent ≡ angle_count f → ⊥) → judged (closing_rows_for f limit angles rounds fixed lent) ≡ Failed Refusal.WrongLength
+  pub length_refused : (r : Refusal) → verdict_of length_row ≡ Err r → judged (closing_rows_for f limit angles rounds fixed lent) ≡ Err r
   unfolding closing_rows_for
-  length_wrong other =
-      judged_after_failure (length_row ∷ []) (pass_rows f limit angles rounds fixed) Refusal.WrongLength
-      (answer_of_one (verdict_of length_row) ∙ ap (λ (same : Bool). fails_if (not (same && true)) Refusal.WrongLength) (ne_eqb lent (angle_count f) other))
+  length_refused r e =
+      judged_after_failure (length_row ∷ []) (pass_rows f limit angles rounds fixed) r (answer_of_one (verdict_of length_row) ∙ e)
+
+  pub length_passed : verdict_of length_row ≡ Ok tt → judged (closing_rows_for f limit angles rounds fixed lent) ≡ judged (pass_rows f limit angles rounds fixed)
+  unfolding closing_rows_for
+  length_passed e = judged_after_pass (length_row ∷ []) (pass_rows f limit angles rounds fixed) (answer_of_one (verdict_of length_row) ∙ e)
 
   pub length_right : lent ≡ angle_count f → judged (closing_rows_for f limit angles rounds fixed lent) ≡ judged (pass_rows f limit angles rounds fixed)
-  unfolding closing_rows_for
-  length_right own =
-      judged_after_pass (length_row ∷ []) (pass_rows f limit angles rounds fixed)
-      (answer_of_one (verdict_of length_row) ∙ lengths_pass (lent ∷ []) (angle_count f ∷ []) (ap (λ (n : ℕ). n ∷ []) own))
+  length_right own = length_passed (lengths_pass (lent ∷ []) (angle_count f ∷ []) (ap (λ (n : ℕ). n ∷ []) own))
 
 module _ (f : Figure) (limit : ℕ) (angles rounds fixed : List ℕ) (entry : List ℤ) where
-  pub refused_length : (length entry ≡ angle_count f → ⊥) → ClosingPromiseOf f limit angles rounds fixed entry (Failed Refusal.WrongLength) entry
-  refused_length other =
-      let answered = length_wrong f limit angles rounds fixed (length entry) other in
-      record { answered = sym answered; leaves = kept _ _ _ Refusal.WrongLength answered }
+  module _ {v : Verdict} (is : v ≡ closing_answer_of f limit angles rounds fixed entry) where
+    pub refused : (r : Refusal) → v ≡ Err r → ClosingPromiseOf f limit angles rounds fixed entry v entry
+    refused r e = record { answered = is; leaves = kept _ _ _ r (sym is ∙ e) }
 
-  module _ (own : length entry ≡ angle_count f) (v : Verdict) (is : v ≡ judged (pass_rows f limit angles rounds fixed)) where
-    same : v ≡ closing_answer_of f limit angles rounds fixed entry
-    same = is ∙ sym (length_right f limit angles rounds fixed (length entry) own)
-
-    pub refused_by_pass : (r : Refusal) → v ≡ Failed r → ClosingPromiseOf f limit angles rounds fixed entry v entry
-    refused_by_pass r e = record { answered = same; leaves = kept _ _ _ r (sym same ∙ e) }
-
-    pub chosen_by_pass : v ≡ Passed → (exact before : List ℤ) → exact ≡ stored (judged (pass_rows f limit angles rounds fixed)) (numerators_of f angles fixed) before
-        → {exit : List ℤ} → exit ≡ listed (angle_count f) (chosen f (vector exact)) → ClosingPromiseOf f limit angles rounds fixed entry v exit
-    chosen_by_pass e exact before are made =
-        let exact_is = numerators_are f limit angles rounds fixed (sym is ∙ e) before are in
-        record {
-          answered = same;
-          leaves =
-              written _ _ _ (sym same ∙ e)
-              (made ∙ ap (λ (l : List ℤ). listed (angle_count f) (chosen f (vector l))) exact_is ∙ choice_is f angles fixed);
-        }
+    pub chose : v ≡ Ok tt → {exact : List ℤ} → exact ≡ numerators_of f angles fixed → {exit : List ℤ}
+        → exit ≡ listed (angle_count f) (chosen f (vector exact)) → ClosingPromiseOf f limit angles rounds fixed entry v exit
+    chose e exact_is made = record {
+      answered = is;
+      leaves =
+          written _ _ _ (sym is ∙ e)
+          (made ∙ ap (λ (l : List ℤ). listed (angle_count f) (chosen f (vector l))) exact_is ∙ choice_is f angles fixed);
+    }
 
 -- ---- the check
 
@@ -148,7 +121,7 @@ module _ (f : Figure) (w numerators offered : List ℤ) (own : length offered �
   row_is : verdict_of row15 ≡ fails_if (some_strays (denominator f) numerators offered || some_open (rests_left f w offered)) Refusal.ChoiceDoesNotClose
   row_is = ap (λ (b : Bool). fails_if (b || some_open (rests_left f w offered)) Refusal.ChoiceDoesNotClose) (sym strays_asked)
 
-  pub strays_refused : some_strays (denominator f) numerators offered ≡ true → Failed Refusal.ChoiceDoesNotClose ≡ verdict_of row15
+  pub strays_refused : some_strays (denominator f) numerators offered ≡ true → Err Refusal.ChoiceDoesNotClose ≡ verdict_of row15
   strays_refused e = sym (row_is ∙ ap (λ (b : Bool). fails_if (b || some_open (rests_left f w offered)) Refusal.ChoiceDoesNotClose) e)
 
   module _ (none : some_strays (denominator f) numerators offered ≡ false) where
@@ -178,22 +151,20 @@ module _ (f : Figure) (limit : ℕ) (angles rounds fixed : List ℕ) (offered : 
   abbrev rows_before : List Row
   rows_before = closing_rows_for f limit angles rounds fixed (length offered)
 
-  refused_before : (r : Refusal) → judged rows_before ≡ Failed r → check_answer_of f limit angles rounds fixed offered ≡ Failed r
+  pub refused_before : (r : Refusal) → judged rows_before ≡ Err r → check_answer_of f limit angles rounds fixed offered ≡ Err r
   unfolding check_rows_for
   refused_before r e = judged_after_failure rows_before (rules_row f angles fixed offered ∷ []) r e
 
-  pub check_length : (length offered ≡ angle_count f → ⊥) → Failed Refusal.WrongLength ≡ check_answer_of f limit angles rounds fixed offered
-  check_length other = sym (refused_before Refusal.WrongLength (length_wrong f limit angles rounds fixed (length offered) other))
+  pub asked_after : judged rows_before ≡ Ok tt → verdict_of (rules_row f angles fixed offered) ≡ check_answer_of f limit angles rounds fixed offered
+  unfolding check_rows_for
+  asked_after e = sym (judged_after_pass rows_before (rules_row f angles fixed offered ∷ []) e ∙ answer_of_one (verdict_of (rules_row f angles fixed offered)))
 
   module _ (own : length offered ≡ angle_count f) (v : Verdict) (is : v ≡ judged (pass_rows f limit angles rounds fixed)) where
-    pub check_refused : (r : Refusal) → v ≡ Failed r → v ≡ check_answer_of f limit angles rounds fixed offered
+    pub check_refused : (r : Refusal) → v ≡ Err r → v ≡ check_answer_of f limit angles rounds fixed offered
     check_refused r e = e ∙ sym (refused_before r (length_right f limit angles rounds fixed (length offered) own ∙ sym is ∙ e))
 
-    pub check_asked : v ≡ Passed → verdict_of (rules_row f angles fixed offered) ≡ check_answer_of f limit angles rounds fixed offered
-    unfolding check_rows_for
-    check_asked e =
-        sym (judged_after_pass rows_before (rules_row f angles fixed offered ∷ []) (length_right f limit angles rounds fixed (length offered) own ∙ sym is ∙ e)
-        ∙ answer_of_one (verdict_of (rules_row f angles fixed offered)))
+    pub check_asked : v ≡ Ok tt → verdict_of (rules_row f angles fixed offered) ≡ check_answer_of f limit angles rounds fixed offered
+    check_asked e = asked_after (length_right f limit angles rounds fixed (length offered) own ∙ sym is ∙ e)
 
 -- ---- and of code and n
 
@@ -201,13 +172,13 @@ module _ (given : FirstGiven) (entry : List ℤ) where
   abbrev closing_rows_named : Figure → List Row
   closing_rows_named f = closing_rows_for f given.limit given.angles given.rounds given.fixed (length entry)
 
-  pub none_named : figure_of given.code given.n ≡ Nothing → ClosingPromise given entry (Failed Refusal.NoSuchFigure) entry
+  pub none_named : figure_of given.code given.n ≡ None → ClosingPromise given entry (Err Refusal.NoSuchFigure) entry
   none_named e = record {
     answered = sym (none_judged given.code given.n closing_rows_named e);
-    leaves = sym (ap (λ (m : Named). of_named m entry (λ f. stored (closing_answer given entry) (choice_of f given.angles given.fixed) entry)) e);
+    leaves = sym (ap (λ (m : Option Figure). of_named m entry (λ f. stored (closing_answer given entry) (choice_of f given.angles given.fixed) entry)) e);
   }
 
-  pub of_figure : (f : Figure) → figure_of given.code given.n ≡ As f → {answer : Verdict} {exit : List ℤ}
+  pub of_figure : (f : Figure) → figure_of given.code given.n ≡ Some f → {answer : Verdict} {exit : List ℤ}
       → ClosingPromiseOf f given.limit given.angles given.rounds given.fixed entry answer exit → ClosingPromise given entry answer exit
   of_figure f named promise =
       let verdict = sym (one_judged given.code given.n closing_rows_named named) in
@@ -215,15 +186,15 @@ module _ (given : FirstGiven) (entry : List ℤ) where
         answered = promise.answered ∙ verdict;
         leaves =
             promise.leaves
-            ∙ ap₂ (λ (m : Named) (v : Verdict). of_named m entry (λ g. stored v (choice_of g given.angles given.fixed) entry)) (sym named) verdict;
+            ∙ ap₂ (λ (m : Option Figure) (v : Verdict). of_named m entry (λ g. stored v (choice_of g given.angles given.fixed) entry)) (sym named) verdict;
       }
 
   abbrev check_rows_named : Figure → List Row
   check_rows_named f = check_rows_for f given.limit given.angles given.rounds given.fixed entry
 
-  pub check_none_named : figure_of given.code given.n ≡ Nothing → Failed Refusal.NoSuchFigure ≡ check_answer given entry
+  pub check_none_named : figure_of given.code given.n ≡ None → Err Refusal.NoSuchFigure ≡ check_answer given entry
   check_none_named e = sym (none_judged given.code given.n check_rows_named e)
 
-  pub check_of_figure : (f : Figure) → figure_of given.code given.n ≡ As f
+  pub check_of_figure : (f : Figure) → figure_of given.code given.n ≡ Some f
       → check_answer_of f given.limit given.angles given.rounds given.fixed entry ≡ check_answer given entry
   check_of_figure f named = sym (one_judged given.code given.n check_rows_named named)

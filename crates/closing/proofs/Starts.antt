@@ -1,12 +1,14 @@
 -- Where angles start: the number of the angle at whose end one starts, by its index, for each family of figures; and sums along the way
 -- to it. One computed test each. Assumes nothing.
-use Rattle.std.specs.Prelude.{ℕ, zero, suc, ◌+◌, ◌-◌, ◌*◌, ◌%◌, ◌≤◌, ◌<◌, Bool, true, false, cond, not, ◌||◌, List, ◌≡◌, refl, T, eqb, leb}
-use Rattle.std.specs.Prelude.{ℤ, pos, nat_abs, ◌+ℤ◌, get_or}
-use Rattle.vocabulary.specs.{zero-le, sym, ap₂, subst, unary_clauses, arith, eqb→eq, leb→le}
+use Rattle.std.specs.Prelude.{ℕ, zero, suc, ◌+◌, ◌-◌, ◌*◌, ◌%◌, ◌≤◌, ◌<◌, Bool, true, false, cond, not, ◌||◌, List, ◌∷◌, ◌≡◌, refl, T, eqb, leb}
+use Rattle.std.specs.Prelude.{ℤ, pos, nat_abs, ◌+ℤ◌, length, get_or}
+use Rattle.vocabulary.specs.{zero-le, sym, ap, ap₂, subst, unary_clauses, arith, eqb→eq, leb→le}
 use Rattle.whole.specs.Lists.{every, every_below}
 use Rattle.whole.proofs.{Computed.every_below_lem, Magnitudes.nat_abs_add}
 use Rattle.figures.specs.{declared.Figure.Figure, declared.Figure.TheVariants.Quadrilateral, Figure.all_figures, Figure.angle_count}
 use Rattle.figures.specs.Numerators.{sum_over}
+use Rattle.refusals.specs.Questions.{same_numbers}
+use Rattle.refusals.proofs.NumberLists.{same_lists}
 use Rattle.figures.proofs.{Families.is_point_inside, Families.is_polygon, Figures.each_figure}
 use Rattle.closing.specs.Choice.{starts_at, chain, start_of, end_of}
 
@@ -24,6 +26,12 @@ agrees rule f = every_below (angle_count f) (λ i. eqb (get_or (starts_at f) i 0
 abbrev within : Figure → Bool
 within f = every_below (angle_count f) (λ i. leb (get_or (starts_at f) i 0) (angle_count f))
 
+-- each way ends within as many steps as there are angles
+abbrev ends : Figure → Bool
+ends f =
+    every_below (angle_count f) (λ i. same_numbers (chain (starts_at f) (angle_count f) (suc i))
+    (suc i ∷ chain (starts_at f) (angle_count f) (get_or (starts_at f) i 0)))
+
 all_corners : T (every (λ f. not (is_point_inside f) || agrees at_corners f) all_figures)
 all_corners = tt
 
@@ -32,6 +40,13 @@ all_round = tt
 
 all_within : T (every within all_figures)
 all_within = tt
+
+all_end : T (every ends all_figures)
+all_end = tt
+
+true_of : (b : Bool) → T b → b ≡ true
+true_of true t = refl
+true_of false t = absurd t
 
 then : (a b : Bool) → T (not a || b) → T a → T b
 then true b t h = t
@@ -63,23 +78,42 @@ module _ (f : Figure) where
   abbrev way : (steps angle : ℕ) → List ℕ
   way steps angle = chain (starts_at f) steps angle
 
-  -- the next angle on it
-  pub one_step : (x : ℕ → ℤ) (steps angle : ℕ) → 0 < steps → 0 < angle
-      → sum_over (way steps angle) x ≡ x (angle - 1) +ℤ sum_over (way (steps - 1) (get_or (starts_at f) (angle - 1) 0)) x
+  -- the whole way to the end of an angle
+  abbrev pub laid : (angle : ℕ) → List ℕ
+  laid angle = way (angle_count f) angle
+
+  -- an angle, and the way to where it starts
+  pub one_step : (angle : ℕ) → 0 < angle → angle ≤ angle_count f → laid angle ≡ angle ∷ laid (get_or (starts_at f) (angle - 1) 0)
+  one_step zero some h = absurd (omega arith)
+  one_step (suc i) some h =
+      simp unary_clauses (same_lists _ _ (true_of _ (every_below_lem (angle_count f) (λ k. same_numbers (way (angle_count f) (suc k)) (suc k ∷ way (angle_count f) (get_or (starts_at f) k 0)))
+      (each_figure ends all_end f) i h)))
+
+  pub sum_step : (x : ℕ → ℤ) (angle : ℕ) → 0 < angle → angle ≤ angle_count f
+      → sum_over (laid angle) x ≡ x (angle - 1) +ℤ sum_over (laid (get_or (starts_at f) (angle - 1) 0)) x
   unfolding sum_over
-  one_step x zero angle s a = absurd (omega arith)
-  one_step x (suc steps) zero s a = absurd (omega arith)
-  one_step x (suc steps) (suc i) s a = simp unary_clauses refl
+  sum_step x zero some h = absurd (omega arith)
+  sum_step x (suc i) some h = simp unary_clauses (simp unary_clauses at (ap (λ (l : List ℕ). sum_over l x) (one_step (suc i) some h)))
+
+  pub length_step : (angle : ℕ) → 0 < angle → angle ≤ angle_count f → length (laid angle) ≡ suc (length (laid (get_or (starts_at f) (angle - 1) 0)))
+  length_step angle some h = ap length (one_step angle some h)
 
   -- at its end
-  pub no_steps : (x : ℕ → ℤ) (angle : ℕ) → sum_over (way 0 angle) x ≡ pos 0
+  pub sum_end : (x : ℕ → ℤ) → sum_over (laid 0) x ≡ pos 0
   unfolding sum_over
-  no_steps x angle = refl
+  sum_end x = go (angle_count f)
+    where
+      go : (steps : ℕ) → sum_over (way steps 0) x ≡ pos 0
+      go zero = refl
+      go (suc steps) = refl
 
-  pub no_angle : (x : ℕ → ℤ) (steps : ℕ) → sum_over (way steps 0) x ≡ pos 0
-  unfolding sum_over
-  no_angle x zero = refl
-  no_angle x (suc steps) = refl
+  way_few : (steps angle : ℕ) → length (way steps angle) ≤ steps
+  way_few zero angle = zero-le
+  way_few (suc steps) zero = zero-le
+  way_few (suc steps) (suc i) = omega (arith, way_few steps (get_or (starts_at f) i 0))
+
+  pub laid_few : (angle : ℕ) → length (laid angle) ≤ angle_count f
+  laid_few angle = way_few (angle_count f) angle
 
   -- it reads the figure's own angles alone
   way_agrees : (x y : ℕ → ℤ) → ((i : ℕ) → i < angle_count f → x i ≡ y i) → (steps angle : ℕ) → angle ≤ angle_count f

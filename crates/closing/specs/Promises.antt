@@ -1,9 +1,11 @@
 -- What the two operations promise: document 02, M-104. "Our own operation refuses exactly where the first pass does, by the same number
 -- (7 by ordinary rounding), never 15; so does the check, before 15."
+use Rattle.std.specs.Prelude.{Some}
+use Rattle.refusals.specs.Numbers.{Verdict}
 use Rattle.std.specs.Prelude.{ℕ, List, [], ◌∷◌, ◌++◌, ◌≡◌, ℤ, length}
-use Rattle.refusals.specs.{declared.Verdict.Verdict, Order.Row, Order.judged, Promise.Promised, Promise.stored}
+use Rattle.refusals.specs.{Order.Row, Order.judged, Promise.Promised, Promise.stored}
 use Rattle.refusals.specs.Table.{figure_row, lengths_row, choice_row}
-use Rattle.figures.specs.{declared.Figure.Figure, declared.Named.TheVariants.As}
+use Rattle.figures.specs.declared.Figure.{Figure}
 use Rattle.figures.specs.Figure.{angle_count, figure_of, figure_names, of_named}
 use Rattle.pass_rules.specs.FirstPass.{misclosures_of, numerators_of, first_result_lengths}
 use Rattle.pass_rules.specs.Promises.{FirstGiven, FirstLent, first_results_lent}
@@ -69,4 +71,4 @@ check_answer_of f limit angles rounds fixed offered = judged (check_rows_for f l
 -- the same sheet given to the first pass: what is lent to both has the lengths of the figure that is named
 abbrev pub Fitting : FirstGiven → FirstLent → (corrections : List ℤ) → Type 0
 Fitting given lent corrections =
-    (f : Figure) → figure_of given.code given.n ≡ As f → (length corrections ≡ angle_count f) × (first_results_lent lent ≡ first_result_lengths f)
+    (f : Figure) → figure_of given.code given.n ≡ Some f → (length corrections ≡ angle_count f) × (first_results_lent lent ≡ first_result_lengths f)

@@ -45,35 +45,29 @@ pub(crate) fn start_of(figure: Figure, x: &[i32], i: usize) -> i64
     requires within { Within most_numerator x.now }
     ensures { result ≡ start_of figure (vector x.now) i }
 {
-    let mut total = 0i64;
+    let mut total = 0;
     let mut angle = starts_at(figure, i);
-    let mut left = x.len();
-    while 0 < left {
-        if angle == 0 {
-            return total;
-        }
-        total += x[angle - 1] as i64;
+    // Follows the way from angle to angle and counts no index.
+    while angle != 0 {
+        total += i64::from(x[angle - 1]);
         angle = starts_at(figure, angle - 1);
-        left -= 1;
     }
     total
 }
 
-// −1 − z turns a number below zero to one that is not, and back.
-pub(crate) fn floor_quotient(z: i64, d: u64) -> i64
-    requires { 0 < d }
-    ensures { result ≡ floor_quotient z d }
+// Rounded downwards, also below zero.
+#[tactic(auto, using(crate::proofs::FloorLaws::euclidean))]
+pub(crate) fn floor_quotient(z: i64, divisor: u32) -> i64
+    requires { 0 < divisor }
+    ensures { result ≡ floor_quotient z divisor }
 {
-    if z < 0 {
-        -1 - ((-1 - z) as u64 / d) as i64
-    } else {
-        (z as u64 / d) as i64
-    }
+    z.div_euclid(i64::from(divisor))
 }
 
-pub(crate) fn ceiling_quotient(z: i32, d: u64) -> i64
-    requires { 0 < d }
-    ensures { result ≡ ceiling_quotient z d }
+#[tactic(auto, using(crate::proofs::FloorLaws::ceiling_small))]
+pub(crate) fn ceiling_quotient(z: i32, divisor: u32) -> i64
+    requires { 0 < divisor }
+    ensures { result ≡ ceiling_quotient z divisor }
 {
-    -floor_quotient(-(z as i64), d)
+    -floor_quotient(-i64::from(z), divisor)
 }

@@ -1,8 +1,9 @@
 -- What an answer tells: number and place can be taken apart again, and it is 0 exactly if all is done. Assumes nothing.
+use Rattle.std.specs.Prelude.{Err, Ok}
+use Rattle.refusals.specs.Numbers.{Verdict}
 use Rattle.std.specs.Prelude.{ℕ, ◌+◌, ◌*◌, ◌/◌, ◌%◌, ◌<◌, List, ◌≡◌, refl, T}
 use Rattle.vocabulary.specs.{sym, ap, ap₂, ◌∙◌, lt_of_le_of_lt, arith, lit<}
-use Rattle.refusals.specs.{declared.Refusal.Refusal, declared.Verdict.Verdict, Order.Row, Order.all_in_table, Order.judged}
-use Rattle.refusals.specs.declared.Verdict.TheVariants.{Passed, Failed}
+use Rattle.refusals.specs.{declared.Refusal.Refusal, Order.Row, Order.all_in_table, Order.judged}
 use Rattle.refusals.specs.Numbers.{place_of, Told, told, refusal_told, verdict_told}
 use Rattle.refusals.proofs.{PlaceBounds.PlacesWithin, PlaceBounds.place_within, Rows.passed_told}
 use Rattle.figures.specs.Numerators.{most_angles}
@@ -32,7 +33,7 @@ module _ (rows : List Row) (ok : T (all_in_table rows)) (within : PlacesWithin m
   pub place_small : (verdict_told (judged rows)).place < place_step
   place_small = lt_of_le_of_lt (place_within most_angles rows ok within) (lit< tt)
 
-  pub refusal_small : {refusal : Refusal} → judged rows ≡ Failed refusal → place_of refusal < place_step
+  pub refusal_small : {refusal : Refusal} → judged rows ≡ Err refusal → place_of refusal < place_step
   refusal_small e = rw (sym (ap (λ (v : Verdict). (verdict_told v).place) e)) place_small
 
   -- what C is answered tells what the order is judged to be
@@ -40,6 +41,6 @@ module _ (rows : List Row) (ok : T (all_in_table rows)) (within : PlacesWithin m
   answer_tells e = ap answer_told e ∙ told_again (verdict_told (judged rows)) place_small
 
   -- and 0 that no row holds
-  pub answered_done : answer_by rows ≡ 0 → judged rows ≡ Passed
+  pub answered_done : answer_by rows ≡ 0 → judged rows ≡ Ok tt
   unfolding answer_told
   answered_done e = passed_told (judged rows) (sym (told_again (verdict_told (judged rows)) place_small) ∙ ap answer_told e)

@@ -1,17 +1,21 @@
 -- A slice that C lends beside those of the operation, of the right length and of the wrong one; and what a refusal leaves. Assumes nothing.
+use Rattle.std.specs.Prelude.{Err, Ok}
+use Rattle.sheet_layout.specs.Head.{Look}
+use Rattle.std.specs.Prelude.{Err, None, Ok, Option, Some}
+use Rattle.refusals.specs.Numbers.{Verdict}
 use Rattle.std.specs.Prelude.{ℕ, Bool, true, false, cond, ◌&&◌, List, [], ◌∷◌, ◌≡◌, refl}
 use Rattle.vocabulary.specs.{sym, ap, eq-eqb, ne_eqb}
-use Rattle.refusals.specs.{declared.Refusal.Refusal, declared.Verdict.Verdict, Numbers.Told, Numbers.refusal_told, Numbers.verdict_told}
-use Rattle.refusals.specs.{declared.Verdict.TheVariants.Passed, declared.Verdict.TheVariants.Failed, Promise.stored, Table.lengths_row}
+use Rattle.refusals.specs.{declared.Refusal.Refusal, Numbers.Told, Numbers.refusal_told, Numbers.verdict_told}
+use Rattle.refusals.specs.{Promise.stored, Table.lengths_row}
 use Rattle.refusals.specs.Order.{Row, answer_of, judged}
 use Rattle.refusals.proofs.Rows.{no_zero}
-use Rattle.figures.specs.{declared.Figure.Figure, declared.Named.Named, declared.Named.TheVariants.As, declared.Named.TheVariants.Nothing}
+use Rattle.figures.specs.declared.Figure.{Figure}
 use Rattle.figures.specs.Figure.{of_named}
-use Rattle.sheet_layout.specs.{declared.Kind.Kind, declared.head.Look.Look, declared.head.Look.TheVariants.Head, Head.of_head}
+use Rattle.sheet_layout.specs.{declared.Kind.Kind, Head.of_head}
 use Rattle.controller.specs.Answer.{lengths_with}
 
 module _ (room own : ℕ) where
-  pub wrong_length : (room ≡ own → ⊥) → (later : List Row) → judged (lengths_row (room ∷ []) (own ∷ []) ∷ later) ≡ Failed Refusal.WrongLength
+  pub wrong_length : (room ≡ own → ⊥) → (later : List Row) → judged (lengths_row (room ∷ []) (own ∷ []) ∷ later) ≡ Err Refusal.WrongLength
   unfolding answer_of
   wrong_length differs later = rw (ne_eqb room own differs)
 
@@ -39,17 +43,17 @@ module _ (lent : List ℕ) where
 
 -- what tells a refusal stores nothing, whatever is named
 pub kept_told : {L : Type 0} (v : Verdict) (refusal : Refusal) (new old : L) → verdict_told v ≡ refusal_told refusal → stored v new old ≡ old
-kept_told Passed refusal new old e = absurd (no_zero refusal (sym (ap (λ (t : Told). t.number) e)))
-kept_told (Failed q) refusal new old e = refl
+kept_told (Ok tt) refusal new old e = absurd (no_zero refusal (sym (ap (λ (t : Told). t.number) e)))
+kept_told (Err q) refusal new old e = refl
 
 pub kept_head : {L : Type 0} (head : Look) (v : Verdict) (refusal : Refusal) (new : Kind → Figure → L) (old : L)
     → verdict_told v ≡ refusal_told refusal
     → of_head head old (λ kind f. stored v (new kind f) old) ≡ old
-kept_head (Head kind f) v refusal new old e = kept_told v refusal (new kind f) old e
-kept_head (Look.Refused other) v refusal new old e = refl
+kept_head (Ok head) v refusal new old e = kept_told v refusal (new head.kind head.figure) old e
+kept_head (Err other) v refusal new old e = refl
 
-pub kept_named : {L : Type 0} (named : Named) (v : Verdict) (refusal : Refusal) (new : Figure → L) (old : L)
+pub kept_named : {L : Type 0} (named : Option Figure) (v : Verdict) (refusal : Refusal) (new : Figure → L) (old : L)
     → verdict_told v ≡ refusal_told refusal
     → of_named named old (λ f. stored v (new f) old) ≡ old
-kept_named Nothing v refusal new old e = refl
-kept_named (As f) v refusal new old e = kept_told v refusal (new f) old e
+kept_named None v refusal new old e = refl
+kept_named (Some f) v refusal new old e = kept_told v refusal (new f) old e

@@ -1,14 +1,16 @@
 -- No place that is answered is above 24, the most angles that a figure has: a row with places comes after that of the lengths, or has no
 -- more places than the figure. So the place of an answer stays below 256. Assumes nothing.
+use Rattle.std.specs.Prelude.{Err, Ok}
+use Rattle.sheet_layout.specs.Head.{Look}
+use Rattle.std.specs.Prelude.{None, Option, Some}
 use Rattle.std.specs.Prelude.{ℕ, ◌≤◌, Bool, true, false, cond, List, [], ◌∷◌, ◌++◌, ◌≡◌, T, eqb, leb, ℤ, length}
 use Rattle.vocabulary.specs.{arith, leb→le, length-append}
 use Rattle.refusals.specs.Order.{Row, row, row_at, all_in_table}
 use Rattle.refusals.proofs.{Nowhere.same_lengths, PlaceBounds.PlacesWithin}
-use Rattle.figures.specs.{declared.Figure.Figure, declared.Named.Named, declared.Named.TheVariants.As, declared.Named.TheVariants.Nothing}
+use Rattle.figures.specs.declared.Figure.{Figure}
 use Rattle.figures.specs.{Figure.angle_count, Figure.fixed_count, Figure.side_count, Figure.figure_of, Figure.of_named, Numerators.most_angles}
 use Rattle.figures.proofs.Figures.{angle_bound}
 use Rattle.sheet_layout.specs.{declared.Kind.Kind, declared.Kind.TheVariants.Two, Layout.lengths_of, Layout.sheet_size}
-use Rattle.sheet_layout.specs.{declared.head.Look.Look, declared.head.Look.TheVariants.Head}
 use Rattle.sheet_layout.specs.Head.{head_rows, head_of, look_of, of_head}
 use Rattle.sheet_layout.proofs.{EachKind.each, Sizes.fixed_bound, Sizes.entry_bound}
 use Rattle.sheet_rules.specs.Sheet.{Values}
@@ -37,8 +39,8 @@ unfolding reader_rows body_rows
 reader_within sheet lent = pages.head_within sheet _ (go (look_of sheet))
   where
     go : (found : Look) → PlacesWithin most_angles (of_head found [] (λ kind f. body_rows kind f sheet lent))
-    go (Head kind f) = pages.body_within kind f sheet lent [] tt
-    go (Look.Refused refusal) = tt
+    go (Ok head) = pages.body_within head.kind head.figure sheet lent [] tt
+    go (Err refusal) = tt
 
 pub read_in_table : (sheet : List ℕ) (lent : ReadLent) → T (all_in_table (read_rows sheet lent))
 read_in_table sheet lent = reader_in_table sheet _
@@ -65,23 +67,23 @@ unfolding writer_rows given_rows
 write_within kind code n v size = λ no_kind no_figure. go (head_of kind code n)
   where
     go : (found : Look) → PlacesWithin most_angles (of_head found [] (λ k f. given_rows k f v size))
-    go (Head k f) = λ lengths range. (
-        let same = same_lengths (lengths_given v ++ (size ∷ [])) (own_lengths k f ++ (sheet_size k f ∷ [])) lengths in
-        let by_angle : length v.angles ≡ (lengths_of k f).angles = cc in
-        let by-rounds : length v.rounds ≡ (lengths_of k f).rounds = cc in
-        let by-fixed : length v.fixed ≡ (lengths_of k f).fixed = cc in
-        let by-sine : length v.log_sines ≡ (lengths_of k f).log_sines = cc in
-        let by_side : length v.log_sides ≡ (lengths_of k f).log_sides = cc in
+    go (Ok head) = λ lengths range. (
+        let same = same_lengths (lengths_given v ++ (size ∷ [])) (own_lengths head.kind head.figure ++ (sheet_size head.kind head.figure ∷ [])) lengths in
+        let by_angle : length v.angles ≡ (lengths_of head.kind head.figure).angles = cc in
+        let by-rounds : length v.rounds ≡ (lengths_of head.kind head.figure).rounds = cc in
+        let by-fixed : length v.fixed ≡ (lengths_of head.kind head.figure).fixed = cc in
+        let by-sine : length v.log_sines ≡ (lengths_of head.kind head.figure).log_sines = cc in
+        let by_side : length v.log_sides ≡ (lengths_of head.kind head.figure).log_sides = cc in
         let entries : length (v.log_sines ++ v.log_sides) ≤ most_angles =
-        omega (arith, length-append v.log_sines v.log_sides, entry_bound k f) in (
-          omega (arith, by_angle, angle_bound f),
+        omega (arith, length-append v.log_sines v.log_sides, entry_bound head.kind head.figure) in (
+          omega (arith, by_angle, angle_bound head.figure),
           λ angles. (
-            omega (arith, by-rounds, angle_bound f),
-            λ rounds. (omega (arith, by-fixed, fixed_in_few k f), λ fixed summed. (entries, λ sines. tt)),
+            omega (arith, by-rounds, angle_bound head.figure),
+            λ rounds. (omega (arith, by-fixed, fixed_in_few head.kind head.figure), λ fixed summed. (entries, λ sines. tt)),
           ),
         )
         )
-    go (Look.Refused refusal) = tt
+    go (Err refusal) = tt
 
 -- ---- the passes
 
@@ -89,11 +91,11 @@ pub first_within : (given : FirstGiven) (lent : FirstLent) → PlacesWithin most
 unfolding first_pass_rows
 first_within given lent = λ no_figure. go (figure_of given.code given.n)
   where
-    go : (named : Named)
+    go : (named : Option Figure)
         → PlacesWithin most_angles
         (of_named named [] (λ f. first_rows f given.limit given.angles given.rounds given.fixed (first_lengths_lent given lent)))
-    go Nothing = tt
-    go (As f) =
+    go None = tt
+    go (Some f) =
         pages.first_within f given.limit given.angles given.rounds given.fixed (first_lengths_lent given lent) (λ lengths.
         let same = same_lengths (first_lengths_lent given lent) (first_lengths f) lengths in
         let by_angle : length given.angles ≡ angle_count f = cc in
@@ -123,18 +125,18 @@ module _ (given : FirstGiven) (lent : List ℤ) where
   unfolding closing_rows_for
   closing_within = λ no_figure. go (figure_of given.code given.n)
     where
-      go : (named : Named)
+      go : (named : Option Figure)
           → PlacesWithin most_angles (of_named named [] (λ f. closing_rows_for f given.limit given.angles given.rounds given.fixed (length lent)))
-      go Nothing = tt
-      go (As f) = λ own. pass_within f
+      go None = tt
+      go (Some f) = λ own. pass_within f
 
   pub check_within : PlacesWithin most_angles (check_rows given lent)
   unfolding check_rows_for closing_rows_for
   check_within = λ no_figure. go (figure_of given.code given.n)
     where
-      go : (named : Named) → PlacesWithin most_angles (of_named named [] (λ f. check_rows_for f given.limit given.angles given.rounds given.fixed lent))
-      go Nothing = tt
-      go (As f) =
+      go : (named : Option Figure) → PlacesWithin most_angles (of_named named [] (λ f. check_rows_for f given.limit given.angles given.rounds given.fixed lent))
+      go None = tt
+      go (Some f) =
           λ own. appended most_angles (pass_rows f given.limit given.angles given.rounds given.fixed) (rules_row f given.angles given.fixed lent ∷ []) (pass_within f)
           (λ rules. tt)
 
@@ -161,11 +163,11 @@ pub sums_within : (given : SecondGiven) (lent : SumsLent) → PlacesWithin most_
 unfolding second_pass_rows
 sums_within given lent = λ no_figure. go (figure_of given.code given.n)
   where
-    go : (named : Named)
+    go : (named : Option Figure)
         → PlacesWithin most_angles
         (of_named named [] (λ f. second_rows f given.tolerance given.angles given.rounds given.entries (sums_lengths given lent)))
-    go Nothing = tt
-    go (As f) =
+    go None = tt
+    go (Some f) =
         pages.second_within f given.tolerance given.angles given.rounds given.entries _ (λ lengths.
         judged_lengths (eqb (length lent.misclosures) (sine_count given.code given.n)) (eqb (length lent.divisor) 2) f
         given.angles given.rounds given.entries _ (same_lengths _ (second_lengths f) lengths))

@@ -1,14 +1,15 @@
 -- The second pass for C, in its ends. Assumes nothing.
-use Rattle.std.specs.Prelude.{ℕ, ◌<◌, ◌≤◌, Bool, true, false, cond, ◌&&◌, List, [], ◌∷◌, map, ◌≡◌, refl, eqb, ℤ, length, get_or, take}
+use Rattle.std.specs.Prelude.{Err}
+use Rattle.pass_rules.specs.SecondPass.{SecondAnswer, done_with}
+use Rattle.std.specs.Prelude.{Err, None, Ok, Option, Some}
+use Rattle.refusals.specs.Numbers.{Verdict}
+use Rattle.std.specs.Prelude.{ℕ, ◌<◌, ◌≤◌, Bool, true, false, cond, ◌&&◌, List, [], ◌∷◌, map, ◌≡◌, refl, eqb, ℤ, pos, length, get_or, take}
 use Rattle.vocabulary.specs.{sym, ap, ap₂, subst, ◌∙◌, arith, eqb-true, eqb→eq}
-use Rattle.refusals.specs.{declared.Refusal.Refusal, declared.Verdict.Verdict, Order.answer_of, Order.judged, Promise.stored}
-use Rattle.refusals.specs.declared.Verdict.TheVariants.{Passed, Failed}
+use Rattle.refusals.specs.{declared.Refusal.Refusal, Order.answer_of, Order.judged, Promise.stored}
 use Rattle.refusals.specs.Numbers.{place_of, Told, refusal_told, verdict_told}
-use Rattle.figures.specs.{declared.Figure.Figure, declared.Named.Named, declared.Named.TheVariants.As, declared.Named.TheVariants.Nothing}
+use Rattle.figures.specs.declared.Figure.{Figure}
 use Rattle.figures.specs.Figure.{SineCondition, description, side_count, no_sine, figure_of, of_named}
 use Rattle.figures.proofs.{Figures.each_figure, Naming.none_named, Naming.one_named}
-use Rattle.pass_rules.specs.declared.second.SecondAnswer.{SecondAnswer}
-use Rattle.pass_rules.specs.declared.second.SecondAnswer.TheVariants.{Done, Refused}
 use Rattle.pass_rules.specs.SecondPass.{misclosure_in, sine_misclosure, side_misclosure, divisor, second_rows, second_pass_rows, second_pass_verdict, second_answer_for, second_pass_answer, second_told}
 use Rattle.pass_rules.specs.Promises.{SecondGiven, SecondLent, second_lengths_lent, second_values, second_verdict, SecondPromise}
 use Rattle.pass_rules.proofs.Refusals.{second_tells}
@@ -46,6 +47,19 @@ both_true : (a b : Bool) → (a && b) ≡ true → (a ≡ true) × (b ≡ true)
 both_true true true e = (refl, refl)
 both_true true false e = (refl, cc)
 both_true false b e = (cc, cc)
+
+-- the parts of an answer
+abbrev told_w : SecondAnswer → ℤ
+told_w (Ok sums) = sums.misclosure
+told_w (Err r) = pos 0
+
+abbrev told_side : SecondAnswer → ℤ
+told_side (Ok sums) = sums.side_misclosure
+told_side (Err r) = pos 0
+
+abbrev told_words : SecondAnswer → List ℕ
+told_words (Ok sums) = sums.divisor_high ∷ sums.divisor_low ∷ []
+told_words (Err r) = []
 
 module _ (given : SecondGiven) (entry : SumsLent) where
   abbrev code : ℕ
@@ -86,13 +100,13 @@ module _ (given : SecondGiven) (entry : SumsLent) where
 
   -- ---- a slice of C's own of the wrong length: no lengths are those of no figure
 
-  no_lengths : rows_in [] ≡ Failed length_refusal
+  no_lengths : rows_in [] ≡ Err length_refusal
   unfolding second_pass_rows second_rows answer_of
   no_lengths = go (figure_of code n) refl
     where
-      go : (named : Named) → figure_of code n ≡ named → rows_in [] ≡ Failed (of_named named Refusal.NoSuchFigure (λ f. Refusal.WrongLength))
-      go Nothing e = rw (none_named code n e)
-      go (As f) e = rw (one_named code n e, e)
+      go : (named : Option Figure) → figure_of code n ≡ named → rows_in [] ≡ Err (of_named named Refusal.NoSuchFigure (λ f. Refusal.WrongLength))
+      go None e = rw (none_named code n e)
+      go (Some f) e = rw (one_named code n e, e)
 
   module _ (differs : own_lengths ≡ false) where
     wrong_told : verdict_told (judged (sums_rows given entry)) ≡ refusal_told length_refusal
@@ -129,20 +143,20 @@ module _ (given : SecondGiven) (entry : SumsLent) where
         ∙ second_tells code n given.tolerance given.angles given.rounds given.entries (second_lengths_lent given entry.values)
         ∙ sym (ap (λ (lent : List ℕ). verdict_told (rows_in lent)) as_lent)
 
-    refusal_told_lem : (refusal : Refusal) → told ≡ Refused refusal → verdict_told (judged (sums_rows given entry)) ≡ refusal_told refusal
+    refusal_told_lem : (refusal : Refusal) → told ≡ Err refusal → verdict_told (judged (sums_rows given entry)) ≡ refusal_told refusal
     refusal_told_lem refusal e = sym told_verdict ∙ ap second_told e
 
-    pub right_refusal_small : (refusal : Refusal) → told ≡ Refused refusal → place_of refusal < place_step
+    pub right_refusal_small : (refusal : Refusal) → told ≡ Err refusal → place_of refusal < place_step
     right_refusal_small refusal e = small refusal (refusal_told_lem refusal e)
 
-    unchanged : (refusal : Refusal) → told ≡ Refused refusal → left ≡ entry.values
+    unchanged : (refusal : Refusal) → told ≡ Err refusal → left ≡ entry.values
     unfolding second_pass_verdict
     unchanged refusal e =
         promise.leaves
         ∙ kept_named (figure_of code n) (second_verdict given entry.values) refusal (λ f. second_values f given) entry.values
         (sym (ap (λ (lent : List ℕ). verdict_told (rows_in lent)) as_lent) ∙ refusal_told_lem refusal e)
 
-    pub right_refused : {answer : ℕ} (refusal : Refusal) → told ≡ Refused refusal → answer ≡ answer_number (refusal_told refusal)
+    pub right_refused : {answer : ℕ} (refusal : Refusal) → told ≡ Err refusal → answer ≡ answer_number (refusal_told refusal)
         → SecondPassPromise given entry answer (sums_lent entry.misclosures entry.divisor left)
     right_refused {answer} refusal e is =
         subst (λ (values : SecondLent). SecondPassPromise given entry answer (sums_lent entry.misclosures entry.divisor values))
@@ -151,31 +165,31 @@ module _ (given : SecondGiven) (entry : SumsLent) where
     -- what an answer of both W and of two words tells
     record Worked (w sideW : ℤ) (high low : ℕ) : Type 0 where
       figure : Figure
-      named : figure_of code n ≡ As figure
-      passed : second_verdict given entry.values ≡ Passed
+      named : figure_of code n ≡ Some figure
+      passed : second_verdict given entry.values ≡ Ok tt
       pole_is : w ≡ sine_misclosure figure given.entries
       side_is : sideW ≡ side_misclosure figure given.entries
       words : (high ∷ low ∷ []) ≡ divisor_words_of figure given.entries
 
-    module _ (w sideW : ℤ) (high low : ℕ) (e : told ≡ Done w sideW high low) where
+    module _ (w sideW : ℤ) (high low : ℕ) (e : told ≡ done_with w sideW high low) where
       worked : Worked w sideW high low
       unfolding second_pass_answer
       worked = go (figure_of code n) refl (sym promise.answered ∙ e)
         where
-          by_verdict : (f : Figure) (v : Verdict) → figure_of code n ≡ As f → second_verdict given entry.values ≡ v
-              → second_answer_for f given.entries v ≡ Done w sideW high low → Worked w sideW high low
-          by_verdict f Passed named v e = record { figure = f; named = named; passed = v; pole_is = cc; side_is = cc; words = cc }
-          by_verdict f (Failed r) named v e = record { figure = f; named = named; passed = cc; pole_is = cc; side_is = cc; words = cc }
+          by_verdict : (f : Figure) (v : Verdict) → figure_of code n ≡ Some f → second_verdict given entry.values ≡ v
+              → second_answer_for f given.entries v ≡ done_with w sideW high low → Worked w sideW high low
+          by_verdict f (Ok tt) named v e = record { figure = f; named = named; passed = v; pole_is = sym (ap told_w e); side_is = sym (ap told_side e); words = sym (ap told_words e) }
+          by_verdict f (Err r) named v e = record { figure = f; named = named; passed = cc; pole_is = cc; side_is = cc; words = cc }
 
-          go : (named : Named) → figure_of code n ≡ named
-              → of_named named (Refused Refusal.NoSuchFigure) (λ f. second_answer_for f given.entries (second_verdict given entry.values))
-              ≡ Done w sideW high low
+          go : (named : Option Figure) → figure_of code n ≡ named
+              → of_named named (Err Refusal.NoSuchFigure) (λ f. second_answer_for f given.entries (second_verdict given entry.values))
+              ≡ done_with w sideW high low
               → Worked w sideW high low
-          go Nothing named e = absurd (let z : ◌≡◌ {A = ℕ} 0 1 = cc in omega arith)
-          go (As f) named e = by_verdict f (second_verdict given entry.values) named refl e
+          go None named e = absurd (let z : ◌≡◌ {A = ℕ} 0 1 = cc in omega arith)
+          go (Some f) named e = by_verdict f (second_verdict given entry.values) named refl e
 
       as_sines : length entry.misclosures ≡ length (description worked.figure).sines
-      as_sines = own.0 ∙ ap (λ (m : Named). of_named m 0 (λ f. length (description f).sines)) worked.named
+      as_sines = own.0 ∙ ap (λ (m : Option Figure). of_named m 0 (λ f. length (description f).sines)) worked.named
 
       pub room_for_misclosures : (1 ≤ length entry.misclosures) × (length entry.misclosures ≤ 2)
       room_for_misclosures =
@@ -199,15 +213,15 @@ module _ (given : SecondGiven) (entry : SumsLent) where
       unfolding second_pass_verdict
       right_done stores divides =
           let is = worked in
-          let passed : judged (sums_rows given entry) ≡ Passed = ap rows_in as_lent ∙ is.passed in
+          let passed : judged (sums_rows given entry) ≡ Ok tt = ap rows_in as_lent ∙ is.passed in
           let values-left : left ≡ second_values is.figure given =
           promise.leaves
-          ∙ ap₂ (λ (m : Named) (v : Verdict). of_named m entry.values (λ f. stored v (second_values f given) entry.values))
+          ∙ ap₂ (λ (m : Option Figure) (v : Verdict). of_named m entry.values (λ f. stored v (second_values f given) entry.values))
           is.named is.passed in
           record {
             answered = sym (ap (λ (v : Verdict). answer_number (verdict_told v)) passed ∙ done_number);
             leaves =
                 ap₂ (λ (l : List ℤ) (d : List ℕ). sums_lent l d left) (stores ∙ each_misclosure) (divides ∙ is.words)
                 ∙ ap (sums_lent (sine_misclosures_of is.figure given.entries) (divisor_words_of is.figure given.entries)) values-left
-                ∙ sym (ap₂ (λ (m : Named) (v : Verdict). of_named m entry (λ f. stored v (sums_values f given) entry)) is.named passed);
+                ∙ sym (ap₂ (λ (m : Option Figure) (v : Verdict). of_named m entry (λ f. stored v (sums_values f given) entry)) is.named passed);
           }

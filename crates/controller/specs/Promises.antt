@@ -6,7 +6,7 @@ use Rattle.refusals.specs.Table.{lengths_row}
 use Rattle.figures.specs.{declared.Figure.Figure, Figure.description, Figure.condition_count, Figure.figure_of, Figure.of_named}
 use Rattle.sheet_layout.specs.{declared.Kind.Kind, Kinds.number_of_kind, Layout.lengths_of, Head.head_rows, Head.look_of, Head.of_head}
 use Rattle.sheet_rules.specs.{Sheet.Values, Sheet.values_read, Judging.reader_rows, Judging.writer_rows, Judging.written_of}
-use Rattle.sheet_rules.specs.Promises.{Slices, slices_of, lengths_lent}
+use Rattle.sheet_rules.specs.Lent.{Slices, slices_of, lengths_lent}
 use Rattle.pass_rules.specs.SecondPass.{SineEntries, misclosure_in, divisor, second_pass_rows}
 use Rattle.pass_rules.specs.Promises.{FirstGiven, FirstLent, first_rows_of, first_left, SecondGiven, SecondLent, second_lengths_lent, second_values}
 use Rattle.closing.specs.Promises.{closing_rows, closing_left}

@@ -1,6 +1,7 @@
 // The operations of the crates below for C, as a survey controller links them: slices lent as a pointer and a count, every answer one
 // number (specs/Answer.antt). What a slice must be is the caller's to keep: the pointer valid for its count, and no two lent slices
 // overlapping.
+// Where a step gives a value besides the refusal, the refusal becomes the answer by a match: the C interface has no other way to hand it on.
 #![tactic(auto)]
 
 mod answer;
@@ -8,7 +9,6 @@ mod look;
 mod read;
 mod reporting;
 mod rounding;
-mod stores;
 mod working;
 mod write;
 

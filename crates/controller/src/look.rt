@@ -1,14 +1,14 @@
 // A look at the head of a sheet: what it is for, and how long the slices are that its values need.
+// A cast by `as` stands where the library has no `From`, to a narrower type or to and from usize; each is proved to keep its value.
 ghost use Rattle.std.specs.Prelude.{◌≡◌};
 ghost use Rattle.controller.specs.Promises.{look_head, LookPromise};
 
 use crate::answer::{DONE, refused};
-use crate::stores::store;
 use figure_tables::counts_of;
 use figures::{Figure, name_of};
 use refusals::Refusal;
 use sheet_layout::number_of_kind;
-use sheet_rules::{Kind, Look, lengths_of, look_at};
+use sheet_rules::{Kind, lengths_of, look_at};
 
 // Kind, code, n, and how many angles, fixed angles, log-sines, conditions, log sides and rounds.
 const HEAD_LENGTH: usize = 9;
@@ -38,12 +38,12 @@ pub fn bienguloc_look(sheet: &[u8], head: &mut [u32]) -> u32
     ensures { LookPromise sheet.now head.old result head.new }
 {
     match look_at(sheet) {
-        Look::Refused(refusal) => refused(refusal),
-        Look::Head(kind, figure) => {
+        Err(refusal) => refused(refusal),
+        Ok(found) => {
             if head.len() != HEAD_LENGTH {
                 return refused(Refusal::WrongLength);
             }
-            store(&head_of(kind, figure), head);
+            head.copy_from_slice(&head_of(found.kind, found.figure));
             DONE
         }
     }

@@ -1,39 +1,42 @@
 // The reader for C: what the sheet's head and its L or e say is lent a slice too.
-ghost use Rattle.std.specs.Prelude.{◌≡◌, [], ◌∷◌};
+ghost use Rattle.std.specs.Prelude.{◌≡◌, [], ◌∷◌, Err};
 ghost use Rattle.figures.specs.Figure.{description};
 ghost use Rattle.sheet_layout.specs.Kinds.{number_of_kind};
-ghost use Rattle.sheet_rules.specs.declared.Reading.{Reading};
 ghost use Rattle.sheet_rules.specs.Judging.{reading_of};
-ghost use Rattle.sheet_rules.specs.Promises.{slices};
+ghost use Rattle.sheet_rules.specs.Lent.{slices};
 ghost use Rattle.controller.specs.Promises.{read_lent, ReadPromise};
 
 use crate::answer::{DONE, refused};
-use crate::stores::store;
-use figures::{Figure, name_of};
+use figures::name_of;
 use refusals::Refusal;
 use sheet_layout::number_of_kind;
 use sheet_reader::read_sheet;
-use sheet_rules::{Kind, Look, Reading, look_at, sheet_size};
+use sheet_rules::{ReadHead, SheetRoom, look_at, sheet_size};
 
 // Kind, code, n, and L or e.
 const HEAD_LENGTH: usize = 4;
 
-fn head_of(kind: Kind, figure: Figure, limit_or_tolerance: u32) -> [u32; HEAD_LENGTH]
-    ensures { result ≡ number_of_kind kind ∷ (description figure).code ∷ (description figure).n ∷ limit_or_tolerance ∷ [] }
+fn head_of(read: ReadHead) -> [u32; HEAD_LENGTH]
+    ensures { result ≡ number_of_kind read.kind ∷ (description read.figure).code ∷ (description read.figure).n
+        ∷ read.limit_or_tolerance ∷ [] }
 {
-    let number = number_of_kind(kind);
-    let name = name_of(figure);
-    [number, name.code, name.n, limit_or_tolerance]
+    let name = name_of(read.figure);
+    [
+        number_of_kind(read.kind),
+        name.code,
+        name.n,
+        read.limit_or_tolerance,
+    ]
 }
 
 // What the reader answers where a slice has a length that no sheet has.
 fn refusal_of_lengths(sheet: &[u8]) -> Refusal
-    ensures { reading_of sheet.now [] ≡ Reading.Refused result }
+    ensures { reading_of sheet.now [] ≡ Err result }
 {
     match look_at(sheet) {
-        Look::Refused(refusal) => refusal,
-        Look::Head(kind, figure) => {
-            if sheet.len() != sheet_size(kind, figure) {
+        Err(refusal) => refusal,
+        Ok(head) => {
+            if sheet.len() != sheet_size(head.kind, head.figure) {
                 Refusal::WrongSheetLength
             } else {
                 Refusal::WrongLength
@@ -64,22 +67,18 @@ pub fn bienguloc_read(
     if head.len() != HEAD_LENGTH {
         return refused(refusal_of_lengths(sheet));
     }
-    match read_sheet(
-        sheet,
+    let mut room = SheetRoom {
         angles,
         rounds,
         fixed,
         log_sines,
         differences,
         log_sides,
-    ) {
-        Reading::Refused(refusal) => refused(refusal),
-        Reading::Read {
-            kind,
-            figure,
-            limit_or_tolerance,
-        } => {
-            store(&head_of(kind, figure, limit_or_tolerance), head);
+    };
+    match read_sheet(sheet, &mut room) {
+        Err(refusal) => refused(refusal),
+        Ok(read) => {
+            head.copy_from_slice(&head_of(read));
             DONE
         }
     }

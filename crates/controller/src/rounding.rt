@@ -6,6 +6,7 @@ ghost use Rattle.controller.specs.Promises.{answer_by, ClosingPassPromise};
 
 use crate::answer::answered;
 use closing::{check_closing, closing_corrections};
+use pass_rules::FirstInput;
 
 pub fn bienguloc_closing(
     code: u32,
@@ -20,7 +21,13 @@ pub fn bienguloc_closing(
         (first_given code n limit angles.now rounds.now fixed.now)
         corrections.old result corrections.new }
 {
-    answered(closing_corrections(code, n, limit, angles, rounds, fixed, corrections))
+    let given = FirstInput {
+        limit,
+        angles,
+        rounds,
+        fixed,
+    };
+    answered(closing_corrections(code, n, given, corrections))
 }
 
 pub fn bienguloc_check_closing(
@@ -36,5 +43,11 @@ pub fn bienguloc_check_closing(
         ≡ answer_by (check_rows (first_given code n limit angles.now rounds.now fixed.now)
         offered.now) }
 {
-    answered(check_closing(code, n, limit, angles, rounds, fixed, offered))
+    let given = FirstInput {
+        limit,
+        angles,
+        rounds,
+        fixed,
+    };
+    answered(check_closing(code, n, given, offered))
 }

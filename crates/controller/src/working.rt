@@ -8,9 +8,9 @@ ghost use Rattle.controller.specs.Promises.{FirstPassPromise, sine_count, sums_l
 
 use crate::answer::{DONE, answered, refused};
 use figure_tables::counts_of;
-use figures::{Named, figure_of};
+use figures::figure_of;
 use pass_first::first_pass;
-use pass_rules::SecondAnswer;
+use pass_rules::{FirstInput, FirstRoom, SecondInput, SecondRoom};
 use pass_second::second_pass;
 use refusals::Refusal;
 
@@ -39,20 +39,21 @@ pub fn bienguloc_first_pass(
         (first_lent misclosures.new numerators.new rounded.new
         corrected.new corrected_rounds.new rests.new) }
 {
-    answered(first_pass(
-        code,
-        n,
+    let given = FirstInput {
         limit,
         angles,
         rounds,
         fixed,
+    };
+    let mut room = FirstRoom {
         misclosures,
         numerators,
         rounded,
         corrected,
         corrected_rounds,
         rests,
-    ))
+    };
+    answered(first_pass(code, n, given, &mut room))
 }
 
 // What the second pass answers where a slice has a length that no figure has.
@@ -60,8 +61,8 @@ fn refusal_of_lengths(code: u32, n: u32) -> Refusal
     ensures { result ≡ of_named (figure_of code n) Refusal.NoSuchFigure (λ f. Refusal.WrongLength) }
 {
     match figure_of(code, n) {
-        Named::Nothing => Refusal::NoSuchFigure,
-        Named::As(_) => Refusal::WrongLength,
+        None => Refusal::NoSuchFigure,
+        Some(_) => Refusal::WrongLength,
     }
 }
 
@@ -70,11 +71,9 @@ fn sine_count(code: u32, n: u32) -> usize
     ensures { result ≡ sine_count code n }
 {
     match figure_of(code, n) {
-        Named::Nothing => 0,
-        Named::As(figure) => {
-            let counts = counts_of(figure);
-            if counts.sides == 0 { 1 } else { 2 }
-        }
+        None => 0,
+        Some(figure) if counts_of(figure).sides == 0 => 1,
+        Some(_) => 2,
     }
 }
 
@@ -85,14 +84,10 @@ fn have_own_lengths(code: u32, n: u32, misclosures: usize, divisor: usize) -> bo
 }
 
 fn store_misclosures(misclosure: i64, side_misclosure: i64, lent: &mut [i64])
-    requires in_bounds { 1 ≤ length lent.old }
-    requires lent_len_bound { length lent.old ≤ 2 }
+    requires { length lent.old ≤ 2 }
     ensures { lent.new ≡ take (length lent.old) (misclosure ∷ side_misclosure ∷ []) }
 {
-    lent[0] = misclosure;
-    if lent.len() > 1 {
-        lent[1] = side_misclosure;
-    }
+    lent.copy_from_slice(&[misclosure, side_misclosure][..lent.len()]);
 }
 
 pub fn bienguloc_second_pass(
@@ -129,15 +124,15 @@ pub fn bienguloc_second_pass(
     if !have_own_lengths(code, n, sine_misclosures.len(), divisor.len()) {
         return refused(refusal_of_lengths(code, n));
     }
-    match second_pass(
-        code,
-        n,
+    let given = SecondInput {
         tolerance,
         angles,
         rounds,
         log_sines,
         differences,
         log_sides,
+    };
+    let mut room = SecondRoom {
         reduced,
         side_reduced,
         numerators_high,
@@ -146,12 +141,12 @@ pub fn bienguloc_second_pass(
         adjusted,
         adjusted_rounds,
         rests,
-    ) {
-        SecondAnswer::Refused(refusal) => refused(refusal),
-        SecondAnswer::Done(misclosure, side_misclosure, divisor_high, divisor_low) => {
-            store_misclosures(misclosure, side_misclosure, sine_misclosures);
-            divisor[0] = divisor_high;
-            divisor[1] = divisor_low;
+    };
+    match second_pass(code, n, given, &mut room) {
+        Err(refusal) => refused(refusal),
+        Ok(sums) => {
+            store_misclosures(sums.misclosure, sums.side_misclosure, sine_misclosures);
+            divisor.copy_from_slice(&[sums.divisor_high, sums.divisor_low]);
             DONE
         }
     }

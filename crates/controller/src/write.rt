@@ -3,6 +3,7 @@ ghost use Rattle.sheet_rules.specs.Sheet.{values_from};
 ghost use Rattle.controller.specs.Promises.{WritePromise};
 
 use crate::answer::answered;
+use sheet_rules::SheetValues;
 use sheet_writer::write_sheet;
 
 pub fn bienguloc_write(
@@ -23,17 +24,13 @@ pub fn bienguloc_write(
         log_sines.now differences.now log_sides.now)
         sheet.old result sheet.new }
 {
-    answered(write_sheet(
-        kind,
-        code,
-        n,
-        limit_or_tolerance,
+    let values = SheetValues {
         angles,
         rounds,
         fixed,
         log_sines,
         differences,
         log_sides,
-        sheet,
-    ))
+    };
+    answered(write_sheet(kind, code, n, limit_or_tolerance, values, sheet))
 }

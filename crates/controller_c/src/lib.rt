@@ -2,7 +2,7 @@
 #![tactic(auto)]
 
 ghost use Rattle.controller.specs.Promises.{LookPromise, read_lent, ReadPromise, text_lent, ReportPromise, ClosingPassPromise, answer_by, FirstPassPromise, sums_lent, SecondPassPromise, WritePromise};
-ghost use Rattle.sheet_rules.specs.Promises.{slices};
+ghost use Rattle.sheet_rules.specs.Lent.{slices};
 ghost use Rattle.pass_rules.specs.Promises.{first_given, first_lent, second_given, second_lent};
 ghost use Rattle.std.specs.Prelude.{◌≡◌};
 ghost use Rattle.closing.specs.Promises.{check_rows};

@@ -1,12 +1,12 @@
 -- Both passes together: of any numbers that are rows applied to misclosures and of what an accepted second pass stores; of the calls, and
 -- of the same for C. Assumes nothing.
+use Rattle.std.specs.Prelude.{Ok, Some}
 use Rattle.std.specs.Prelude.{ℕ, ◌<◌, ◌≡◌, refl, ℤ, pos, neg_ℤ, nat_abs, ◌+ℤ◌, ◌-ℤ◌, ◌*ℤ◌, ◌≤ℤ◌}
 use Rattle.vocabulary.specs.{sym, ap, ap₂, subst, ◌∙◌, mul-pos}
 use Rattle.whole.specs.Sums.{dot, squares, vector}
 use Rattle.whole.proofs.{Order.natural, Ring.ring, Ring.◌≐◌, Ring.◌⊕◌, Ring.◌⊖◌, Ring.◌⊗◌, Ring.⊝◌}
 use Rattle.whole.proofs.Sums.{dot_ext, dot_combined, squares_ext}
-use Rattle.refusals.specs.declared.Verdict.TheVariants.{Passed}
-use Rattle.figures.specs.{declared.Figure.Figure, declared.Named.TheVariants.As, Numerators.numerator}
+use Rattle.figures.specs.{declared.Figure.Figure, Numerators.numerator}
 use Rattle.figures.specs.Figure.{SineCondition, denominator, angle_count, pole, side, figure_of}
 use Rattle.figures.proofs.BothPasses as both
 use Rattle.figures.proofs.{Figures.denominator_positive, Theorem.condition_agrees}
@@ -111,8 +111,8 @@ both_together f e misclosures first second w sideW over rows exact-second =
     }
 
 -- the rows of a first pass that is accepted
-first_rows : (given : FirstGiven) (entry exit : FirstLent) → FirstPromise given entry Passed exit
-    → (f : Figure) → figure_of given.code given.n ≡ As f
+first_rows : (given : FirstGiven) (entry exit : FirstLent) → FirstPromise given entry (Ok tt) exit
+    → (f : Figure) → figure_of given.code given.n ≡ Some f
     → (i : ℕ) → i < angle_count f → vector exit.numerators i ≡ numerator f (vector exit.misclosures) i
 first_rows given entry exit promise f named =
     let done = values.first_pass given entry exit promise in

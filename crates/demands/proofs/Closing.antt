@@ -1,5 +1,6 @@
 -- Demand 3 of any numbers that are rows applied to misclosures, of an accepted first pass of code 2, and of any numbers that are the
 -- second pass's numerators; and what an accepted second pass answers and stores. Assumes nothing.
+use Rattle.std.specs.Prelude.{Ok}
 use Rattle.std.specs.Prelude.{ℕ, ◌<◌, List, ◌∷◌, ◌≡◌, refl, T, ℤ, pos, negsuc, neg_ℤ, nat_abs, ◌*ℤ◌, length, get_or, ◌≤ℤ◌, ◌<ℤ◌}
 use Rattle.vocabulary.specs.{sym, ap, subst, ◌∙◌, eq-eqb, lt→ltb, lt_z_yes}
 use Rattle.whole.specs.Sums.{dot, squares}
@@ -7,7 +8,7 @@ use Rattle.whole.proofs.Sums.{dot_ext, squares_ext}
 use Rattle.figures.specs.{declared.Figure.Figure, Numerators.numerator}
 use Rattle.figures.specs.Figure.{description, denominator, angle_count, condition_count, pole, side}
 use Rattle.figures.proofs.Theorem.{condition_agrees, numerators_cancel, least_squares, only_least}
-use Rattle.refusals.specs.{declared.Verdict.TheVariants.Passed, Order.judged}
+use Rattle.refusals.specs.Order.{judged}
 use Rattle.pass_rules.specs.FirstPass.{misclosure, first_rows}
 use Rattle.pass_rules.specs.SecondPass.{SineEntries, signed_in, sine_misclosure, side_misclosure, divisor, second_numerator}
 use Rattle.pass_rules.proofs.FirstAccepted as First
@@ -31,7 +32,7 @@ are_least_squares f w numerators rows =
 
 -- code 2: every list of corrections that cancels the misclosures of a sheet that passes
 pub horizon_closes : (f : Figure) (limit : ℕ) (angles rounds fixed results : List ℕ) (misclosures numerators : ℕ → ℤ) → (description f).code ≡ 2
-    → judged (first_rows f limit angles rounds fixed (length angles ∷ length rounds ∷ length fixed ∷ results)) ≡ Passed
+    → judged (first_rows f limit angles rounds fixed (length angles ∷ length rounds ∷ length fixed ∷ results)) ≡ Ok tt
     → ((j : ℕ) → j < condition_count f → misclosures j ≡ misclosure f angles fixed j)
     → ((i : ℕ) → i < angle_count f → numerators i ≡ numerator f misclosures i)
     → HorizonCloses f angles misclosures numerators

@@ -1,10 +1,11 @@
 -- Demand 1 of every public operation, by one law. Assumes nothing.
+use Rattle.std.specs.Prelude.{Err}
 use Rattle.std.specs.Prelude.{List, [], ◌∷◌, ◌≡◌, refl, ℤ, length}
 use Rattle.vocabulary.specs.{ap, ◌∙◌}
-use Rattle.refusals.specs.{declared.Refusal.Refusal, declared.Verdict.TheVariants.Failed, Numbers.verdict_told, Order.judged}
+use Rattle.refusals.specs.{declared.Refusal.Refusal, Numbers.verdict_told, Order.judged}
 use Rattle.figures.specs.Figure.{figure_of}
 use Rattle.sheet_layout.specs.Head.{head_rows, look_of, look_told}
-use Rattle.sheet_rules.specs.{Judging.reader_rows, Judging.reading_told, Judging.writer_rows, Judging.writing_of, Promises.lengths_lent}
+use Rattle.sheet_rules.specs.{Judging.reader_rows, Judging.reading_told, Judging.writer_rows, Judging.writing_of, Lent.lengths_lent}
 use Rattle.sheet_rules.proofs.Refusals.{head_in_table, head_tells, reader_in_table, reader_tells, writer_in_table, kept_reading, kept_written}
 use Rattle.pass_rules.specs.{FirstPass.first_pass_verdict, SecondPass.second_told, SecondPass.second_pass_verdict}
 use Rattle.pass_rules.specs.Promises.{FirstGiven, FirstLent, first_lengths_lent, first_values, first_left, first_rows_of, second_lengths_lent, second_values, second_rows_of}
@@ -41,7 +42,7 @@ write_sheet kind code n v entry exit answer promise =
 
 -- ---- the passes
 
-kept_first : (given : FirstGiven) (entry : FirstLent) (refusal : Refusal) → judged (first_rows_of given entry) ≡ Failed refusal
+kept_first : (given : FirstGiven) (entry : FirstLent) (refusal : Refusal) → judged (first_rows_of given entry) ≡ Err refusal
     → first_left given entry ≡ entry
 unfolding first_pass_verdict
 kept_first given entry refusal failed =
@@ -70,7 +71,7 @@ second_pass given entry exit answer promise =
 
 -- ---- the rounding that closes, and its check
 
-kept_choice : (given : FirstGiven) (entry : List ℤ) (refusal : Refusal) → closing_answer given entry ≡ Failed refusal → closing_left given entry ≡ entry
+kept_choice : (given : FirstGiven) (entry : List ℤ) (refusal : Refusal) → closing_answer given entry ≡ Err refusal → closing_left given entry ≡ entry
 kept_choice given entry refusal failed =
     kept_named (figure_of given.code given.n) (closing_answer given entry) refusal (λ f. choice_of f given.angles given.fixed) entry
     (ap verdict_told failed)

@@ -1,4 +1,10 @@
 -- Demand 2: each value in each slice, from the promises alone, and both round trips. Assumes nothing.
+use Rattle.pass_rules.specs.SecondPass.{SecondAnswer}
+use Rattle.std.specs.Prelude.{Err}
+use Rattle.pass_rules.specs.SecondPass.{done_with}
+use Rattle.sheet_rules.specs.Sheet.{Reading, read_as}
+use Rattle.std.specs.Prelude.{Err, None, Ok, Option, Some}
+use Rattle.refusals.specs.Numbers.{Verdict}
 use Rattle.std.specs.Prelude.{ℕ, suc, ◌*◌, ◌/◌, ◌%◌, ◌^◌, ◌≤◌, ◌<◌, true, false, List, ◌≡◌, refl, ℤ, pos, negsuc, nat_abs, ◌+ℤ◌, length}
 use Rattle.std.specs.Prelude.{get_or, ◌≤ℤ◌}
 use Rattle.vocabulary.specs.{sym, ap, ap₂, subst, ◌∙◌, arith}
@@ -7,18 +13,17 @@ use Rattle.whole.proofs.Lists.{length_listed, get_or_listed}
 use Rattle.wide.specs.Wide.{radix}
 use Rattle.wide_words.specs.Words.{joined, high_word, low_word}
 use Rattle.wide_words.proofs.Joining.{joined_words}
-use Rattle.refusals.specs.{declared.Refusal.Refusal, declared.Verdict.Verdict, Order.judged, Promise.stored, Ranges.least_angle}
-use Rattle.refusals.specs.declared.Verdict.TheVariants.{Passed, Failed}
-use Rattle.figures.specs.{declared.Figure.Figure, declared.Named.Named, declared.Named.TheVariants.As, declared.Named.TheVariants.Nothing}
+use Rattle.refusals.specs.{declared.Refusal.Refusal, Order.judged, Promise.stored, Ranges.least_angle}
+use Rattle.figures.specs.declared.Figure.{Figure}
 use Rattle.figures.specs.Figure.{description, denominator, angle_count, condition_count, members_of, has_side, figure_of, of_named}
 use Rattle.figures.specs.Numerators.{reduced_coefficient}
 use Rattle.sheet_layout.specs.Kinds.{number_of_kind}
-use Rattle.sheet_rules.specs.{declared.Reading.Reading, declared.Reading.TheVariants.Read, Sheet.Values, Sheet.values_read}
+use Rattle.sheet_rules.specs.{Sheet.Values, Sheet.values_read}
 use Rattle.sheet_rules.specs.Judging.{reading_of, after_reading, writing_of, written_of}
-use Rattle.sheet_rules.specs.Promises.{slices_of, lengths_lent, read_answer, read_left}
+use Rattle.sheet_rules.specs.Promises.{read_answer, read_left}
+use Rattle.sheet_rules.specs.Lent.{slices_of, lengths_lent}
 use Rattle.sheet_rules.proofs.{Accepted.accepted as accepted-sheet, ReadThenWritten.read_then_accepted}
 use Rattle.sheet_rules.proofs.WrittenThenRead.{written_then_read as sheet-read-back}
-use Rattle.pass_rules.specs.declared.second.SecondAnswer.TheVariants.{Done, Refused}
 use Rattle.pass_rules.specs.FirstPass.{misclosure, first_numerator, first_rounded, corrected, first_rest, first_rows, first_pass_rows, first_pass_verdict}
 use Rattle.pass_rules.specs.SecondPass.{SineEntries, signed_in, reduced_in, misclosure_in, second_reduced, side_reduced, side_reduced_count, sine_misclosure, side_misclosure, divisor, second_numerator, second_rounded, second_adjusted, second_rest, second_rows, second_pass_rows, second_pass_verdict, second_answer_for, second_pass_answer}
 use Rattle.pass_rules.specs.Promises.{FirstGiven, first_lengths_lent, first_values, SecondGiven, SecondLent, second_lengths_lent, second_verdict, second_answer, second_values}
@@ -40,8 +45,8 @@ own_magnitude (negsuc n) low = absurd low.le
 
 -- ---- the first pass
 
-module _ (f : Figure) (given : FirstGiven) (lent : List ℕ) (named : figure_of given.code given.n ≡ As f)
-    (passed : judged (first_rows f given.limit given.angles given.rounds given.fixed lent) ≡ Passed) where
+module _ (f : Figure) (given : FirstGiven) (lent : List ℕ) (named : figure_of given.code given.n ≡ Some f)
+    (passed : judged (first_rows f given.limit given.angles given.rounds given.fixed lent) ≡ Ok tt) where
   abbrev N : ℕ
   N = angle_count f
 
@@ -101,15 +106,15 @@ first_pass given entry exit promise =
     (λ f. first_rows f given.limit given.angles given.rounds given.fixed (first_lengths_lent given entry)) (sym promise.answered) in
     let left : exit ≡ first_values accepted.figure given =
     promise.leaves
-    ∙ ap₂ (λ (m : Named) (v : Verdict). of_named m entry (λ f. stored v (first_values f given) entry)) accepted.named
+    ∙ ap₂ (λ (m : Option Figure) (v : Verdict). of_named m entry (λ f. stored v (first_values f given) entry)) accepted.named
     (sym promise.answered) in
     subst (FirstDone given) (sym left)
     (first_values_done accepted.figure given (first_lengths_lent given entry) accepted.named accepted.passed)
 
 -- ---- the second pass
 
-module _ (f : Figure) (given : SecondGiven) (lent : List ℕ) (named : figure_of given.code given.n ≡ As f)
-    (passed : judged (second_rows f given.tolerance given.angles given.rounds given.entries lent) ≡ Passed) where
+module _ (f : Figure) (given : SecondGiven) (lent : List ℕ) (named : figure_of given.code given.n ≡ Some f)
+    (passed : judged (second_rows f given.tolerance given.angles given.rounds given.entries lent) ≡ Ok tt) where
   abbrev N₂ : ℕ
   N₂ = angle_count f
 
@@ -184,39 +189,56 @@ natural_joined (negsuc n) low = absurd low.le
 -- what an answer of both misclosures and the words of S or the determinant tells
 pub record Worked (given : SecondGiven) (entry : SecondLent) (w sideW divisor-told : ℤ) : Type 0 where
   pub figure : Figure
-  pub named : figure_of given.code given.n ≡ As figure
-  pub passed : second_verdict given entry ≡ Passed
+  pub named : figure_of given.code given.n ≡ Some figure
+  pub passed : second_verdict given entry ≡ Ok tt
   pub w_is : sine_misclosure figure given.entries ≡ w
   pub side_w_is : side_misclosure figure given.entries ≡ sideW
   pub divisor_is : divisor figure given.entries ≡ divisor-told
 
-pub worked : (given : SecondGiven) (entry : SecondLent) (w sideW : ℤ) (high low : ℕ) → second_answer given entry ≡ Done w sideW high low
+-- the parts of an answer
+abbrev told_w : SecondAnswer → ℤ
+told_w (Ok sums) = sums.misclosure
+told_w (Err r) = pos 0
+
+abbrev told_side : SecondAnswer → ℤ
+told_side (Ok sums) = sums.side_misclosure
+told_side (Err r) = pos 0
+
+abbrev told_high : SecondAnswer → ℕ
+told_high (Ok sums) = sums.divisor_high
+told_high (Err r) = 0
+
+abbrev told_low : SecondAnswer → ℕ
+told_low (Ok sums) = sums.divisor_low
+told_low (Err r) = 0
+
+pub worked : (given : SecondGiven) (entry : SecondLent) (w sideW : ℤ) (high low : ℕ) → second_answer given entry ≡ done_with w sideW high low
     → Worked given entry w sideW (joined (pos high) low)
 unfolding second_pass_answer
 worked given entry w sideW high low e = go (figure_of given.code given.n) refl e
   where
-    by_verdict : (f : Figure) (v : Verdict) → figure_of given.code given.n ≡ As f → second_verdict given entry ≡ v
-        → second_answer_for f given.entries v ≡ Done w sideW high low → Worked given entry w sideW (joined (pos high) low)
-    by_verdict f Passed named v e =
+    by_verdict : (f : Figure) (v : Verdict) → figure_of given.code given.n ≡ Some f → second_verdict given entry ≡ v
+        → second_answer_for f given.entries v ≡ done_with w sideW high low → Worked given entry w sideW (joined (pos high) low)
+    by_verdict f (Ok tt) named v e =
         let told : ℤ = divisor f given.entries in
-        let high_is : nat_abs told / 2 ^ 64 ≡ high = cc in
-        let low-is : nat_abs told % 2 ^ 64 ≡ low = cc in
+        let high_is : nat_abs told / 2 ^ 64 ≡ high = ap told_high e in
+        let low-is : nat_abs told % 2 ^ 64 ≡ low = ap told_low e in
         record {
           figure = f;
           named = named;
           passed = v;
-          w_is = cc;
-          side_w_is = cc;
+          w_is = ap told_w e;
+          side_w_is = ap told_side e;
           divisor_is = sym (natural_joined told (divisor_natural f given.entries)) ∙ ap₂ (λ (h l : ℕ). joined (pos h) l) high_is low-is;
         }
-    by_verdict f (Failed r) named v e = absurd (let z : ◌≡◌ {A = ℕ} 0 1 = cc in omega arith)
+    by_verdict f (Err r) named v e = absurd (let z : ◌≡◌ {A = ℕ} 0 1 = cc in omega arith)
 
-    go : (m : Named) → figure_of given.code given.n ≡ m
-        → of_named m (Refused Refusal.NoSuchFigure) (λ f. second_answer_for f given.entries (second_verdict given entry))
-        ≡ Done w sideW high low
+    go : (m : Option Figure) → figure_of given.code given.n ≡ m
+        → of_named m (Err Refusal.NoSuchFigure) (λ f. second_answer_for f given.entries (second_verdict given entry))
+        ≡ done_with w sideW high low
         → Worked given entry w sideW (joined (pos high) low)
-    go Nothing named e = absurd (let z : ◌≡◌ {A = ℕ} 0 1 = cc in omega arith)
-    go (As f) named e = by_verdict f (second_verdict given entry) named refl e
+    go None named e = absurd (let z : ◌≡◌ {A = ℕ} 0 1 = cc in omega arith)
+    go (Some f) named e = by_verdict f (second_verdict given entry) named refl e
 
 told_so : {given : SecondGiven} {w w' sideW sideW' over over' : ℤ} {lent lent' : SecondLent}
     → w ≡ w' → sideW ≡ sideW' → over ≡ over' → lent ≡ lent'
@@ -232,7 +254,7 @@ second_pass given w sideW high low entry exit promise =
     (λ g. second_rows g given.tolerance given.angles given.rounds given.entries (second_lengths_lent given entry)) is.named in
     let left_is : exit ≡ second_values f given =
     promise.leaves
-    ∙ ap₂ (λ (m : Named) (v : Verdict). of_named m entry (λ g. stored v (second_values g given) entry)) is.named is.passed in
+    ∙ ap₂ (λ (m : Option Figure) (v : Verdict). of_named m entry (λ g. stored v (second_values g given) entry)) is.named is.passed in
     told_so is.w_is is.side_w_is is.divisor_is (sym left_is)
     (second_values_done f given (second_lengths_lent given entry) is.named (sym rows ∙ is.passed))
 
@@ -240,7 +262,7 @@ second_pass given w sideW high low entry exit promise =
 
 pub read_then_written : ReadThenWritten
 read_then_written sheet bytes kind f l lent values reads room written answer same writes =
-    let read : reading_of sheet (lengths_lent lent) ≡ Read kind f l = sym reads.answered in
+    let read : reading_of sheet (lengths_lent lent) ≡ read_as kind f l = sym reads.answered in
     let again = read_then_accepted sheet (lengths_lent lent) kind f l bytes read in
     let v : Values = values_read kind f sheet in
     let left : values ≡ slices_of v =

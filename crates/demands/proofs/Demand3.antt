@@ -1,13 +1,15 @@
 -- Demand 3 of the passes, of the same for C, and of a sheet worked from its bytes. Assumes nothing.
+use Rattle.pass_rules.specs.SecondPass.{done_with}
+use Rattle.std.specs.Prelude.{Ok, Option, Some}
+use Rattle.refusals.specs.Numbers.{Verdict}
 use Rattle.std.specs.Prelude.{ℕ, map, ◌≡◌, ℤ, pos, get_or}
 use Rattle.vocabulary.specs.{⊎_elim, sym, ap, ap₂, subst, ◌∙◌, arith, list-get_or_map}
 use Rattle.whole.specs.Sums.{vector}
 use Rattle.wide_words.specs.Words.{joined}
-use Rattle.refusals.specs.{declared.Refusal.Refusal, declared.Verdict.Verdict, declared.Verdict.TheVariants.Passed, Order.judged}
+use Rattle.refusals.specs.{declared.Refusal.Refusal, Order.judged}
 use Rattle.refusals.specs.Promise.{stored}
-use Rattle.figures.specs.{declared.Figure.Figure, declared.Named.Named, declared.Named.TheVariants.As}
+use Rattle.figures.specs.declared.Figure.{Figure}
 use Rattle.figures.specs.Figure.{SineCondition, description, no_sine, figure_of, of_named}
-use Rattle.pass_rules.specs.declared.second.SecondAnswer.TheVariants.{Done}
 use Rattle.pass_rules.specs.FirstPass.{misclosure, first_rows, first_pass_rows, first_pass_verdict}
 use Rattle.pass_rules.specs.SecondPass.{SineEntries, misclosure_in, sine_misclosure, side_misclosure, divisor, second_rows, second_pass_rows, second_pass_verdict}
 use Rattle.pass_rules.specs.Promises.{FirstGiven, FirstLent, first_lengths_lent, first_rows_of, FirstPromise, SecondGiven, SecondLent, second_lengths_lent, second_values, SecondPromise}
@@ -24,7 +26,7 @@ use Rattle.demands.proofs.WorkedValues.{exact, first_numerators, second_numerato
 use Rattle.demands.proofs.Demand2 as values
 
 -- a code and an n name one figure
-pub one_figure : {named : Named} {f g : Figure} → named ≡ As f → named ≡ As g → f ≡ g
+pub one_figure : {named : Option Figure} {f g : Figure} → named ≡ Some f → named ≡ Some g → f ≡ g
 one_figure e h = cc
 
 -- ---- the first pass
@@ -36,10 +38,10 @@ first_pass given entry exit promise f named =
     (are_least_squares done.figure (vector exit.misclosures) (vector exit.numerators) done.numerators)
 
 -- what C is answered is what the pass answers
-pub first_c : (given : FirstGiven) (entry exit : FirstLent) → FirstPassPromise given entry 0 exit → FirstPromise given entry Passed exit
+pub first_c : (given : FirstGiven) (entry exit : FirstLent) → FirstPassPromise given entry 0 exit → FirstPromise given entry (Ok tt) exit
 unfolding first_pass_verdict
 first_c given entry exit promise =
-    let passed : judged (first_rows_of given entry) ≡ Passed =
+    let passed : judged (first_rows_of given entry) ≡ Ok tt =
     answered_done (first_rows_of given entry)
     (first_in_table given.code given.n given.limit given.angles given.rounds given.fixed (first_lengths_lent given entry))
     (first_within given entry) (sym promise.answered) in
@@ -65,7 +67,7 @@ horizon_c given entry exit promise f named two = horizon given entry exit (first
 -- ---- the second pass
 
 pub second_exact : (given : SecondGiven) (w sideW : ℤ) (high low : ℕ) (entry exit : SecondLent)
-    → SecondPromise given entry (Done w sideW high low) exit → (f : Figure) → figure_of given.code given.n ≡ As f
+    → SecondPromise given entry (done_with w sideW high low) exit → (f : Figure) → figure_of given.code given.n ≡ Some f
     → Exact f given.entries (numerators_in exit) w sideW (joined (pos high) low)
 unfolding second_pass_verdict second_pass_rows
 second_exact given w sideW high low entry exit promise f named =
@@ -75,7 +77,7 @@ second_exact given w sideW high low entry exit promise f named =
     let rows = one_judged given.code given.n
     (λ g. second_rows g given.tolerance given.angles given.rounds e (second_lengths_lent given entry)) named in
     let left : exit ≡ second_values f given =
-    promise.leaves ∙ ap₂ (λ (m : Named) (v : Verdict). of_named m entry (λ g. stored v (second_values g given) entry)) named is.passed in
+    promise.leaves ∙ ap₂ (λ (m : Option Figure) (v : Verdict). of_named m entry (λ g. stored v (second_values g given) entry)) named is.passed in
     record {
       numerators_are = λ i h. ap (λ (lent : SecondLent). numerators_in lent i) left ∙ joined_numerators f e i ∙ second_numerators f e i h;
       w_is = ap (λ (g : Figure). sine_misclosure g e) (sym same) ∙ is.w_is;
@@ -95,18 +97,18 @@ misclosure_at f e i =
     ap (get_or (map own (description f).sines) i) (sym (none_misclosure f e)) ∙ list-get_or_map own (description f).sines i (no_sine f)
 
 pub second_exact_c : (given : SecondGiven) (entry exit : SumsLent) → SecondPassPromise given entry 0 exit
-    → (f : Figure) → figure_of given.code given.n ≡ As f
+    → (f : Figure) → figure_of given.code given.n ≡ Some f
     → Exact f given.entries (numerators_in exit.values) (vector exit.misclosures 0) (vector exit.misclosures 1)
     (joined (pos (get_or exit.divisor 0 0)) (get_or exit.divisor 1 0))
 unfolding second_pass_rows
 second_exact_c given entry exit promise f named =
     let e : SineEntries = given.entries in
-    let passed : judged (sums_rows given entry) ≡ Passed =
+    let passed : judged (sums_rows given entry) ≡ Ok tt =
     answered_done (sums_rows given entry) (sums_in_table given entry) (sums_within given entry) (sym promise.answered) in
     let rows = one_judged given.code given.n
     (λ g. second_rows g given.tolerance given.angles given.rounds e (sums_lengths given entry)) named in
     let left : exit ≡ sums_values f given =
-    promise.leaves ∙ ap₂ (λ (m : Named) (v : Verdict). of_named m entry (λ g. stored v (sums_values g given) entry)) named passed in
+    promise.leaves ∙ ap₂ (λ (m : Option Figure) (v : Verdict). of_named m entry (λ g. stored v (sums_values g given) entry)) named passed in
     let words : SumsLent → ℤ = λ lent. joined (pos (get_or lent.divisor 0 0)) (get_or lent.divisor 1 0) in
     record {
       numerators_are = λ i h. ap (λ (lent : SumsLent). numerators_in lent.values i) left ∙ joined_numerators f e i ∙ second_numerators f e i h;

@@ -1,8 +1,11 @@
 -- What is printed for any bytes is a page that says so, or the refusal of the sheet's order. Assumes nothing.
+use Rattle.std.specs.Prelude.{Some}
+use Rattle.std.specs.Prelude.{Ok}
+use Rattle.refusals.specs.Numbers.{Verdict}
 use Rattle.std.specs.Prelude.{ℕ, ◌<◌, Bool, true, false, List, [], ◌∷◌, ◌↔◌, ◌≡◌, refl, ℤ, pos, nat_abs, ◌+ℤ◌, length, get_or, take, drop}
 use Rattle.vocabulary.specs.{inl, inr, ⊎_elim, sym, ap, ap₂, subst, ◌∙◌, arith, take_at}
 use Rattle.whole.specs.{Lists.every, Sums.vector, Sums.naturals}
-use Rattle.refusals.specs.{declared.Verdict.Verdict, declared.Verdict.TheVariants.Passed, Order.Answers, Order.judged, Promise.stored}
+use Rattle.refusals.specs.{Order.Answers, Order.judged, Promise.stored}
 use Rattle.refusals.specs.Numbers.{number_of, place_of, Told, told, refusal_told, verdict_told}
 use Rattle.refusals.proofs.Rows.{answers_exactly}
 use Rattle.text.specs.Text.{decimal, is_word, read_number, read_lines}
@@ -16,7 +19,6 @@ use Rattle.pass_sheet.specs.Worked.{WorkedSheet, first_sheet_lengths, worked_of,
 use Rattle.pass_sheet.specs.Texts.{text_of}
 use Rattle.pass_sheet.proofs.Refusals.{sheet_rows_known, worked_told}
 use Rattle.pass_sheet.proofs.ShownAs.{FirstShown, SecondShown, RefusedShown, shown_as}
-use Rattle.report.specs.declared.reporting.Reported.TheVariants.{Written}
 use Rattle.report.specs.Report.{report_text, has_room, reported_of, after_report}
 use Rattle.controller.specs.Promises.{TextLent, text_lent, text_laid, report_rows}
 use Rattle.controller.proofs.{Answers.answered_done, PlaceBounds.report_within}
@@ -166,7 +168,7 @@ module _ (sheet : List ℕ) where
 
 -- ---- of whatever is written
 
-written_text : (room : Bool) (t lent : List ℕ) (count : ℕ) → Written count ≡ reported_of room t → take count (after_report room t lent) ≡ t
+written_text : (room : Bool) (t lent : List ℕ) (count : ℕ) → Some count ≡ reported_of room t → take count (after_report room t lent) ≡ t
 written_text true t lent count e =
     let same : length t ≡ count = cc in
     take_at t (drop (length t) lent) count same
@@ -181,7 +183,7 @@ report sheet entry exit count promise =
 
 pub report_c : ReportC
 report_c sheet entry exit promise count one =
-    let passed : judged (report_rows sheet entry) ≡ Passed =
+    let passed : judged (report_rows sheet entry) ≡ Ok tt =
     answered_done (report_rows sheet entry) tt (report_within sheet entry) (sym promise.answered) in
     let new : TextLent = text_lent (text_laid sheet entry.text) (length (report_text sheet) ∷ []) in
     let left : exit ≡ new = promise.leaves ∙ ap (λ (v : Verdict). stored v new entry) passed in

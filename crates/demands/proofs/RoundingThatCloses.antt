@@ -1,11 +1,13 @@
 -- Document 02, M-104, of both operations, from Rattle and from C. Assumes nothing.
+use Rattle.std.specs.Prelude.{Err, Ok, Option, Some}
+use Rattle.refusals.specs.Numbers.{Verdict}
 use Rattle.std.specs.Prelude.{ℕ, ◌*◌, ◌<◌, List, ◌⊎◌, ◌≡◌, refl, ℤ, pos, ◌+ℤ◌, length}
 use Rattle.vocabulary.specs.{⊎_elim, sym, ap, ap₂, subst, ◌∙◌, arith}
 use Rattle.whole.specs.Sums.{vector}
 use Rattle.whole.proofs.Lists.{get_or_listed}
-use Rattle.refusals.specs.{declared.Refusal.Refusal, declared.Verdict.Verdict, Numbers.Told, Numbers.told, Numbers.verdict_told, Order.Row}
-use Rattle.refusals.specs.{declared.Verdict.TheVariants.Passed, declared.Verdict.TheVariants.Failed, Promise.stored}
-use Rattle.figures.specs.{declared.Figure.Figure, declared.Named.Named, declared.Named.TheVariants.As, Numerators.condition_sum}
+use Rattle.refusals.specs.{declared.Refusal.Refusal, Numbers.Told, Numbers.told, Numbers.verdict_told, Order.Row}
+use Rattle.refusals.specs.Promise.{stored}
+use Rattle.figures.specs.{declared.Figure.Figure, Numerators.condition_sum}
 use Rattle.figures.specs.Figure.{denominator, angle_count, condition_count, figure_of, of_named}
 use Rattle.pass_rules.specs.FirstPass.{misclosure, first_numerator, first_pass_rows, first_pass_verdict, first_rows}
 use Rattle.pass_rules.specs.Promises.{FirstGiven, FirstLent, first_lengths_lent, first_rows_of, first_answer, first_values, FirstPromise}
@@ -53,7 +55,7 @@ module _ (f : Figure) (given : FirstGiven) (x : ℕ → ℤ) where
   }
 
 -- what an accepted first pass leaves
-module _ (given : FirstGiven) (lent first : FirstLent) (promise : FirstPromise given lent Passed first) where
+module _ (given : FirstGiven) (lent first : FirstLent) (promise : FirstPromise given lent (Ok tt) first) where
   abbrev rows_of : Figure → List Row
   rows_of f = first_rows f given.limit given.angles given.rounds given.fixed (first_lengths_lent given lent)
 
@@ -64,22 +66,22 @@ module _ (given : FirstGiven) (lent first : FirstLent) (promise : FirstPromise g
   left : first ≡ first_values accepted.figure given
   left =
       promise.leaves
-      ∙ ap₂ (λ (m : Named) (v : Verdict). of_named m lent (λ f. stored v (first_values f given) lent)) accepted.named (sym promise.answered)
+      ∙ ap₂ (λ (m : Option Figure) (v : Verdict). of_named m lent (λ f. stored v (first_values f given) lent)) accepted.named (sym promise.answered)
 
   -- one figure is named
-  named_once : (f : Figure) → figure_of given.code given.n ≡ As f → accepted.figure ≡ f
-  named_once f named = ap (λ (m : Named). of_named m f (λ g. g)) (sym accepted.named ∙ named)
+  named_once : (f : Figure) → figure_of given.code given.n ≡ Some f → accepted.figure ≡ f
+  named_once f named = ap (λ (m : Option Figure). of_named m f (λ g. g)) (sym accepted.named ∙ named)
 
-  left_of : (f : Figure) → figure_of given.code given.n ≡ As f → first ≡ first_values f given
+  left_of : (f : Figure) → figure_of given.code given.n ≡ Some f → first ≡ first_values f given
   left_of f named = left ∙ ap (λ (g : Figure). first_values g given) (named_once f named)
 
-  keeps : (x : List ℤ) (f : Figure) → figure_of given.code given.n ≡ As f → BothRules f given.angles given.fixed (vector x) → Keeps given first x
+  keeps : (x : List ℤ) (f : Figure) → figure_of given.code given.n ≡ Some f → BothRules f given.angles given.fixed (vector x) → Keeps given first x
   keeps x f named rules g other =
-      let same : f ≡ g = ap (λ (m : Named). of_named m f (λ k. k)) (sym named ∙ other) in
+      let same : f ≡ g = ap (λ (m : Option Figure). of_named m f (λ k. k)) (sym named ∙ other) in
       subst (λ (l : FirstLent). Rules g (vector l.misclosures) (vector l.numerators) (vector x)) (sym (left_of g other))
       (stand g given (vector x) (subst (λ (k : Figure). BothRules k given.angles given.fixed (vector x)) same rules))
 
-  kept : (x : List ℤ) (f : Figure) → figure_of given.code given.n ≡ As f → Keeps given first x → BothRules f given.angles given.fixed (vector x)
+  kept : (x : List ℤ) (f : Figure) → figure_of given.code given.n ≡ Some f → Keeps given first x → BothRules f given.angles given.fixed (vector x)
   kept x f named rules =
       stood f given (vector x)
       (subst (λ (l : FirstLent). Rules f (vector l.misclosures) (vector l.numerators) (vector x)) (left_of f named) (rules f named))
@@ -87,11 +89,11 @@ module _ (given : FirstGiven) (lent first : FirstLent) (promise : FirstPromise g
 -- ---- our own choice
 
 -- what an accepted call leaves
-chosen_is : (given : FirstGiven) (entry chosen : List ℤ) → ClosingPromise given entry Passed chosen → (f : Figure) → figure_of given.code given.n ≡ As f
+chosen_is : (given : FirstGiven) (entry chosen : List ℤ) → ClosingPromise given entry (Ok tt) chosen → (f : Figure) → figure_of given.code given.n ≡ Some f
     → chosen ≡ choice_of f given.angles given.fixed
 chosen_is given entry chosen promise f named =
     promise.leaves
-    ∙ ap₂ (λ (m : Named) (v : Verdict). of_named m entry (λ g. stored v (choice_of g given.angles given.fixed) entry)) named (sym promise.answered)
+    ∙ ap₂ (λ (m : Option Figure) (v : Verdict). of_named m entry (λ g. stored v (choice_of g given.angles given.fixed) entry)) named (sym promise.answered)
 
 pub choice_closes : ChoiceCloses
 choice_closes given lent first pass entry chosen promise =
@@ -110,7 +112,7 @@ never_fifteen_answered given entry exit answer promise p e = never_fifteen given
 
 -- ---- the check
 
-same_verdict : (r : Refusal) → Failed r ≡ Passed → ⊥
+same_verdict : (r : Refusal) → ◌≡◌ {A = Verdict} (Err r) (Ok tt) → ⊥
 same_verdict r e = let z : ◌≡◌ {A = ℕ} 0 1 = cc in absurd (omega arith)
 
 -- by what the first pass answers, told apart
@@ -122,8 +124,8 @@ module _ (given : FirstGiven) (lent first : FirstLent) (offered : List ℤ) (fit
   KeepsRules = Keeps given first offered
 
   by_pass : (pass : Verdict) → FirstPromise given lent pass first
-      → CheckSays Passed (Failed Refusal.ChoiceDoesNotClose) pass answer_is KeepsRules
-  by_pass Passed is =
+      → CheckSays (Ok tt) (Err Refusal.ChoiceDoesNotClose) pass answer_is KeepsRules
+  by_pass (Ok tt) is =
       let ok = accepted given lent first is in
       let f : Figure = ok.figure in
       let passes = check_passes given lent offered fitting (sym is.answered) f ok.named in
@@ -139,7 +141,7 @@ module _ (given : FirstGiven) (lent first : FirstLent) (offered : List ℤ) (fit
         );
         before_fifteen = λ refused. absurd (refused refl);
       }
-  by_pass (Failed r) is =
+  by_pass (Err r) is =
       let same = check_as_refused given lent offered fitting r (sym is.answered) in
       record {
         accepts = (λ e. absurd (same_verdict r (sym same ∙ e)), λ both. absurd (same_verdict r both.0));
@@ -152,7 +154,7 @@ module _ (given : FirstGiven) (lent first : FirstLent) (offered : List ℤ) (fit
 
 pub check_is_exact : CheckIsExact
 check_is_exact given lent first pass is offered answer e fitting =
-    subst (λ (v : Verdict). CheckSays Passed (Failed Refusal.ChoiceDoesNotClose) pass v (Keeps given first offered)) (sym e)
+    subst (λ (v : Verdict). CheckSays (Ok tt) (Err Refusal.ChoiceDoesNotClose) pass v (Keeps given first offered)) (sym e)
     (by_pass given lent first offered fitting pass is)
 
 pub check_accepts_the_choice : CheckAcceptsTheChoice
@@ -172,13 +174,13 @@ closing_told : (given : FirstGiven) (entry exit : List ℤ) (answer : ℕ) → C
     → ClosingPromise given entry (closing_answer given entry) exit
 closing_told given entry exit answer promise = record { answered = refl; leaves = promise.leaves }
 
-first_passed : (given : FirstGiven) (lent : FirstLent) → answer_by (first_rows_of given lent) ≡ 0 → first_answer given lent ≡ Passed
+first_passed : (given : FirstGiven) (lent : FirstLent) → answer_by (first_rows_of given lent) ≡ 0 → first_answer given lent ≡ Ok tt
 unfolding first_pass_verdict
 first_passed given lent e =
     answered_done (first_rows_of given lent)
     (first_in_table given.code given.n given.limit given.angles given.rounds given.fixed (first_lengths_lent given lent)) (first_within given lent) e
 
-closing_passed : (given : FirstGiven) (entry : List ℤ) → answer_by (closing_rows given entry) ≡ 0 → closing_answer given entry ≡ Passed
+closing_passed : (given : FirstGiven) (entry : List ℤ) → answer_by (closing_rows given entry) ≡ 0 → closing_answer given entry ≡ Ok tt
 closing_passed given entry e = answered_done (closing_rows given entry) (closing_in_table given entry) (closing_within given entry) e
 
 pub choice_closes_c : ChoiceClosesC
@@ -200,7 +202,7 @@ never_fifteen_c given entry exit answer promise p e =
     never_fifteen given entry p
     (sym (answer_tells (closing_rows given entry) (closing_in_table given entry) (closing_within given entry) promise.answered) ∙ e)
 
-fifteen_is : number (Failed Refusal.ChoiceDoesNotClose) ≡ 15 * place_step
+fifteen_is : number (Err Refusal.ChoiceDoesNotClose) ≡ 15 * place_step
 unfolding answer_number
 fifteen_is = refl
 
@@ -211,12 +213,12 @@ fifteen_told = refl
 module _ (given : FirstGiven) (lent first : FirstLent) (offered : List ℤ) (fitting : Fitting given lent offered) where
   -- where 15 is told, it is this refusal
   only_this : (pass : Verdict) → FirstPromise given lent pass first → verdict_told (check_answer given offered) ≡ told 15 0
-      → check_answer given offered ≡ Failed Refusal.ChoiceDoesNotClose
-  only_this Passed is e =
+      → check_answer given offered ≡ Err Refusal.ChoiceDoesNotClose
+  only_this (Ok tt) is e =
       let ok = accepted given lent first is in
-      ⊎_elim (λ (passed : check_answer given offered ≡ Passed). let z : ◌≡◌ {A = ℕ} 0 15 = ap (λ (t : Told). t.number) (sym (ap verdict_told passed) ∙ e) in absurd (omega arith))
+      ⊎_elim (λ (passed : check_answer given offered ≡ Ok tt). let z : ◌≡◌ {A = ℕ} 0 15 = ap (λ (t : Told). t.number) (sym (ap verdict_told passed) ∙ e) in absurd (omega arith))
       (λ refused. refused) (check_either given lent offered fitting (sym is.answered) ok.figure ok.named)
-  only_this (Failed r) is e =
+  only_this (Err r) is e =
       absurd (never_fifteen given offered 0
       (ap verdict_told (as_the_first_pass given lent offered fitting ∙ sym is.answered ∙ sym (check_as_refused given lent offered fitting r (sym is.answered))) ∙ e))
 
@@ -227,8 +229,8 @@ check_is_exact_c given lent first pass is offered answer e fitting =
     let v : Verdict = first_answer given lent in
     let own : Verdict = check_answer given offered in
     let says = by_pass given lent first offered fitting v promise in
-    let passed : pass ≡ 0 → v ≡ Passed = λ none. first_passed given lent (sym is.answered ∙ none) in
-    let done : v ≡ Passed → pass ≡ 0 = λ ok. is.answered ∙ ap number ok ∙ done_number in
+    let passed : pass ≡ 0 → v ≡ Ok tt = λ none. first_passed given lent (sym is.answered ∙ none) in
+    let done : v ≡ Ok tt → pass ≡ 0 = λ ok. is.answered ∙ ap number ok ∙ done_number in
     let tells = answer_tells (check_rows given offered) (check_in_table given offered) (check_within given offered) e in
     record {
       accepts = (

@@ -4,13 +4,13 @@
 --
 -- Said of the misclosures and numerators that stand in the lent slices, as demand 3 is. Ours are first numerator / D + second numerator /
 -- S, where S is the determinant for a figure with two sine conditions; in whole numbers, both sides are multiplied by the denominators.
+use Rattle.pass_rules.specs.SecondPass.{done_with}
+use Rattle.std.specs.Prelude.{Ok, Some}
 use Rattle.std.specs.Prelude.{ℕ, ◌*◌, ◌<◌, true, List, ◌≡◌, ℤ, pos, nat_abs, ◌+ℤ◌, ◌-ℤ◌, ◌*ℤ◌, get_or, ◌≤ℤ◌}
 use Rattle.whole.specs.Sums.{dot, vector}
 use Rattle.wide_words.specs.Words.{joined}
-use Rattle.refusals.specs.declared.Verdict.TheVariants.{Passed}
-use Rattle.figures.specs.{declared.Figure.Figure, declared.Named.TheVariants.As}
+use Rattle.figures.specs.declared.Figure.{Figure}
 use Rattle.figures.specs.Figure.{SineCondition, denominator, angle_count, pole, side, has_side, figure_of}
-use Rattle.pass_rules.specs.declared.second.SecondAnswer.TheVariants.{Done}
 use Rattle.pass_rules.specs.Promises.{FirstGiven, FirstLent, FirstPromise, SecondGiven, SecondLent, SecondPromise}
 use Rattle.controller.specs.Promises.{FirstPassPromise, SumsLent, SecondPassPromise}
 use Rattle.demands.specs.{Demand2.signed, Demand2.numerators_in, Demand3.Cancel, Demand3.squares_over}
@@ -65,10 +65,10 @@ pub record BothTogether (f : Figure) (differences : List ℤ) (misclosures first
 
 abbrev pub BothPasses : Type 0
 BothPasses =
-    (first_given : FirstGiven) (firstEntry firstExit : FirstLent) → FirstPromise first_given firstEntry Passed firstExit
+    (first_given : FirstGiven) (firstEntry firstExit : FirstLent) → FirstPromise first_given firstEntry (Ok tt) firstExit
     → (second_given : SecondGiven) (w sideW : ℤ) (high low : ℕ) (secondEntry secondExit : SecondLent)
-    → SecondPromise second_given secondEntry (Done w sideW high low) secondExit
-    → (f : Figure) → figure_of first_given.code first_given.n ≡ As f → figure_of second_given.code second_given.n ≡ As f
+    → SecondPromise second_given secondEntry (done_with w sideW high low) secondExit
+    → (f : Figure) → figure_of first_given.code first_given.n ≡ Some f → figure_of second_given.code second_given.n ≡ Some f
     → second_given.angles ≡ firstExit.corrected
     → BothTogether f second_given.entries.differences (vector firstExit.misclosures) (vector firstExit.numerators)
     (numerators_in secondExit) w sideW (nat_abs (joined (pos high) low))
@@ -78,7 +78,7 @@ abbrev pub BothPassesC : Type 0
 BothPassesC =
     (first_given : FirstGiven) (firstEntry firstExit : FirstLent) → FirstPassPromise first_given firstEntry 0 firstExit
     → (second_given : SecondGiven) (secondEntry secondExit : SumsLent) → SecondPassPromise second_given secondEntry 0 secondExit
-    → (f : Figure) → figure_of first_given.code first_given.n ≡ As f → figure_of second_given.code second_given.n ≡ As f
+    → (f : Figure) → figure_of first_given.code first_given.n ≡ Some f → figure_of second_given.code second_given.n ≡ Some f
     → second_given.angles ≡ firstExit.corrected
     → BothTogether f second_given.entries.differences (vector firstExit.misclosures) (vector firstExit.numerators)
     (numerators_in secondExit.values) (vector secondExit.misclosures 0) (vector secondExit.misclosures 1)

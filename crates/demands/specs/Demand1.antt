@@ -5,13 +5,18 @@
 -- else. The order of an operation is one list of rows; `Answers`, `NoneHolds` and `Stands` say what a list of rows answers
 -- (refusals/specs/Order.antt), and each row stands once in refusals/specs/Table.antt. That every call ends is what the checker proves of
 -- every function.
+use Rattle.pass_rules.specs.SecondPass.{SecondAnswer}
+use Rattle.sheet_layout.specs.Head.{Look}
+use Rattle.sheet_rules.specs.Sheet.{Reading}
+use Rattle.refusals.specs.Numbers.{Verdict}
 use Rattle.std.specs.Prelude.{ℕ, List, ◌↔◌, ◌⊎◌, ◌≡◌, ℤ, length}
-use Rattle.refusals.specs.{declared.Verdict.Verdict, Numbers.Told, Numbers.told, Numbers.verdict_told}
+use Rattle.refusals.specs.{Numbers.Told, Numbers.told, Numbers.verdict_told}
 use Rattle.refusals.specs.Order.{Row, Answers, NoneHolds, Stands}
-use Rattle.sheet_layout.specs.{declared.head.Look.Look, Head.head_rows, Head.look_of, Head.look_told}
-use Rattle.sheet_rules.specs.{declared.Reading.Reading, Sheet.Values, Judging.reader_rows, Judging.reading_told, Judging.writer_rows}
-use Rattle.sheet_rules.specs.Promises.{Slices, lengths_lent, ReaderPromise, WriterPromise}
-use Rattle.pass_rules.specs.{declared.second.SecondAnswer.SecondAnswer, SecondPass.second_told}
+use Rattle.sheet_layout.specs.{Head.head_rows, Head.look_of, Head.look_told}
+use Rattle.sheet_rules.specs.{Sheet.Values, Judging.reader_rows, Judging.reading_told, Judging.writer_rows}
+use Rattle.sheet_rules.specs.Promises.{ReaderPromise, WriterPromise}
+use Rattle.sheet_rules.specs.Lent.{Slices, lengths_lent}
+use Rattle.pass_rules.specs.SecondPass.{second_told}
 use Rattle.pass_rules.specs.Promises.{FirstGiven, FirstLent, first_rows_of, FirstPromise, SecondGiven, SecondLent, second_rows_of, SecondPromise}
 use Rattle.closing.specs.Promises.{closing_rows, ClosingPromise, check_rows, check_answer}
 use Rattle.controller.specs.Answer.{answer_told}

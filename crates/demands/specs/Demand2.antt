@@ -5,17 +5,22 @@
 --
 -- Said of the numbers that stand in the lent slices after a call: each is what document 01, "The two passes", and M-100 make of what was
 -- given and of the numbers in the other slices. Angles and conditions by their index, counted from 0; `vector` reads a slice by the index.
+use Rattle.pass_rules.specs.SecondPass.{done_with}
+use Rattle.sheet_layout.specs.Head.{headed}
+use Rattle.sheet_rules.specs.Sheet.{Reading, read_as}
+use Rattle.std.specs.Prelude.{Ok, Some}
+use Rattle.refusals.specs.Numbers.{Verdict}
 use Rattle.std.specs.Prelude.{ℕ, suc, ◌*◌, ◌≤◌, ◌<◌, true, false, List, ◌≡◌, ℤ, pos, neg_ℤ, nat_abs, ◌+ℤ◌, ◌-ℤ◌, ◌*ℤ◌, length, get_or}
 use Rattle.whole.specs.{Quotient.rounded_quotient, Sums.dot, Sums.squares, Sums.vector}
 use Rattle.wide_words.specs.Words.{joined}
-use Rattle.refusals.specs.{declared.Verdict.Verdict, declared.Verdict.TheVariants.Passed}
-use Rattle.figures.specs.{declared.Figure.Figure, declared.Named.TheVariants.As, Numerators.condition_sum, Numerators.numerator}
+use Rattle.figures.specs.{declared.Figure.Figure, Numerators.condition_sum, Numerators.numerator}
 use Rattle.figures.specs.Figure.{SineCondition, description, denominator, angle_count, condition_count, members_of, target_of, side_count, pole, side, has_side, figure_of}
-use Rattle.sheet_layout.specs.{declared.Kind.Kind, Kinds.number_of_kind, declared.head.Look.TheVariants.Head, Head.head_of}
-use Rattle.sheet_rules.specs.{declared.Reading.Reading, declared.Reading.TheVariants.Read, Sheet.Values, Sheet.values_from}
+use Rattle.sheet_layout.specs.{declared.Kind.Kind, Kinds.number_of_kind, Head.head_of}
+use Rattle.sheet_rules.specs.{Sheet.Values, Sheet.values_from}
 use Rattle.sheet_rules.specs.Judging.{lengths_given}
-use Rattle.sheet_rules.specs.Promises.{Slices, slices_of, lengths_lent, ReaderPromise, WriterPromise}
-use Rattle.pass_rules.specs.{declared.second.SecondAnswer.TheVariants.Done, FirstPass.should_be, SecondPass.side_reduced_count}
+use Rattle.sheet_rules.specs.Promises.{ReaderPromise, WriterPromise}
+use Rattle.sheet_rules.specs.Lent.{Slices, slices_of, lengths_lent}
+use Rattle.pass_rules.specs.{FirstPass.should_be, SecondPass.side_reduced_count}
 use Rattle.pass_rules.specs.Promises.{FirstGiven, FirstLent, FirstPromise, SecondGiven, SecondLent, SecondPromise}
 
 -- ---- the first pass
@@ -26,7 +31,7 @@ angle_at angles i = pos (get_or angles i 0)
 
 pub record FirstDone (given : FirstGiven) (lent : FirstLent) : Type 0 where
   pub figure : Figure
-  pub named : figure_of given.code given.n ≡ As figure
+  pub named : figure_of given.code given.n ≡ Some figure
   -- how many there are
   pub condition_many : (length lent.misclosures ≡ condition_count figure) × (length lent.rests ≡ condition_count figure)
   pub angle_many : (length lent.numerators ≡ angle_count figure)
@@ -50,7 +55,7 @@ pub record FirstDone (given : FirstGiven) (lent : FirstLent) : Type 0 where
   pub rests_small : (j : ℕ) → j < condition_count figure → 2 * nat_abs (vector lent.rests j) ≤ length (members_of figure (suc j))
 
 abbrev pub FirstPass : Type 0
-FirstPass = (given : FirstGiven) (entry exit : FirstLent) → FirstPromise given entry Passed exit → FirstDone given exit
+FirstPass = (given : FirstGiven) (entry exit : FirstLent) → FirstPromise given entry (Ok tt) exit → FirstDone given exit
 
 -- ---- the second pass. Every figure has a pole, to which A and W belong. A figure with a side condition has B and a second W of it, and
 -- the determinant in the place of S
@@ -109,7 +114,7 @@ pub record TwoSines (f : Figure) (given : SecondGiven) (w sideW divisor : ℤ) (
 
 pub record SecondDone (given : SecondGiven) (w sideW divisor : ℤ) (lent : SecondLent) : Type 0 where
   pub figure : Figure
-  pub named : figure_of given.code given.n ≡ As figure
+  pub named : figure_of given.code given.n ≡ Some figure
   -- how many there are
   pub angle_many : (length lent.reduced ≡ angle_count figure)
       × (length lent.high_numerators ≡ angle_count figure) × (length lent.low_numerators ≡ angle_count figure)
@@ -138,7 +143,7 @@ pub record SecondDone (given : SecondGiven) (w sideW divisor : ℤ) (lent : Seco
 -- S or the determinant is answered as two words, high·2^64 + low
 abbrev pub SecondPass : Type 0
 SecondPass =
-    (given : SecondGiven) (w sideW : ℤ) (high low : ℕ) (entry exit : SecondLent) → SecondPromise given entry (Done w sideW high low) exit
+    (given : SecondGiven) (w sideW : ℤ) (high low : ℕ) (entry exit : SecondLent) → SecondPromise given entry (done_with w sideW high low) exit
     → SecondDone given w sideW (joined (pos high) low) exit
 
 -- ---- packed sheets
@@ -157,22 +162,22 @@ abbrev pub ReadThenWritten : Type 0
 ReadThenWritten =
     (sheet : List ℕ) → AreBytes sheet
     → (kind : Kind) (f : Figure) (limit_or_tolerance : ℕ) (lent values : Slices)
-    → ReaderPromise sheet lent (Read kind f limit_or_tolerance) values
+    → ReaderPromise sheet lent (read_as kind f limit_or_tolerance) values
     → (room written : List ℕ) (answer : Verdict) → length room ≡ length sheet
     → WriterPromise (number_of_kind kind) (description f).code (description f).n (values_in limit_or_tolerance values) room answer written
-    → (answer ≡ Passed) × (written ≡ sheet)
+    → (answer ≡ Ok tt) × (written ≡ sheet)
 
 -- "a written sheet reads back as the same values": the kind and the figure that were named, L or e, and the values; and the reader
 -- accepts it
 pub record ReadBack (kind code n : ℕ) (v : Values) (answer : Reading) (values : Slices) : Type 0 where
   pub kind_read : Kind
   pub figure_read : Figure
-  pub named : head_of kind code n ≡ Head kind_read figure_read
-  pub answers : answer ≡ Read kind_read figure_read v.limit_or_tolerance
+  pub named : head_of kind code n ≡ headed kind_read figure_read
+  pub answers : answer ≡ read_as kind_read figure_read v.limit_or_tolerance
   pub leaves : values ≡ slices_of v
 
 abbrev pub WrittenThenRead : Type 0
 WrittenThenRead =
-    (kind code n : ℕ) (v : Values) (room sheet : List ℕ) → WriterPromise kind code n v room Passed sheet
+    (kind code n : ℕ) (v : Values) (room sheet : List ℕ) → WriterPromise kind code n v room (Ok tt) sheet
     → (lent values : Slices) (answer : Reading) → lengths_lent lent ≡ lengths_given v → ReaderPromise sheet lent answer values
     → ReadBack kind code n v answer values

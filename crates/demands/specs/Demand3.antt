@@ -6,13 +6,13 @@
 --
 -- Said of the misclosures and numerators that stand in the lent slices. Unrounded corrections are numerator / D in the first pass,
 -- numerator / S or numerator / determinant in the second; in whole numbers, both sides are multiplied by the denominators.
+use Rattle.pass_rules.specs.SecondPass.{done_with}
+use Rattle.std.specs.Prelude.{Ok, Some}
 use Rattle.std.specs.Prelude.{ℕ, ◌<◌, true, List, ◌≡◌, ℤ, pos, neg_ℤ, ◌+ℤ◌, ◌-ℤ◌, ◌*ℤ◌, get_or, ◌≤ℤ◌, ◌<ℤ◌}
 use Rattle.whole.specs.Sums.{dot, squares, vector}
 use Rattle.wide_words.specs.Words.{joined}
-use Rattle.refusals.specs.declared.Verdict.TheVariants.{Passed}
-use Rattle.figures.specs.{declared.Figure.Figure, declared.Named.TheVariants.As, Numerators.condition_sum, Numerators.horizon_sum}
+use Rattle.figures.specs.{declared.Figure.Figure, Numerators.condition_sum, Numerators.horizon_sum}
 use Rattle.figures.specs.Figure.{description, denominator, angle_count, condition_count, pole, side, has_side, figure_of}
-use Rattle.pass_rules.specs.declared.second.SecondAnswer.TheVariants.{Done}
 use Rattle.pass_rules.specs.Promises.{FirstGiven, FirstLent, FirstPromise, SecondGiven, SecondLent, SecondPromise}
 use Rattle.pass_sheet.specs.Worked.{First, Second, WorkedSheet, worked_of, entries_in}
 use Rattle.controller.specs.Promises.{FirstPassPromise, SumsLent, SecondPassPromise}
@@ -60,21 +60,21 @@ pub record SineCloses (f : Figure) (differences : List ℤ) (numerators : ℕ �
 
 abbrev pub FirstPass : Type 0
 FirstPass =
-    (given : FirstGiven) (entry exit : FirstLent) → FirstPromise given entry Passed exit
-    → (f : Figure) → figure_of given.code given.n ≡ As f
+    (given : FirstGiven) (entry exit : FirstLent) → FirstPromise given entry (Ok tt) exit
+    → (f : Figure) → figure_of given.code given.n ≡ Some f
     → LeastSquares f (vector exit.misclosures) (vector exit.numerators)
 
 -- of code 2, both n
 abbrev pub Horizon : Type 0
 Horizon =
-    (given : FirstGiven) (entry exit : FirstLent) → FirstPromise given entry Passed exit
-    → (f : Figure) → figure_of given.code given.n ≡ As f → (description f).code ≡ 2
+    (given : FirstGiven) (entry exit : FirstLent) → FirstPromise given entry (Ok tt) exit
+    → (f : Figure) → figure_of given.code given.n ≡ Some f → (description f).code ≡ 2
     → HorizonCloses f given.angles (vector exit.misclosures) (vector exit.numerators)
 
 abbrev pub SecondPass : Type 0
 SecondPass =
-    (given : SecondGiven) (w sideW : ℤ) (high low : ℕ) (entry exit : SecondLent) → SecondPromise given entry (Done w sideW high low) exit
-    → (f : Figure) → figure_of given.code given.n ≡ As f
+    (given : SecondGiven) (w sideW : ℤ) (high low : ℕ) (entry exit : SecondLent) → SecondPromise given entry (done_with w sideW high low) exit
+    → (f : Figure) → figure_of given.code given.n ≡ Some f
     → SineCloses f given.entries.differences (numerators_in exit) w sideW (joined (pos high) low)
 
 -- ---- the same for C: the answer is 0, W or both stand in `misclosures`, and the two words of S or the determinant in `divisor`
@@ -82,19 +82,19 @@ SecondPass =
 abbrev pub FirstPassC : Type 0
 FirstPassC =
     (given : FirstGiven) (entry exit : FirstLent) → FirstPassPromise given entry 0 exit
-    → (f : Figure) → figure_of given.code given.n ≡ As f
+    → (f : Figure) → figure_of given.code given.n ≡ Some f
     → LeastSquares f (vector exit.misclosures) (vector exit.numerators)
 
 abbrev pub HorizonC : Type 0
 HorizonC =
     (given : FirstGiven) (entry exit : FirstLent) → FirstPassPromise given entry 0 exit
-    → (f : Figure) → figure_of given.code given.n ≡ As f → (description f).code ≡ 2
+    → (f : Figure) → figure_of given.code given.n ≡ Some f → (description f).code ≡ 2
     → HorizonCloses f given.angles (vector exit.misclosures) (vector exit.numerators)
 
 abbrev pub SecondPassC : Type 0
 SecondPassC =
     (given : SecondGiven) (entry exit : SumsLent) → SecondPassPromise given entry 0 exit
-    → (f : Figure) → figure_of given.code given.n ≡ As f
+    → (f : Figure) → figure_of given.code given.n ≡ Some f
     → SineCloses f given.entries.differences (numerators_in exit.values) (vector exit.misclosures 0) (vector exit.misclosures 1)
     (joined (pos (get_or exit.divisor 0 0)) (get_or exit.divisor 1 0))
 

@@ -5,6 +5,7 @@
 -- second, `figure 1 0 W 100 S 24315176`; `1 1620000 2049 -163920000 -7 1619993 1`; `condition 1 0`; with two sine conditions, M-100,
 -- `figure 2 4 W 5 -3 determinant 7`, and on an angle's line B stands after A. An angle's line ends in its rounds, M-106. The line of
 -- angle i, counted from 0, is line 1 + i, that of condition j follows the angles' lines.
+use Rattle.std.specs.Prelude.{Some}
 use Rattle.std.specs.Prelude.{ℕ, suc, ◌+◌, ◌<◌, Bool, true, false, List, [], ◌∷◌, ◌↔◌, ◌⊎◌, ◌≡◌, ℤ, pos, neg_ℤ, ◌+ℤ◌, ◌-ℤ◌, ◌*ℤ◌, get_or}
 use Rattle.std.specs.Prelude.{take}
 use Rattle.whole.specs.Sums.{squares}
@@ -14,7 +15,7 @@ use Rattle.figures.specs.Figure.{description, denominator, angle_count, conditio
 use Rattle.text.specs.Text.{decimal, lines, read_number, read_lines}
 use Rattle.lines.specs.Lines.{figure_word, denominator_word, w_word, s_word, determinant_word, refused_word}
 use Rattle.pass_sheet.specs.Worked.{sheet_rows, rounds_held}
-use Rattle.report.specs.{declared.reporting.Reported.TheVariants.Written, Report.ReportedPromise}
+use Rattle.report.specs.Report.{ReportedPromise}
 use Rattle.controller.specs.Promises.{TextLent, ReportPromise}
 use Rattle.demands.specs.Demand2.{determinant_of, exact_of_two}
 
@@ -111,7 +112,7 @@ pub record Printed (sheet text : List ℕ) : Type 0 where
 -- ---- of whatever the program, and C, write
 
 abbrev pub Report : Type 0
-Report = (sheet entry exit : List ℕ) (count : ℕ) → ReportedPromise sheet entry (Written count) exit → Printed sheet (take count exit)
+Report = (sheet entry exit : List ℕ) (count : ℕ) → ReportedPromise sheet entry (Some count) exit → Printed sheet (take count exit)
 
 abbrev pub ReportC : Type 0
 ReportC =

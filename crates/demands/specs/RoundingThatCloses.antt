@@ -6,11 +6,12 @@
 -- Said of the misclosures and numerators that stand in the slices of a first pass of the same sheet; the exact first correction is
 -- numerator / D. `Fitting` (closing/specs/Promises.antt): what is lent to both has the lengths of the figure that is named, else number 2
 -- may name either slice. Angles and conditions by their index, counted from 0.
+use Rattle.std.specs.Prelude.{Err, Ok, Some}
+use Rattle.refusals.specs.Numbers.{Verdict}
 use Rattle.std.specs.Prelude.{ℕ, ◌*◌, ◌<◌, List, ◌↔◌, ◌⊎◌, ◌≡◌, ℤ, pos, ◌+ℤ◌, ◌*ℤ◌}
 use Rattle.whole.specs.Sums.{vector}
-use Rattle.refusals.specs.{declared.Refusal.Refusal, declared.Verdict.Verdict, Numbers.told, Numbers.verdict_told}
-use Rattle.refusals.specs.declared.Verdict.TheVariants.{Passed, Failed}
-use Rattle.figures.specs.{declared.Figure.Figure, declared.Named.TheVariants.As, Numerators.condition_sum}
+use Rattle.refusals.specs.{declared.Refusal.Refusal, Numbers.told, Numbers.verdict_told}
+use Rattle.figures.specs.{declared.Figure.Figure, Numerators.condition_sum}
 use Rattle.figures.specs.Figure.{denominator, angle_count, condition_count, figure_of}
 use Rattle.pass_rules.specs.Promises.{FirstGiven, FirstLent, FirstPromise}
 use Rattle.closing.specs.Floor.{floor_quotient, ceiling_quotient}
@@ -31,15 +32,15 @@ pub record Rules (f : Figure) (misclosures numerators x : ℕ → ℤ) : Type 0 
 -- of corrections in a slice, with what a first pass left
 abbrev pub Keeps : FirstGiven → (first : FirstLent) → (x : List ℤ) → Type 0
 Keeps given first x =
-    (f : Figure) → figure_of given.code given.n ≡ As f → Rules f (vector first.misclosures) (vector first.numerators) (vector x)
+    (f : Figure) → figure_of given.code given.n ≡ Some f → Rules f (vector first.misclosures) (vector first.numerators) (vector x)
 
 -- ---- our own choice
 
 -- it keeps both rules, for every figure and every sheet that passes
 abbrev pub ChoiceCloses : Type 0
 ChoiceCloses =
-    (given : FirstGiven) (lent first : FirstLent) → FirstPromise given lent Passed first
-    → (entry chosen : List ℤ) → ClosingPromise given entry Passed chosen → Keeps given first chosen
+    (given : FirstGiven) (lent first : FirstLent) → FirstPromise given lent (Ok tt) first
+    → (entry chosen : List ℤ) → ClosingPromise given entry (Ok tt) chosen → Keeps given first chosen
 
 -- it answers what the first pass answers: done, or the same number and place
 abbrev pub RefusesAsTheFirstPass : Type 0
@@ -68,13 +69,13 @@ abbrev pub CheckIsExact : Type 0
 CheckIsExact =
     (given : FirstGiven) (lent first : FirstLent) (pass : Verdict) → FirstPromise given lent pass first
     → (offered : List ℤ) (answer : Verdict) → answer ≡ check_answer given offered → Fitting given lent offered
-    → CheckSays Passed (Failed Refusal.ChoiceDoesNotClose) pass answer (Keeps given first offered)
+    → CheckSays (Ok tt) (Err Refusal.ChoiceDoesNotClose) pass answer (Keeps given first offered)
 
 -- it accepts what our own operation chooses
 abbrev pub CheckAcceptsTheChoice : Type 0
 CheckAcceptsTheChoice =
-    (given : FirstGiven) (entry chosen : List ℤ) → ClosingPromise given entry Passed chosen
-    → (answer : Verdict) → answer ≡ check_answer given chosen → answer ≡ Passed
+    (given : FirstGiven) (entry chosen : List ℤ) → ClosingPromise given entry (Ok tt) chosen
+    → (answer : Verdict) → answer ≡ check_answer given chosen → answer ≡ Ok tt
 
 -- ---- the same for C: 0 is done, and number 15 at place 0 is 15 × 256
 

@@ -1,33 +1,75 @@
-// Code 3: the central polygons of document 01 with 3 to 8 triangles. The rows are those of document 01 over 6n, filled with 0 past the
-// figure's conditions and angles: c of triangle i has −2n·w(i) + 2T − 6h, its l and r have −2n·w(i) − T + 3h. The definition
-// that each table is proved to equal has this rule for every n; that they are equal is computed.
-ghost use Rattle.std.specs.Prelude.{◌≡◌};
+// Code 3: the central polygons of document 01 with 3 to 8 triangles: c of triangle i has −2n·w(i) + 2T − 6h, its l and r have
+// −2n·w(i) − T + 3h, over 6n. The definition that each table is proved to equal has this rule for every n. The tables stay numbers because
+// the numerators of n = 7 and 8 take five times as long where loops make them by the rule.
+// A cast by `as` stands where the library has no `From`, to a narrower type or to and from usize; each is proved to keep its value.
+ghost use Rattle.std.specs.Prelude.{◌≡◌, ◌+◌, ◌*◌, ◌≤◌, refl};
+ghost use Rattle.vocabulary.specs.{leb→le};
+ghost use Rattle.figures.specs.declared.Figure.{Figure};
+ghost use Rattle.figures.specs.declared.Figure.TheVariants.{CentralTriangle, CentralQuadrilateral, CentralPentagon, CentralHexagon, CentralHeptagon, CentralOctagon};
 ghost use Rattle.figures.specs.Figure.{counts_from, counts_of};
 ghost use Rattle.figures.specs.Numerators.{padded_rows};
 
-use figures::{Counts, Figure, Rows};
+use crate::figure_table::FigureTable;
+use figures::{MOST_CONDITIONS, Rows};
 
+// The central polygon of N triangles.
 #[derive(Clone, Copy)]
-pub struct CentralTriangle;
+pub struct CentralPolygon<const N: usize>;
 
-impl CentralTriangle {
-    pub const D: u32 = 18;
+// That N triangles make a figure, and which; and its rows, filled with 0.
+pub trait Polygon<const N: usize> {
+    ghost polygon: { Figure };
 
-    pub const ANGLES: usize = 9;
+    ghost few: { N ≤ 8 };
 
-    pub const CONDITIONS: usize = 4;
+    ghost its_counts: { counts_from (6 * N) (3 * N) (N + 1) 0 0 ≡ counts_of polygon };
 
-    pub const FIXED: usize = 0;
+    fn table() -> Rows
+        ensures { result ≡ padded_rows polygon };
+}
 
-    pub(crate) fn counts() -> Counts
-        ensures { result ≡ counts_of Figure.CentralTriangle }
-    {
-        counts_from(Self::D, Self::ANGLES, Self::CONDITIONS, Self::FIXED)
+impl<const N: usize> FigureTable for CentralPolygon<N>
+where
+    CentralPolygon<N>: Polygon<N>,
+{
+    const D: u32 = 6 * N as u32;
+
+    const ANGLES: usize = 3 * N;
+
+    const CONDITIONS: usize = N + 1;
+
+    const FIXED: usize = 0;
+
+    const SIDES: usize = 0;
+
+    ghost D = { 6 * N };
+
+    ghost ANGLES = { 3 * N };
+
+    ghost CONDITIONS = { N + 1 };
+
+    ghost FIXED = { 0 };
+
+    ghost SIDES = { 0 };
+
+    ghost figure = { ⟦<CentralPolygon<N> as Polygon<N>>⟧.polygon };
+
+    ghost counted = { ⟦<CentralPolygon<N> as Polygon<N>>⟧.its_counts };
+
+    fn rows() -> Rows {
+        <CentralPolygon<N> as Polygon<N>>::table()
     }
+}
 
-    pub fn rows() -> Rows
-        ensures { result ≡ padded_rows Figure.CentralTriangle }
-    {
+impl Polygon<3> for CentralPolygon<3> {
+    ghost polygon = { CentralTriangle };
+
+    ghost few = { leb→le 3 8 tt };
+
+    ghost its_counts = { refl };
+
+    fn table() -> Rows {
+        let filling = [0; MOST_CONDITIONS];
         [
             [-4, 2, 2, -6, 0, 0, 0, 0, 0],
             [-7, -1, -1, 3, 0, 0, 0, 0, 0],
@@ -38,46 +80,34 @@ impl CentralTriangle {
             [2, 2, -4, -6, 0, 0, 0, 0, 0],
             [-1, -1, -7, 3, 0, 0, 0, 0, 0],
             [-1, -1, -7, 3, 0, 0, 0, 0, 0],
-            [0, 0, 0, 0, 0, 0, 0, 0, 0],
-            [0, 0, 0, 0, 0, 0, 0, 0, 0],
-            [0, 0, 0, 0, 0, 0, 0, 0, 0],
-            [0, 0, 0, 0, 0, 0, 0, 0, 0],
-            [0, 0, 0, 0, 0, 0, 0, 0, 0],
-            [0, 0, 0, 0, 0, 0, 0, 0, 0],
-            [0, 0, 0, 0, 0, 0, 0, 0, 0],
-            [0, 0, 0, 0, 0, 0, 0, 0, 0],
-            [0, 0, 0, 0, 0, 0, 0, 0, 0],
-            [0, 0, 0, 0, 0, 0, 0, 0, 0],
-            [0, 0, 0, 0, 0, 0, 0, 0, 0],
-            [0, 0, 0, 0, 0, 0, 0, 0, 0],
-            [0, 0, 0, 0, 0, 0, 0, 0, 0],
-            [0, 0, 0, 0, 0, 0, 0, 0, 0],
-            [0, 0, 0, 0, 0, 0, 0, 0, 0],
+            filling,
+            filling,
+            filling,
+            filling,
+            filling,
+            filling,
+            filling,
+            filling,
+            filling,
+            filling,
+            filling,
+            filling,
+            filling,
+            filling,
+            filling,
         ]
     }
 }
 
-#[derive(Clone, Copy)]
-pub struct CentralQuadrilateral;
+impl Polygon<4> for CentralPolygon<4> {
+    ghost polygon = { CentralQuadrilateral };
 
-impl CentralQuadrilateral {
-    pub const D: u32 = 24;
+    ghost few = { leb→le 4 8 tt };
 
-    pub const ANGLES: usize = 12;
+    ghost its_counts = { refl };
 
-    pub const CONDITIONS: usize = 5;
-
-    pub const FIXED: usize = 0;
-
-    pub(crate) fn counts() -> Counts
-        ensures { result ≡ counts_of Figure.CentralQuadrilateral }
-    {
-        counts_from(Self::D, Self::ANGLES, Self::CONDITIONS, Self::FIXED)
-    }
-
-    pub fn rows() -> Rows
-        ensures { result ≡ padded_rows Figure.CentralQuadrilateral }
-    {
+    fn table() -> Rows {
+        let filling = [0; MOST_CONDITIONS];
         [
             [-6, 2, 2, 2, -6, 0, 0, 0, 0],
             [-9, -1, -1, -1, 3, 0, 0, 0, 0],
@@ -91,43 +121,31 @@ impl CentralQuadrilateral {
             [2, 2, 2, -6, -6, 0, 0, 0, 0],
             [-1, -1, -1, -9, 3, 0, 0, 0, 0],
             [-1, -1, -1, -9, 3, 0, 0, 0, 0],
-            [0, 0, 0, 0, 0, 0, 0, 0, 0],
-            [0, 0, 0, 0, 0, 0, 0, 0, 0],
-            [0, 0, 0, 0, 0, 0, 0, 0, 0],
-            [0, 0, 0, 0, 0, 0, 0, 0, 0],
-            [0, 0, 0, 0, 0, 0, 0, 0, 0],
-            [0, 0, 0, 0, 0, 0, 0, 0, 0],
-            [0, 0, 0, 0, 0, 0, 0, 0, 0],
-            [0, 0, 0, 0, 0, 0, 0, 0, 0],
-            [0, 0, 0, 0, 0, 0, 0, 0, 0],
-            [0, 0, 0, 0, 0, 0, 0, 0, 0],
-            [0, 0, 0, 0, 0, 0, 0, 0, 0],
-            [0, 0, 0, 0, 0, 0, 0, 0, 0],
+            filling,
+            filling,
+            filling,
+            filling,
+            filling,
+            filling,
+            filling,
+            filling,
+            filling,
+            filling,
+            filling,
+            filling,
         ]
     }
 }
 
-#[derive(Clone, Copy)]
-pub struct CentralPentagon;
+impl Polygon<5> for CentralPolygon<5> {
+    ghost polygon = { CentralPentagon };
 
-impl CentralPentagon {
-    pub const D: u32 = 30;
+    ghost few = { leb→le 5 8 tt };
 
-    pub const ANGLES: usize = 15;
+    ghost its_counts = { refl };
 
-    pub const CONDITIONS: usize = 6;
-
-    pub const FIXED: usize = 0;
-
-    pub(crate) fn counts() -> Counts
-        ensures { result ≡ counts_of Figure.CentralPentagon }
-    {
-        counts_from(Self::D, Self::ANGLES, Self::CONDITIONS, Self::FIXED)
-    }
-
-    pub fn rows() -> Rows
-        ensures { result ≡ padded_rows Figure.CentralPentagon }
-    {
+    fn table() -> Rows {
+        let filling = [0; MOST_CONDITIONS];
         [
             [-8, 2, 2, 2, 2, -6, 0, 0, 0],
             [-11, -1, -1, -1, -1, 3, 0, 0, 0],
@@ -144,40 +162,28 @@ impl CentralPentagon {
             [2, 2, 2, 2, -8, -6, 0, 0, 0],
             [-1, -1, -1, -1, -11, 3, 0, 0, 0],
             [-1, -1, -1, -1, -11, 3, 0, 0, 0],
-            [0, 0, 0, 0, 0, 0, 0, 0, 0],
-            [0, 0, 0, 0, 0, 0, 0, 0, 0],
-            [0, 0, 0, 0, 0, 0, 0, 0, 0],
-            [0, 0, 0, 0, 0, 0, 0, 0, 0],
-            [0, 0, 0, 0, 0, 0, 0, 0, 0],
-            [0, 0, 0, 0, 0, 0, 0, 0, 0],
-            [0, 0, 0, 0, 0, 0, 0, 0, 0],
-            [0, 0, 0, 0, 0, 0, 0, 0, 0],
-            [0, 0, 0, 0, 0, 0, 0, 0, 0],
+            filling,
+            filling,
+            filling,
+            filling,
+            filling,
+            filling,
+            filling,
+            filling,
+            filling,
         ]
     }
 }
 
-#[derive(Clone, Copy)]
-pub struct CentralHexagon;
+impl Polygon<6> for CentralPolygon<6> {
+    ghost polygon = { CentralHexagon };
 
-impl CentralHexagon {
-    pub const D: u32 = 36;
+    ghost few = { leb→le 6 8 tt };
 
-    pub const ANGLES: usize = 18;
+    ghost its_counts = { refl };
 
-    pub const CONDITIONS: usize = 7;
-
-    pub const FIXED: usize = 0;
-
-    pub(crate) fn counts() -> Counts
-        ensures { result ≡ counts_of Figure.CentralHexagon }
-    {
-        counts_from(Self::D, Self::ANGLES, Self::CONDITIONS, Self::FIXED)
-    }
-
-    pub fn rows() -> Rows
-        ensures { result ≡ padded_rows Figure.CentralHexagon }
-    {
+    fn table() -> Rows {
+        let filling = [0; MOST_CONDITIONS];
         [
             [-10, 2, 2, 2, 2, 2, -6, 0, 0],
             [-13, -1, -1, -1, -1, -1, 3, 0, 0],
@@ -197,37 +203,25 @@ impl CentralHexagon {
             [2, 2, 2, 2, 2, -10, -6, 0, 0],
             [-1, -1, -1, -1, -1, -13, 3, 0, 0],
             [-1, -1, -1, -1, -1, -13, 3, 0, 0],
-            [0, 0, 0, 0, 0, 0, 0, 0, 0],
-            [0, 0, 0, 0, 0, 0, 0, 0, 0],
-            [0, 0, 0, 0, 0, 0, 0, 0, 0],
-            [0, 0, 0, 0, 0, 0, 0, 0, 0],
-            [0, 0, 0, 0, 0, 0, 0, 0, 0],
-            [0, 0, 0, 0, 0, 0, 0, 0, 0],
+            filling,
+            filling,
+            filling,
+            filling,
+            filling,
+            filling,
         ]
     }
 }
 
-#[derive(Clone, Copy)]
-pub struct CentralHeptagon;
+impl Polygon<7> for CentralPolygon<7> {
+    ghost polygon = { CentralHeptagon };
 
-impl CentralHeptagon {
-    pub const D: u32 = 42;
+    ghost few = { leb→le 7 8 tt };
 
-    pub const ANGLES: usize = 21;
+    ghost its_counts = { refl };
 
-    pub const CONDITIONS: usize = 8;
-
-    pub const FIXED: usize = 0;
-
-    pub(crate) fn counts() -> Counts
-        ensures { result ≡ counts_of Figure.CentralHeptagon }
-    {
-        counts_from(Self::D, Self::ANGLES, Self::CONDITIONS, Self::FIXED)
-    }
-
-    pub fn rows() -> Rows
-        ensures { result ≡ padded_rows Figure.CentralHeptagon }
-    {
+    fn table() -> Rows {
+        let filling = [0; MOST_CONDITIONS];
         [
             [-12, 2, 2, 2, 2, 2, 2, -6, 0],
             [-15, -1, -1, -1, -1, -1, -1, 3, 0],
@@ -250,34 +244,21 @@ impl CentralHeptagon {
             [2, 2, 2, 2, 2, 2, -12, -6, 0],
             [-1, -1, -1, -1, -1, -1, -15, 3, 0],
             [-1, -1, -1, -1, -1, -1, -15, 3, 0],
-            [0, 0, 0, 0, 0, 0, 0, 0, 0],
-            [0, 0, 0, 0, 0, 0, 0, 0, 0],
-            [0, 0, 0, 0, 0, 0, 0, 0, 0],
+            filling,
+            filling,
+            filling,
         ]
     }
 }
 
-#[derive(Clone, Copy)]
-pub struct CentralOctagon;
+impl Polygon<8> for CentralPolygon<8> {
+    ghost polygon = { CentralOctagon };
 
-impl CentralOctagon {
-    pub const D: u32 = 48;
+    ghost few = { leb→le 8 8 tt };
 
-    pub const ANGLES: usize = 24;
+    ghost its_counts = { refl };
 
-    pub const CONDITIONS: usize = 9;
-
-    pub const FIXED: usize = 0;
-
-    pub(crate) fn counts() -> Counts
-        ensures { result ≡ counts_of Figure.CentralOctagon }
-    {
-        counts_from(Self::D, Self::ANGLES, Self::CONDITIONS, Self::FIXED)
-    }
-
-    pub fn rows() -> Rows
-        ensures { result ≡ padded_rows Figure.CentralOctagon }
-    {
+    fn table() -> Rows {
         [
             [-14, 2, 2, 2, 2, 2, 2, 2, -6],
             [-17, -1, -1, -1, -1, -1, -1, -1, 3],
@@ -304,20 +285,5 @@ impl CentralOctagon {
             [-1, -1, -1, -1, -1, -1, -1, -17, 3],
             [-1, -1, -1, -1, -1, -1, -1, -17, 3],
         ]
-    }
-}
-
-// No side of a central polygon is known.
-const SIDES: usize = 0;
-
-fn counts_from(denominator: u32, angles: usize, conditions: usize, fixed: usize) -> Counts
-    ensures { result ≡ counts_from denominator angles conditions fixed 0 }
-{
-    Counts {
-        denominator,
-        angles,
-        conditions,
-        fixed,
-        sides: SIDES,
     }
 }

@@ -1,40 +1,40 @@
 // Code 1, n = 0: the geodetic quadrilateral of document 01.
-ghost use Rattle.std.specs.Prelude.{◌≡◌};
-ghost use Rattle.figures.specs.Figure.{counts_of};
-ghost use Rattle.figures.specs.Numerators.{padded_rows};
+ghost use Rattle.std.specs.Prelude.{refl};
+ghost use Rattle.figures.specs.declared.Figure.TheVariants.{Quadrilateral};
 
-use figures::{Counts, Figure, MOST_CONDITIONS, Rows};
+use crate::figure_table::FigureTable;
+use figures::{MOST_CONDITIONS, Rows};
 
 #[derive(Clone, Copy)]
 pub struct Quadrilateral;
 
-impl Quadrilateral {
-    pub const D: u32 = 8;
+impl FigureTable for Quadrilateral {
+    const D: u32 = 8;
 
-    pub const ANGLES: usize = 8;
+    const ANGLES: usize = 8;
 
-    pub const CONDITIONS: usize = 3;
+    const CONDITIONS: usize = 3;
 
-    pub const FIXED: usize = 0;
+    const FIXED: usize = 0;
 
-    pub const SIDES: usize = 0;
+    const SIDES: usize = 0;
 
-    pub(crate) fn counts() -> Counts
-        ensures { result ≡ counts_of Figure.Quadrilateral }
-    {
-        Counts {
-            denominator: Self::D,
-            angles: Self::ANGLES,
-            conditions: Self::CONDITIONS,
-            fixed: Self::FIXED,
-            sides: Self::SIDES,
-        }
-    }
+    ghost D = { 8 };
 
-    // The rows of document 01 over D, filled with 0 past the figure's conditions and angles; the angles of a pair have the same row.
-    pub fn rows() -> Rows
-        ensures { result ≡ padded_rows Figure.Quadrilateral }
-    {
+    ghost ANGLES = { 8 };
+
+    ghost CONDITIONS = { 3 };
+
+    ghost FIXED = { 0 };
+
+    ghost SIDES = { 0 };
+
+    ghost figure = { Quadrilateral };
+
+    ghost counted = { refl };
+
+    // The angles of a pair have the same row.
+    fn rows() -> Rows {
         let angles_1_2 = [-3, 2, -1, 0, 0, 0, 0, 0, 0];
         let angles_3_4 = [-1, -2, 1, 0, 0, 0, 0, 0, 0];
         let angles_5_6 = [1, -2, -1, 0, 0, 0, 0, 0, 0];

@@ -8,39 +8,51 @@ ghost use Rattle.figures.specs.Rows.{quadrilateral_signs, triangle_signs};
 ghost use Rattle.whole.specs.Lists.{padded};
 
 mod central_polygons;
+mod figure_table;
 mod geodetic_quadrilateral;
 mod point_in_quadrilateral;
 mod point_in_triangle;
 
-pub use central_polygons::{
-    CentralHeptagon, CentralHexagon, CentralOctagon, CentralPentagon, CentralQuadrilateral,
-    CentralTriangle,
-};
+pub use central_polygons::CentralPolygon;
+pub use figure_table::FigureTable;
 use figures::{Counts, Figure, MOST_ANGLES};
 pub use geodetic_quadrilateral::Quadrilateral;
 pub use point_in_quadrilateral::PointInQuadrilateral;
 pub use point_in_triangle::PointInTriangle;
 
+// The one choice of a type by its figure that has no work to do: each arm reads its constants.
 pub fn counts_of(figure: Figure) -> Counts
     ensures { result ≡ counts_of figure }
 {
     match figure {
-        Figure::Quadrilateral => Quadrilateral::counts(),
-        Figure::PointInTriangle => PointInTriangle::counts(),
-        Figure::PointInQuadrilateral => PointInQuadrilateral::counts(),
-        Figure::CentralTriangle => CentralTriangle::counts(),
-        Figure::CentralQuadrilateral => CentralQuadrilateral::counts(),
-        Figure::CentralPentagon => CentralPentagon::counts(),
-        Figure::CentralHexagon => CentralHexagon::counts(),
-        Figure::CentralHeptagon => CentralHeptagon::counts(),
-        Figure::CentralOctagon => CentralOctagon::counts(),
+        Figure::Quadrilateral => counts::<Quadrilateral>(),
+        Figure::PointInTriangle => counts::<PointInTriangle>(),
+        Figure::PointInQuadrilateral => counts::<PointInQuadrilateral>(),
+        Figure::CentralTriangle => counts::<CentralPolygon<3>>(),
+        Figure::CentralQuadrilateral => counts::<CentralPolygon<4>>(),
+        Figure::CentralPentagon => counts::<CentralPolygon<5>>(),
+        Figure::CentralHexagon => counts::<CentralPolygon<6>>(),
+        Figure::CentralHeptagon => counts::<CentralPolygon<7>>(),
+        Figure::CentralOctagon => counts::<CentralPolygon<8>>(),
+    }
+}
+
+fn counts<F: FigureTable>() -> Counts
+    ensures { result ≡ counts_of F.figure }
+{
+    Counts {
+        denominator: F::D,
+        angles: F::ANGLES,
+        conditions: F::CONDITIONS,
+        fixed: F::FIXED,
+        sides: F::SIDES,
     }
 }
 
 // The sine sign of each angle; past the figure's angles the array says nothing.
 pub type Signs = [i8; MOST_ANGLES];
 
-// The signs in the pole.
+// The signs in the pole. Of two rows: one of the trait's constants for each figure would say the second eight times.
 pub fn signs_of(figure: Figure) -> Signs
     ensures { take (angle_count figure) result ≡ (pole figure).signs }
 {

@@ -1,40 +1,40 @@
 // Code 2, n = 4: a point in a known quadrilateral, of document 02, M-100.
-ghost use Rattle.std.specs.Prelude.{◌≡◌};
-ghost use Rattle.figures.specs.Figure.{counts_of};
-ghost use Rattle.figures.specs.Numerators.{padded_rows};
+ghost use Rattle.std.specs.Prelude.{refl};
+ghost use Rattle.figures.specs.declared.Figure.TheVariants.{PointInQuadrilateral};
 
-use figures::{Counts, Figure, MOST_CONDITIONS, Rows};
+use crate::figure_table::FigureTable;
+use figures::{MOST_CONDITIONS, Rows};
 
 #[derive(Clone, Copy)]
 pub struct PointInQuadrilateral;
 
-impl PointInQuadrilateral {
-    pub const D: u32 = 24;
+impl FigureTable for PointInQuadrilateral {
+    const D: u32 = 24;
 
-    pub const ANGLES: usize = 12;
+    const ANGLES: usize = 12;
 
-    pub const CONDITIONS: usize = 8;
+    const CONDITIONS: usize = 8;
 
-    pub const FIXED: usize = 4;
+    const FIXED: usize = 4;
 
-    pub const SIDES: usize = 2;
+    const SIDES: usize = 2;
 
-    pub(crate) fn counts() -> Counts
-        ensures { result ≡ counts_of Figure.PointInQuadrilateral }
-    {
-        Counts {
-            denominator: Self::D,
-            angles: Self::ANGLES,
-            conditions: Self::CONDITIONS,
-            fixed: Self::FIXED,
-            sides: Self::SIDES,
-        }
-    }
+    ghost D = { 24 };
 
-    // The rows of M-100 over D, filled with 0 past the figure's conditions and angles.
-    pub fn rows() -> Rows
-        ensures { result ≡ padded_rows Figure.PointInQuadrilateral }
-    {
+    ghost ANGLES = { 12 };
+
+    ghost CONDITIONS = { 8 };
+
+    ghost FIXED = { 4 };
+
+    ghost SIDES = { 2 };
+
+    ghost figure = { PointInQuadrilateral };
+
+    ghost counted = { refl };
+
+    // The rows of M-100.
+    fn rows() -> Rows {
         let filling = [0; MOST_CONDITIONS];
         [
             [-14, -4, -2, -4, 9, 9, 3, 3, 0],

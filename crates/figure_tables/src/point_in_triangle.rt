@@ -1,40 +1,39 @@
 // Code 2, n = 3: a point in a known triangle, of document 01.
-ghost use Rattle.std.specs.Prelude.{◌≡◌};
-ghost use Rattle.figures.specs.Figure.{counts_of};
-ghost use Rattle.figures.specs.Numerators.{padded_rows};
+ghost use Rattle.std.specs.Prelude.{refl};
+ghost use Rattle.figures.specs.declared.Figure.TheVariants.{PointInTriangle};
 
-use figures::{Counts, Figure, MOST_CONDITIONS, Rows};
+use crate::figure_table::FigureTable;
+use figures::{MOST_CONDITIONS, Rows};
 
 #[derive(Clone, Copy)]
 pub struct PointInTriangle;
 
-impl PointInTriangle {
-    pub const D: u32 = 10;
+impl FigureTable for PointInTriangle {
+    const D: u32 = 10;
 
-    pub const ANGLES: usize = 9;
+    const ANGLES: usize = 9;
 
-    pub const CONDITIONS: usize = 6;
+    const CONDITIONS: usize = 6;
 
-    pub const FIXED: usize = 3;
+    const FIXED: usize = 3;
 
-    pub const SIDES: usize = 0;
+    const SIDES: usize = 0;
 
-    pub(crate) fn counts() -> Counts
-        ensures { result ≡ counts_of Figure.PointInTriangle }
-    {
-        Counts {
-            denominator: Self::D,
-            angles: Self::ANGLES,
-            conditions: Self::CONDITIONS,
-            fixed: Self::FIXED,
-            sides: Self::SIDES,
-        }
-    }
+    ghost D = { 10 };
 
-    // The rows of document 01 over D, filled with 0 past the figure's conditions and angles.
-    pub fn rows() -> Rows
-        ensures { result ≡ padded_rows Figure.PointInTriangle }
-    {
+    ghost ANGLES = { 9 };
+
+    ghost CONDITIONS = { 6 };
+
+    ghost FIXED = { 3 };
+
+    ghost SIDES = { 0 };
+
+    ghost figure = { PointInTriangle };
+
+    ghost counted = { refl };
+
+    fn rows() -> Rows {
         let filling = [0; MOST_CONDITIONS];
         [
             [-6, -2, -2, 4, 4, 2, 0, 0, 0],

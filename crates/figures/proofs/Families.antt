@@ -6,8 +6,8 @@ use Rattle.vocabulary.specs.{sym, ap, ap₂, ◌∙◌, eqb→eq, lit<, +ℤ_idr
 use Rattle.refusals.specs.Table.{fixed_sum}
 use Rattle.whole.specs.{Lists.every, Lists.every_below, Lists.listed, Sums.sum}
 use Rattle.whole.proofs.{Computed.and_left, Computed.and_right, Computed.every_at, Computed.every_below_lem, Sums.sum_front}
-use Rattle.figures.specs.{declared.Figure.Figure, declared.Figure.TheVariants.Quadrilateral, declared.Target.Target}
-use Rattle.figures.specs.declared.Target.TheVariants.{HalfTurn, FullTurn, FixedAngle, NoCondition}
+use Rattle.figures.specs.{declared.Figure.Figure, declared.Figure.TheVariants.Quadrilateral, Figure.Target}
+use Rattle.figures.specs.Figure.{HalfTurn, FullTurn, FixedAngle, NoCondition}
 use Rattle.figures.specs.Figure.{description, all_figures, angle_count, condition_count, fixed_count, members_of, target_of, horizon}
 use Rattle.figures.specs.Numerators.{sum_over, condition_sum, horizon_sum}
 use Rattle.figures.proofs.Figures.{each_figure}

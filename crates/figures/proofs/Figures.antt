@@ -5,9 +5,9 @@ use Rattle.std.specs.Prelude.{get_or, ℤ, pos, negsuc, nat_abs}
 use Rattle.vocabulary.specs.{sym, ap, subst, zero-le, arith, eqb→eq, leb→le, lit<, list-get_or_eq_default}
 use Rattle.whole.specs.{Sums.sum, Sums.dot, Sums.composed, Sums.table, Lists.every, Lists.every_below}
 use Rattle.whole.proofs.Computed.{and_left, and_right, every_at, every_below_lem}
-use Rattle.figures.specs.{declared.Figure.Figure, declared.Target.Target}
+use Rattle.figures.specs.{declared.Figure.Figure, Figure.Target}
 use Rattle.figures.specs.declared.Figure.TheVariants.{Quadrilateral, PointInTriangle, PointInQuadrilateral, CentralTriangle, CentralQuadrilateral, CentralPentagon, CentralHexagon, CentralHeptagon, CentralOctagon}
-use Rattle.figures.specs.declared.Target.TheVariants.{HalfTurn, FullTurn, FixedAngle, NoCondition}
+use Rattle.figures.specs.Figure.{HalfTurn, FullTurn, FixedAngle, NoCondition}
 use Rattle.figures.specs.Figure.{Condition, SineCondition, description, all_figures, denominator, angle_count, condition_count, fixed_count, members_of, target_of, pole, side, has_side, no_sine, side_count}
 use Rattle.figures.specs.Numerators.{most_angles, most_conditions, most_members, most_sides}
 use Rattle.figures.proofs.LeastSquares.{Certified}

@@ -1,11 +1,18 @@
 -- The eight figures of document 01, "The eight figures", and the ninth of document 02, M-100, in their numbering: corners, triangles,
 -- angles, conditions, fixed angles and sides count from 1.
+use Rattle.std.specs.Prelude.{None, Option, Some}
 use Rattle.std.specs.Prelude.{ℕ, zero, suc, ◌-◌, ◌*◌, Bool, cond, ◌&&◌, List, [], ◌∷◌, ◌++◌, map, eqb, length, get_or, replicate, ℤ, pos}
-use Rattle.figures.specs.{declared.Figure.Figure, declared.Named.Named, declared.Target.Target, declared.Name.Name}
+use Rattle.figures.specs.{declared.Figure.Figure, declared.Name.Name}
 use Rattle.figures.specs.declared.Figure.TheVariants.{Quadrilateral, PointInTriangle, PointInQuadrilateral, CentralTriangle, CentralQuadrilateral, CentralPentagon, CentralHexagon, CentralHeptagon, CentralOctagon}
-use Rattle.figures.specs.{declared.Named.TheVariants.As, declared.Named.TheVariants.Nothing, declared.Counts.Counts}
-use Rattle.figures.specs.declared.Target.TheVariants.{HalfTurn, FullTurn, FixedAngle, NoCondition}
+use Rattle.figures.specs.declared.Counts.{Counts}
 use Rattle.figures.specs.Rows.{each_of, minus, quadrilateral_rows, quadrilateral_signs, point_in_triangle_rows, point_in_quadrilateral_rows, central_polygon_rows, triangle_signs, signs_from}
+
+-- what the angles of a condition should sum to: 180°, 360°, or a fixed angle by its number
+pub data Target : Type 0 where
+  HalfTurn : Target
+  FullTurn : Target
+  FixedAngle : (number : ℕ) → Target
+  NoCondition : Target
 
 -- the angles that a condition joins, and what they should sum to
 pub record Condition : Type 0 where
@@ -140,11 +147,11 @@ all_figures =
     ∷ []
 
 -- the figure that a code and an n name
-abbrev pub named_among : List Figure → ℕ → ℕ → Named
-named_among [] code n = Nothing
-named_among (f ∷ others) code n = cond (eqb code (description f).code && eqb n (description f).n) (As f) (named_among others code n)
+abbrev pub named_among : List Figure → ℕ → ℕ → Option Figure
+named_among [] code n = None
+named_among (f ∷ others) code n = cond (eqb code (description f).code && eqb n (description f).n) (Some f) (named_among others code n)
 
-unfoldable pub figure_of : ℕ → ℕ → Named
+unfoldable pub figure_of : ℕ → ℕ → Option Figure
 figure_of code n = named_among all_figures code n
 
 -- the code and n of each figure
@@ -152,9 +159,9 @@ abbrev pub figure_names : List (List ℕ)
 figure_names = map (λ f. (description f).code ∷ (description f).n ∷ []) all_figures
 
 -- what the figure has that is named, where one is
-abbrev pub of_named : {A : Type 0} → Named → (none : A) → (Figure → A) → A
-of_named Nothing none some = none
-of_named (As f) none some = some f
+abbrev pub of_named : {A : Type 0} → Option Figure → (none : A) → (Figure → A) → A
+of_named None none some = none
+of_named (Some f) none some = some f
 
 -- ---- what the code asks of a figure
 

@@ -6,7 +6,7 @@ ghost use Rattle.std.specs.Prelude.{◌≡◌};
 ghost use Rattle.figures.specs.Figure.{figure_of, name_of};
 
 // The figures, and no others: no wrong figure can be written down.
-#[derive(Clone, Copy)]
+#[derive(Clone, Copy, Debug, PartialEq, Eq)]
 pub enum Figure {
     Quadrilateral,
     PointInTriangle,
@@ -19,30 +19,14 @@ pub enum Figure {
     CentralOctagon,
 }
 
-// What a code and an n name.
-#[derive(Clone, Copy)]
-pub enum Named {
-    As(Figure),
-    Nothing,
-}
-
-// What the angles of a condition should sum to: 180°, 360°, or a fixed angle by its number.
-#[derive(Clone, Copy)]
-pub enum Target {
-    HalfTurn,
-    FullTurn,
-    FixedAngle(usize),
-    NoCondition,
-}
-
-// The code and n that name a figure.
-#[derive(Clone, Copy)]
+// The code and n that name a figure. A caller's two numbers stay two until they name one (`figure_of`): not every pair does.
+#[derive(Clone, Copy, Debug, PartialEq, Eq)]
 pub struct Name {
     pub code: u32,
     pub n: u32,
 }
 
-#[derive(Clone, Copy)]
+#[derive(Clone, Copy, Debug, PartialEq, Eq)]
 pub struct Counts {
     pub denominator: u32,
     pub angles: usize,
@@ -63,37 +47,22 @@ pub const MOST_SIDES: usize = 2;
 // A figure's coefficient rows, one type for all figures: an array of arrays, with 0 where a figure has no angle or no condition.
 pub type Rows = [[i8; MOST_CONDITIONS]; MOST_ANGLES];
 
+// The figure that a code and an n name, if they name one.
 #[tactic(auto, unfolding(crate::specs::Figure::figure_of))]
-pub fn figure_of(code: u32, n: u32) -> Named
+pub fn figure_of(code: u32, n: u32) -> Option<Figure>
     ensures { result ≡ figure_of code n }
 {
-    match code {
-        1 => match n {
-            0 => Named::As(Figure::Quadrilateral),
-            _ => Named::Nothing,
-        },
-        2 => match n {
-            3 => Named::As(Figure::PointInTriangle),
-            4 => Named::As(Figure::PointInQuadrilateral),
-            _ => Named::Nothing,
-        },
-        3 => polygon_of(n),
-        _ => Named::Nothing,
-    }
-}
-
-#[tactic(auto, unfolding(crate::specs::Figure::figure_of))]
-fn polygon_of(n: u32) -> Named
-    ensures { result ≡ figure_of 3 n }
-{
-    match n {
-        3 => Named::As(Figure::CentralTriangle),
-        4 => Named::As(Figure::CentralQuadrilateral),
-        5 => Named::As(Figure::CentralPentagon),
-        6 => Named::As(Figure::CentralHexagon),
-        7 => Named::As(Figure::CentralHeptagon),
-        8 => Named::As(Figure::CentralOctagon),
-        _ => Named::Nothing,
+    match (code, n) {
+        (1, 0) => Some(Figure::Quadrilateral),
+        (2, 3) => Some(Figure::PointInTriangle),
+        (2, 4) => Some(Figure::PointInQuadrilateral),
+        (3, 3) => Some(Figure::CentralTriangle),
+        (3, 4) => Some(Figure::CentralQuadrilateral),
+        (3, 5) => Some(Figure::CentralPentagon),
+        (3, 6) => Some(Figure::CentralHexagon),
+        (3, 7) => Some(Figure::CentralHeptagon),
+        (3, 8) => Some(Figure::CentralOctagon),
+        _ => None,
     }
 }
 

@@ -6,6 +6,6 @@ mod search;
 mod tests;
 
 pub use tests::{
-    angles_verdict, fixed_sum_verdict, fixed_verdict, lengths_verdict, limit_or_tolerance_verdict,
-    misclosures_verdict, results_verdict, rounds_verdict, sine_entries_verdict, squares_verdict,
+    check_angles, check_fixed, check_fixed_sum, check_lengths, check_limit_or_tolerance,
+    check_misclosures, check_results, check_rounds, check_sine_entries, check_squares,
 };

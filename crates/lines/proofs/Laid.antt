@@ -1,52 +1,37 @@
 -- Texts laid one after the other, and how lines and tables are made of them. Assumes nothing.
-use Rattle.std.specs.Prelude.{◌≡◌, refl, List, [], ◌∷◌, ◌++◌, ℕ, zero, suc, ◌+◌, ◌^◌, ◌≤◌, ◌<◌, ℤ, length}
-use Rattle.vocabulary.specs.{w32, sym, ap, ◌∙◌, subst, append_assoc, append-nil, add-one, arith, mag, w64, to_z, of_z, to_z-of_z}
+use Rattle.std.specs.Prelude.{◌≡◌, refl, List, [], ◌∷◌, ◌++◌, ℕ, ◌+◌, ◌^◌, ◌<◌, ℤ, pos, length, take, get_or}
+use Rattle.std.proofs.lemmas.List.{take_more}
+use Rattle.vocabulary.specs.{w32, sym, ap, ap₂, ◌∙◌, append_assoc, append-nil, map-append, mag, w64, to_z, of_z, to_z-of_z}
 use Rattle.whole.specs.Lists.{listed}
-use Rattle.text.specs.{Text.space, Text.line_feed, Text.decimal, Text.spaced, Text.line, Text.lines, Text.laid, Text.after, Holds.Holds}
-use Rattle.text.proofs.{Laying.holds_none, Laying.holds_more, Lines.lines_listed}
-use Rattle.lines.specs.{Lays.Lays, Lays.line_start, Lines.numbers}
+use Rattle.text.specs.Page.{Place, laid_on}
+use Rattle.text.specs.Text.{space, line_feed, decimal, spaced, line, lines}
+use Rattle.text.proofs.{Laying.laid_on_append, Lines.lines_listed}
+use Rattle.lines.specs.{Lays.line_start, Lays.numbers_ended, Lines.numbers}
 
 -- ---- One after the other
 
-pub lays_none : (buffer : List ℕ) (at : ℕ) → Lays [] buffer at buffer at
-lays_none buffer at = record { more = λ start t held. rw (append-nil t) held }
+-- as `Lays` has it, of the names of a page's slice before and after, and of where the page stood and stands
+abbrev pub Laid : {N : Type 0} → (s : List ℕ) → (a b : N) → (p q : Place) → Type 0
+Laid s a b p q = (b ≡ a) × (q ≡ laid_on p s)
 
-pub lays_laid : {s buffer buffer' : List ℕ} {at at' : ℕ} → buffer' ≡ laid buffer at s → at' ≡ after (length buffer) at s → Lays s buffer at buffer' at'
-lays_laid {s} e p = record { more = λ start t held. holds_more held s e p }
+module _ {N : Type 0} {a b : N} (p : Place) {q : Place} where
+  -- the same text, put another way
+  pub lays_as : {s s' : List ℕ} → s ≡ s' → Laid s a b p q → Laid s' a b p q
+  lays_as e lays = (lays.0, lays.1 ∙ ap (laid_on p) e)
 
-module _ {s s' buffer buffer' buffer'' : List ℕ} {at at' at'' : ℕ} where
-  pub lays_then : Lays s buffer at buffer' at' → Lays s' buffer' at' buffer'' at'' → Lays (s ++ s') buffer at buffer'' at''
-  lays_then first second = record {
-    more = λ start t held. subst (λ (l : List ℕ). Holds start l buffer'' at'') (append_assoc t s s') (second.more start (t ++ s) (first.more start t held));
-  }
+  pub lays_then : (s s' : List ℕ) {c : N} {r : Place} → Laid s a b p q → Laid s' b c q r → Laid (s ++ s') a c p r
+  lays_then s s' before next = (next.0 ∙ before.0, next.1 ∙ ap (λ (x : Place). laid_on x s') before.1 ∙ laid_on_append p s s')
 
--- the same text, put another way
-pub lays_as : {s s' buffer buffer' : List ℕ} {at at' : ℕ} → s ≡ s' → Lays s buffer at buffer' at' → Lays s' buffer at buffer' at'
-lays_as {s} {s'} {buffer} {buffer'} {at} {at'} e lays = subst (λ (l : List ℕ). Lays l buffer at buffer' at') e lays
+-- lines after a text, laid one by one, as a loop lays them
+module _ {N : Type 0} {a b : N} (p : Place) {q : Place} (t : List ℕ) (f : ℕ → List (List ℕ)) where
+  pub lines_begun : Laid t a b p q → Laid (t ++ lines (listed 0 f)) a b p q
+  unfolding lines listed
+  lines_begun lays = lays_as p (sym (append-nil t)) lays
 
--- from the start
-pub lays_start : {s start buffer : List ℕ} {at : ℕ} → Lays s start 0 buffer at → Holds start s buffer at
-lays_start {s} {start} lays = lays.more start [] (holds_none start)
-
--- ---- Lines
-
--- what a loop keeps that lays a line for each angle or condition: the first `done` of `count` lines are laid
-pub record Printing (f : ℕ → List (List ℕ)) (count : ℕ) (start : List ℕ) (from : ℕ) (buffer : List ℕ) (at done : ℕ) : Type 0 where
-  pub within : done ≤ count
-  pub size : length buffer ≡ length start
-  pub text : Lays (lines (listed done f)) start from buffer at
-
-pub printing_none : (f : ℕ → List (List ℕ)) (count : ℕ) (start : List ℕ) (from : ℕ) → Printing f count start from start from 0
-unfolding lines listed
-printing_none f count start from = record { within = omega arith; size = refl; text = lays_none start from }
-
-module _ {f : ℕ → List (List ℕ)} {count : ℕ} {start : List ℕ} {from : ℕ} {buffer : List ℕ} {at done : ℕ} (so_far : Printing f count start from buffer at done) where
-  pub printing_more : {buffer' : List ℕ} {at' : ℕ} → done < count → length buffer' ≡ length buffer → Lays (line (f done)) buffer at buffer' at'
-      → Printing f count start from buffer' at' (done + 1)
-  printing_more h e next = record { within = omega arith; size = e ∙ so_far.size; text = lays_as (sym (lines_listed done f)) (lays_then so_far.text next) }
-
-  pub printing_all : count ≤ done → Lays (lines (listed count f)) start from buffer at
-  printing_all h = let all : done ≡ count = omega arith in lays_as (ap (λ (k : ℕ). lines (listed k f)) all) so_far.text
+  pub lines_more : (n : ℕ) {c : N} {r : Place} → Laid (t ++ lines (listed n f)) a b p q → Laid (line (f n)) b c q r → Laid (t ++ lines (listed (n + 1) f)) a c p r
+  lines_more n so_far next =
+      lays_as p (append_assoc t (lines (listed n f)) (line (f n)) ∙ ap (λ (l : List ℕ). t ++ l) (sym (lines_listed n f)))
+      (lays_then p (t ++ lines (listed n f)) (line (f n)) so_far next)
 
 -- ---- The parts of a line
 
@@ -75,53 +60,38 @@ unfolding line_start
 part_line p q ps = start_line (p ∷ []) q ps
 
 -- how a line begins, and what stands after that on the line
-module _ {buffer buffer' buffer'' : List ℕ} {at at' at'' : ℕ} where
-  pub lays_parts : (ps qs : List (List ℕ)) → Lays (line_start ps) buffer at buffer' at' → Lays (line_start qs) buffer' at' buffer'' at''
-      → Lays (line_start (ps ++ qs)) buffer at buffer'' at''
-  lays_parts ps qs first second = lays_as (start_more ps qs) (lays_then first second)
+module _ {N : Type 0} {a b c : N} (x : Place) {y z : Place} where
+  pub lays_parts : (ps qs : List (List ℕ)) → Laid (line_start ps) a b x y → Laid (line_start qs) b c y z
+      → Laid (line_start (ps ++ qs)) a c x z
+  lays_parts ps qs before next = lays_as x (start_more ps qs) (lays_then x (line_start ps) (line_start qs) before next)
 
-  pub lays_line : (ps : List (List ℕ)) (q : List ℕ) (qs : List (List ℕ)) → Lays (line_start ps) buffer at buffer' at'
-      → Lays (line (q ∷ qs)) buffer' at' buffer'' at'' → Lays (line (ps ++ (q ∷ qs))) buffer at buffer'' at''
-  lays_line ps q qs first second = lays_as (start_line ps q qs) (lays_then first second)
+  pub lays_line : (ps : List (List ℕ)) (q : List ℕ) (qs : List (List ℕ)) → Laid (line_start ps) a b x y
+      → Laid (line (q ∷ qs)) b c y z → Laid (line (ps ++ (q ∷ qs))) a c x z
+  lays_line ps q qs before next = lays_as x (start_line ps q qs) (lays_then x (line_start ps) (line (q ∷ qs)) before next)
 
 -- a part with the byte after it
-module _ (p : List ℕ) {buffer buffer' : List ℕ} {at at' : ℕ} where
-  pub part_start : Lays (p ++ (space ∷ [])) buffer at buffer' at' → Lays (line_start (p ∷ [])) buffer at buffer' at'
+module _ (p : List ℕ) {N : Type 0} {a b : N} (x : Place) {y : Place} where
+  pub part_start : Laid (p ++ (space ∷ [])) a b x y → Laid (line_start (p ∷ [])) a b x y
   unfolding line_start
   part_start lays = lays
 
-  pub part_last : Lays (p ++ (line_feed ∷ [])) buffer at buffer' at' → Lays (line (p ∷ [])) buffer at buffer' at'
+  pub part_last : Laid (p ++ (line_feed ∷ [])) a b x y → Laid (line (p ∷ [])) a b x y
   unfolding line spaced
   part_last lays = lays
 
--- one number more, as a loop lays it
-numbers_more : (n : ℕ) (v : ℕ → ℤ) → numbers (listed n v) ++ (decimal (v n) ∷ []) ≡ numbers (listed (n + 1) v)
-unfolding listed
-numbers_more n v = go n v ∙ ap (λ (k : ℕ). numbers (listed k v)) (sym (add-one n))
-  where
-    go : (n : ℕ) (v : ℕ → ℤ) → numbers (listed n v) ++ (decimal (v n) ∷ []) ≡ numbers (listed (suc n) v)
-    go zero v = refl
-    go (suc n) v = ap (λ (l : List (List ℕ)). decimal (v 0) ∷ l) (go n (λ i. v (suc i)))
+-- numbers that are laid one by one, as a loop lays them: each but the first with a space before it
+spaced_more : (p : List ℕ) (ps : List (List ℕ)) (q : List ℕ) → spaced (p ∷ ps) ++ (space ∷ q) ≡ spaced (p ∷ (ps ++ (q ∷ [])))
+unfolding spaced
+spaced_more p [] q = refl
+spaced_more p (r ∷ ps) q =
+    append_assoc p (space ∷ spaced (r ∷ ps)) (space ∷ q) ∙ ap (λ (l : List ℕ). p ++ (space ∷ l)) (spaced_more r ps q)
 
--- and the last, with the byte that ends them
-start_ended : (ps : List (List ℕ)) (q : List ℕ) (end : ℕ) → line_start ps ++ (q ++ (end ∷ [])) ≡ spaced (ps ++ (q ∷ [])) ++ (end ∷ [])
-unfolding line_start spaced
-start_ended [] q end = refl
-start_ended (p ∷ []) q end = append_assoc p (space ∷ []) (q ++ (end ∷ [])) ∙ sym (append_assoc p (space ∷ q) (end ∷ []))
-start_ended (p ∷ r ∷ ps) q end =
-    append_assoc p (space ∷ line_start (r ∷ ps)) (q ++ (end ∷ []))
-    ∙ ap (λ (l : List ℕ). p ++ (space ∷ l)) (start_ended (r ∷ ps) q end)
-    ∙ sym (append_assoc p (space ∷ spaced (r ∷ (ps ++ (q ∷ [])))) (end ∷ []))
-
-module _ (n : ℕ) (v : ℕ → ℤ) where
-  pub number_started : line_start (numbers (listed n v)) ++ (decimal (v n) ++ (space ∷ [])) ≡ line_start (numbers (listed (n + 1) v))
-  unfolding line_start
-  number_started = start_more (numbers (listed n v)) (decimal (v n) ∷ []) ∙ ap line_start (numbers_more n v)
-
-  pub number_ended : (end : ℕ)
-      → line_start (numbers (listed n v)) ++ (decimal (v n) ++ (end ∷ [])) ≡ spaced (numbers (listed (n + 1) v)) ++ (end ∷ [])
-  number_ended end =
-      start_ended (numbers (listed n v)) (decimal (v n)) end ∙ ap (λ (l : List (List ℕ)). spaced l ++ (end ∷ [])) (numbers_more n v)
+pub number_more : (z : ℤ) (zs : List ℤ) (n : ℕ) → n < length zs
+    → spaced (numbers (z ∷ take n zs)) ++ (space ∷ decimal (get_or zs n (pos 0))) ≡ spaced (numbers (z ∷ take (n + 1) zs))
+number_more z zs n within =
+    let last = get_or zs n (pos 0) in
+    spaced_more (decimal z) (numbers (take n zs)) (decimal last)
+    ∙ ap (λ (l : List (List ℕ)). spaced (decimal z ∷ l)) (sym (map-append decimal (take n zs) (last ∷ [])) ∙ ap numbers (sym (take_more zs n (pos 0) within)))
 
 -- numbers that end in a space begin a line
 pub spaced_start : (p : List ℕ) (ps : List (List ℕ)) → spaced (p ∷ ps) ++ (space ∷ []) ≡ line_start (p ∷ ps)
@@ -132,10 +102,27 @@ spaced_start p (q ∷ ps) =
 
 -- ---- The numbers of a line, as its array holds them
 
+-- one more, before others
+pub number_then : {z z' : ℤ} {zs zs' : List ℤ} → z ≡ z' → zs ≡ zs' → z ∷ zs ≡ z' ∷ zs'
+number_then = ap₂ ◌∷◌
+
 -- what a call answered
 pub answered : {r z : ℤ} → mag r < 2 ^ 63 → r ≡ z → to_z w64 (of_z w64 r) ≡ z
 answered fits e = to_z-of_z {w = w64} (record { sfits = fits }) ∙ e
 
-pub six_same : {a b c d e f a' b' c' d' e' f' : ℤ} → a ≡ a' → b ≡ b' → c ≡ c' → d ≡ d' → e ≡ e' → f ≡ f'
-    → a ∷ b ∷ c ∷ d ∷ e ∷ f ∷ [] ≡ a' ∷ b' ∷ c' ∷ d' ∷ e' ∷ f' ∷ []
-six_same ea eb ec ed ee ef = cc
+-- what a value of a slice was widened to
+pub from_natural : {r : ℤ} {m n : ℕ} → mag r < 2 ^ 63 → r ≡ pos m → m ≡ n → to_z w64 (of_z w64 r) ≡ pos n
+from_natural fits e read = answered fits (e ∙ ap pos read)
+
+pub from_signed : {r y z : ℤ} → mag r < 2 ^ 63 → mag y < 2 ^ 31 → r ≡ to_z w32 (of_z w32 y) → y ≡ z → to_z w64 (of_z w64 r) ≡ z
+from_signed fits small e read = answered fits (e ∙ to_z-of_z {w = w32} (record { sfits = small }) ∙ read)
+
+-- they end their line
+pub numbers_line : {values : List ℤ} (zs : List ℤ) → values ≡ zs → numbers_ended values line_feed ≡ line (numbers zs)
+unfolding numbers_ended line
+numbers_line zs e = ap (λ (l : List ℤ). spaced (numbers l) ++ (line_feed ∷ [])) e
+
+-- after a word, which is given with the space after it
+pub word_line : (word : List ℕ) {values : List ℤ} (z : ℤ) (zs : List ℤ) → values ≡ z ∷ zs
+    → (word ++ (space ∷ [])) ++ numbers_ended values line_feed ≡ line (word ∷ numbers (z ∷ zs))
+word_line word z zs e = ap (λ (l : List ℕ). (word ++ (space ∷ [])) ++ l) (numbers_line (z ∷ zs) e) ∙ part_line word (decimal z) (numbers zs)

@@ -1,21 +1,15 @@
 -- What the functions lay, piece by piece, are the lines of the definitions. Assumes nothing.
-use Rattle.std.specs.Prelude.{◌≡◌, refl, Bool, true, false, List, [], ◌∷◌, ◌++◌, ℕ, ◌≤◌, T, ltb, ℤ, pos}
-use Rattle.vocabulary.specs.{sym, ap, ◌∙◌, bool-beq, append-nil, arith}
+use Rattle.std.specs.Prelude.{◌≡◌, refl, Bool, true, false, List, [], ◌∷◌, ◌++◌, ℕ, ◌≤◌, T, ltb, pos}
+use Rattle.vocabulary.specs.{sym, ap, ◌∙◌, bool-beq, append_assoc, append-nil, arith}
 use Rattle.whole.specs.Lists.{listed}
 use Rattle.refusals.specs.{declared.Refusal.Refusal, Numbers.number_of, Numbers.place_of}
 use Rattle.figures.specs.{declared.Figure.Figure, declared.Counts.Counts}
 use Rattle.figures.specs.Figure.{angle_count, condition_count, side_count, has_side, counts_of}
 use Rattle.figures.proofs.Figures.{each_figure, angle_bound, condition_bound}
-use Rattle.text.specs.{Text.space, Text.line_feed, Text.decimal, Text.spaced, Text.line, Text.lines, Holds.Holds}
+use Rattle.text.specs.{Text.space, Text.line_feed, Text.decimal, Text.spaced, Text.line, Text.lines}
 use Rattle.text.proofs.Lines.{lines_append}
-use Rattle.lines.specs.{Lays.Lays, Lines.refused_word, Lines.refused_lines, Lines.refused_text}
-use Rattle.lines.proofs.Laid.{lays_then, lays_as, lays_start, part_line}
-
--- ---- The figure's line
-
--- what fills the row of a line that has one number
-abbrev pub zeros : List ℤ
-zeros = pos 0 ∷ pos 0 ∷ pos 0 ∷ pos 0 ∷ pos 0 ∷ []
+use Rattle.lines.specs.{Lays.all_lines, Lines.refused_word, Lines.refused_lines, Lines.refused_text}
+use Rattle.lines.proofs.Laid.{part_line}
 
 -- ---- A side condition
 
@@ -36,18 +30,13 @@ pub few_lines : (f : Figure) {counts : Counts} → counts ≡ counts_of f → (c
 few_lines f counted =
     (omega (arith, ap (λ (r : Counts). r.angles) counted, angle_bound f), omega (arith, ap (λ (r : Counts). r.conditions) counted, condition_bound f))
 
--- the figure's line, then one for each of its angles and of its conditions
-module _ (f : Figure) (figure : List (List ℕ)) (angle condition : ℕ → List (List ℕ)) {counts : Counts} {start first second third : List ℕ} {at at' at'' : ℕ} where
-  pub text_laid_lem : counts ≡ counts_of f → Lays (line figure) start 0 first at → Lays (lines (listed counts.angles angle)) first at second at'
-      → Lays (lines (listed counts.conditions condition)) second at' third at''
-      → Holds start (lines (figure ∷ (listed (angle_count f) angle ++ listed (condition_count f) condition))) third at''
-  unfolding lines
-  text_laid_lem counted figure-laid angles-laid conditions-laid =
-      lays_start
-      (lays_as
-      (ap (λ (r : Counts). line figure ++ (lines (listed r.angles angle) ++ lines (listed r.conditions condition))) counted
-      ∙ ap (λ (l : List ℕ). line figure ++ l) (sym (lines_append (listed (angle_count f) angle) (listed (condition_count f) condition))))
-      (lays_then figure-laid (lays_then angles-laid conditions-laid)))
+-- the figure's line, then those of its angles, then those of its conditions
+pub all_text : (f : Figure) (figure : List (List ℕ)) (angle condition : ℕ → List (List ℕ))
+    → (line figure ++ lines (listed (angle_count f) angle)) ++ lines (listed (condition_count f) condition) ≡ lines (all_lines f figure angle condition)
+unfolding lines
+all_text f figure angle condition =
+    append_assoc (line figure) (lines (listed (angle_count f) angle)) (lines (listed (condition_count f) condition))
+    ∙ ap (λ (l : List ℕ). line figure ++ l) (sym (lines_append (listed (angle_count f) angle) (listed (condition_count f) condition)))
 
 -- ---- Turned back
 

@@ -1,14 +1,16 @@
 -- From the steps of a first pass to what it promises, of a figure that is named. Assumes nothing.
+use Rattle.std.specs.Prelude.{Err, None, Ok, Option, Some}
+use Rattle.refusals.specs.Numbers.{Verdict}
 use Rattle.std.specs.Prelude.{◌≡◌, refl, List, [], ◌∷◌, ℕ, ◌<◌, ℤ, nat_abs, ◌+ℤ◌, length, get_or}
 use Rattle.vocabulary.specs.{sym, ap, ap₂, ◌∙◌, le_trans, lt_of_le_of_lt, lit<, lit≤}
 use Rattle.whole.specs.{Lists.listed, Quotient.rounded_quotient, Sums.vector}
 use Rattle.whole.proofs.Lists.{listed_ext}
-use Rattle.refusals.specs.{declared.Refusal.Refusal, declared.Verdict.Verdict, Order.Row, Order.verdict_of, Order.judged, Promise.stored}
-use Rattle.refusals.specs.{declared.Verdict.TheVariants.Passed, declared.Verdict.TheVariants.Failed, Ranges.most_limit}
+use Rattle.refusals.specs.{declared.Refusal.Refusal, Order.Row, Order.verdict_of, Order.judged, Promise.stored}
+use Rattle.refusals.specs.Ranges.{most_limit}
 use Rattle.refusals.specs.Table.{misclosures_row, results_row}
 use Rattle.refusals.proofs.{Answers.answer_of_one, InSteps.judged_after_pass, InSteps.judged_after_failure, Rows.none_holds}
 use Rattle.judging.specs.Searches.{results_of}
-use Rattle.figures.specs.{declared.Figure.Figure, declared.Named.Named, declared.Named.TheVariants.As, declared.Named.TheVariants.Nothing}
+use Rattle.figures.specs.declared.Figure.{Figure}
 use Rattle.figures.specs.Figure.{denominator, angle_count, condition_count, figure_of, of_named}
 use Rattle.figures.specs.Numerators.{condition_sum, numerator}
 use Rattle.pass_rules.specs.FirstPass.{limit_of, misclosure, first_numerator, first_rounded, corrected, first_rest, misclosures_of, numerators_of, rounded_of, rests_of, first_lengths, given_rows, first_rows, first_pass_rows, first_pass_verdict}
@@ -17,7 +19,7 @@ use Rattle.pass_rules.specs.Promises.{FirstGiven, FirstLent, first_lent, first_s
 use Rattle.pass_rules.proofs.{FirstAccepted.Entries, FirstAccepted.entries_passed, PassRows.none_judged, PassRows.one_judged}
 use Rattle.pass_rules.proofs.WithinRange as range
 use Rattle.pass_steps.specs.{Premises.Angles, Premises.Within, Steps.StoredIf, Steps.same_length, Steps.numerators_from}
-use Rattle.pass_first.specs.Steps.{tenths_from, tenths_of, rests_from, FirstWork, first_work, with_rounds, first_from}
+use Rattle.pass_first.specs.Steps.{tenths_from, tenths_of, rests_from, FirstWork, work_of, with_rounds, first_from}
 use Rattle.pass_steps.proofs.{Fitting.beside, Judged.kept}
 use Rattle.pass_steps.proofs.StepLaws.{listed_at, listed_within, listed_after, condition_ext, numerator_ext}
 
@@ -60,10 +62,6 @@ module _ (f : Figure) (angles fixed : List ℕ) where
         (listed_after (angle_count f) (corrected f angles fixed) (results_of angles tenths) (λ k z. nat_abs z) results_are as_many i)
         rounds (rests i)
 
--- what is lent for the work
-abbrev pub work_of : FirstLent → FirstWork
-work_of lent = first_work lent.misclosures lent.numerators lent.rounded lent.corrected lent.rests
-
 -- ---- the rows, step by step
 
 module _ (f : Figure) (limit : ℕ) (angles rounds fixed : List ℕ) (entry : FirstLent) where
@@ -77,14 +75,14 @@ module _ (f : Figure) (limit : ℕ) (angles rounds fixed : List ℕ) (entry : Fi
   result_row = results_row (listed (angle_count f) (corrected f angles fixed))
 
   -- a row before the work holds
-  pub refused_before : (v : Verdict) (r : Refusal) → v ≡ judged before → v ≡ Failed r → FirstPromiseOf f limit angles rounds fixed entry v entry
+  pub refused_before : (v : Verdict) (r : Refusal) → v ≡ judged before → v ≡ Err r → FirstPromiseOf f limit angles rounds fixed entry v entry
   unfolding first_rows
   refused_before v r e refused =
       let answered : v ≡ first_verdict_of f limit angles rounds fixed entry =
       refused ∙ sym (judged_after_failure before (limit_row ∷ result_row ∷ []) r (sym e ∙ refused)) in
       record { answered = answered; leaves = kept _ _ _ r (sym answered ∙ refused) }
 
-  module _ (passed : judged before ≡ Passed) where
+  module _ (passed : judged before ≡ Ok tt) where
     entries : Entries f limit angles rounds fixed (first_slices angles rounds fixed entry)
     entries = entries_passed f limit angles rounds fixed (first_slices angles rounds fixed entry) passed
 
@@ -103,14 +101,14 @@ module _ (f : Figure) (limit : ℕ) (angles rounds fixed : List ℕ) (entry : Fi
     after = judged_after_pass before (limit_row ∷ result_row ∷ []) passed
 
     -- number 6 holds
-    pub refused_misclosure : (v : Verdict) (r : Refusal) → v ≡ verdict_of limit_row → v ≡ Failed r → FirstPromiseOf f limit angles rounds fixed entry v entry
+    pub refused_misclosure : (v : Verdict) (r : Refusal) → v ≡ verdict_of limit_row → v ≡ Err r → FirstPromiseOf f limit angles rounds fixed entry v entry
     refused_misclosure v r e refused =
         let answered : v ≡ first_verdict_of f limit angles rounds fixed entry =
         refused ∙ sym (after ∙ judged_after_failure (limit_row ∷ []) (result_row ∷ []) r (answer_of_one (verdict_of limit_row) ∙ sym e ∙ refused)) in
         record { answered = answered; leaves = kept _ _ _ r (sym answered ∙ refused) }
 
-    module _ (within : verdict_of limit_row ≡ Passed) where
-      one_passed : judged (limit_row ∷ []) ≡ Passed
+    module _ (within : verdict_of limit_row ≡ Ok tt) where
+      one_passed : judged (limit_row ∷ []) ≡ Ok tt
       one_passed = answer_of_one (verdict_of limit_row) ∙ within
 
       pub small_misclosures : Within most_limit (misclosures_of f angles fixed)
@@ -149,14 +147,14 @@ module _ (given : FirstGiven) (entry : FirstLent) where
   abbrev rows : Figure → List Row
   rows f = first_rows f given.limit given.angles given.rounds given.fixed (first_lengths_lent given entry)
 
-  pub none_named : figure_of given.code given.n ≡ Nothing → FirstPromise given entry (Failed Refusal.NoSuchFigure) entry
+  pub none_named : figure_of given.code given.n ≡ None → FirstPromise given entry (Err Refusal.NoSuchFigure) entry
   unfolding first_pass_verdict first_pass_rows
   none_named e = record {
     answered = sym (none_judged given.code given.n rows e);
-    leaves = sym (ap (λ (m : Named). of_named m entry (λ f. stored (first_answer given entry) (first_values f given) entry)) e);
+    leaves = sym (ap (λ (m : Option Figure). of_named m entry (λ f. stored (first_answer given entry) (first_values f given) entry)) e);
   }
 
-  pub of_figure : (f : Figure) → figure_of given.code given.n ≡ As f → {answer : Verdict} {exit : FirstLent}
+  pub of_figure : (f : Figure) → figure_of given.code given.n ≡ Some f → {answer : Verdict} {exit : FirstLent}
       → FirstPromiseOf f given.limit given.angles given.rounds given.fixed entry answer exit → FirstPromise given entry answer exit
   unfolding first_pass_verdict first_pass_rows
   of_figure f named promise =
@@ -165,5 +163,5 @@ module _ (given : FirstGiven) (entry : FirstLent) where
         answered = promise.answered ∙ verdict;
         leaves =
             promise.leaves
-            ∙ ap₂ (λ (m : Named) (v : Verdict). of_named m entry (λ g. stored v (first_values g given) entry)) (sym named) verdict;
+            ∙ ap₂ (λ (m : Option Figure) (v : Verdict). of_named m entry (λ g. stored v (first_values g given) entry)) (sym named) verdict;
       }

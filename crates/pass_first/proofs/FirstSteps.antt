@@ -4,8 +4,8 @@ use Rattle.vocabulary.specs.{◌∙◌, le_trans, arith, lit≤}
 use Rattle.whole.specs.{Lists.listed, Quotient.rounded_quotient, Sums.vector}
 use Rattle.whole.proofs.Quotient.{rounded_within}
 use Rattle.refusals.specs.Ranges.{most_limit}
-use Rattle.figures.specs.{declared.Figure.Figure, declared.Target.Target, Figure.denominator, Figure.angle_count, Numerators.numerator}
-use Rattle.figures.specs.declared.Target.TheVariants.{HalfTurn, FullTurn, FixedAngle, NoCondition}
+use Rattle.figures.specs.{declared.Figure.Figure, Figure.Target, Figure.denominator, Figure.angle_count, Numerators.numerator}
+use Rattle.figures.specs.Figure.{HalfTurn, FullTurn, FixedAngle, NoCondition}
 use Rattle.pass_rules.specs.FirstPass.{should_be}
 use Rattle.pass_steps.specs.{Premises.Within, Premises.Angles, Steps.numerators_from}
 use Rattle.pass_steps.proofs.{Bounds.numerator_magnitude, StepLaws.listed_within, StepLaws.listed_after, StepLaws.length_of}

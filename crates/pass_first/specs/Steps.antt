@@ -1,5 +1,5 @@
 -- What the steps of the first pass give, from its misclosures w.
-use Rattle.std.specs.Prelude.{ℕ, List, [], ◌∷◌, ◌≡◌, ℤ, ◌+ℤ◌, length}
+use Rattle.std.specs.Prelude.{ℕ, List, [], ◌∷◌, ℤ, ◌+ℤ◌, length}
 use Rattle.whole.specs.{Lists.listed, Quotient.rounded_quotient, Sums.vector}
 use Rattle.figures.specs.{declared.Figure.Figure, Figure.denominator, Figure.angle_count, Figure.condition_count}
 use Rattle.figures.specs.Numerators.{condition_sum, numerator}
@@ -34,6 +34,10 @@ first_work misclosures numerators rounded corrected rests = record {
   rests = rests;
 }
 
+-- what is lent for the work
+abbrev pub work_of : FirstLent → FirstWork
+work_of lent = first_work lent.misclosures lent.numerators lent.rounded lent.corrected lent.rests
+
 abbrev pub work_lent : FirstWork → List ℕ
 work_lent work =
     length work.misclosures ∷ length work.numerators ∷ length work.rounded ∷ length work.corrected ∷ length work.rests ∷ []
@@ -48,10 +52,3 @@ with_rounds work rounds = first_lent work.misclosures work.numerators work.round
 abbrev pub first_from : Figure → (angles : List ℕ) → (w : List ℤ) → FirstWork
 first_from f angles w =
     first_work w (numerators_from f w) (tenths_of f w) (results_from angles (tenths_of f w)) (rests_from f w (tenths_of f w))
-
--- four slices hold what they are to hold
-pub record Stored (misclosures numerators rounded rests w exact tenths left : List ℤ) : Type 0 where
-  pub misclosures_are : misclosures ≡ w
-  pub numerators_are : numerators ≡ exact
-  pub rounded_are : rounded ≡ tenths
-  pub rests_are : rests ≡ left

@@ -1,101 +1,45 @@
 // The first pass over lent slices: document 01, "The two passes", and document 02, M-106, for the rounds of each angle.
-ghost use Rattle.pass_rules.specs.Promises.{first_given, first_lent, FirstPromise, FirstPromiseOf};
+ghost use Rattle.pass_rules.specs.Promises.{FirstPromise, FirstPromiseOf};
+ghost use Rattle.pass_rules.specs.Lent.{first_given_by, first_held, SameFirstSlices};
 
 use crate::corrections::first_corrected;
 use crate::misclosures::misclosures_into;
-use figures::{Figure, MOST_CONDITIONS, Named};
-use judging::misclosures_verdict;
-use pass_steps::store_rounds;
-use refusals::{Refusal, Verdict};
+use figures::{Figure, MOST_CONDITIONS, figure_of};
+use judging::check_misclosures;
+use pass_rules::{FirstInput, FirstRoom, check_first_given, limit_in_force};
+use pass_steps::store;
+use refusals::Refusal;
 
 // The first pass of the figure that code and n name. Done, everything lent is as defined; refused, everything lent is as it was.
 pub fn first_pass(
     code: u32,
     n: u32,
-    limit: u32,
-    angles: &[u32],
-    rounds: &[u8],
-    fixed: &[u32],
-    misclosures: &mut [i32],
-    numerators: &mut [i32],
-    rounded: &mut [i32],
-    corrected: &mut [u32],
-    corrected_rounds: &mut [u8],
-    rests: &mut [i32],
-) -> Verdict
-    ensures { FirstPromise (first_given code n limit angles.now rounds.now fixed.now)
-        (first_lent misclosures.old numerators.old rounded.old
-        corrected.old corrected_rounds.old rests.old) result
-        (first_lent misclosures.new numerators.new rounded.new
-        corrected.new corrected_rounds.new rests.new) }
+    given: FirstInput<'_>,
+    room: &mut FirstRoom<'_>,
+) -> Result<(), Refusal>
+    ensures promise { FirstPromise (first_given_by code n given.entry) (first_held room.old) result (first_held room.new) }
+    ensures same { SameFirstSlices room.new room.old }
 {
-    let Named::As(figure) = figures::figure_of(code, n) else {
-        return Verdict::Failed(Refusal::NoSuchFigure);
-    };
-    first_pass_of(
-        figure,
-        limit,
-        angles,
-        rounds,
-        fixed,
-        misclosures,
-        numerators,
-        rounded,
-        corrected,
-        corrected_rounds,
-        rests,
-    )
+    let figure = figure_of(code, n).ok_or(Refusal::NoSuchFigure)?;
+    first_pass_of(figure, given, room)
 }
 
 // The same of a figure that is named already.
 pub fn first_pass_of(
     figure: Figure,
-    limit: u32,
-    angles: &[u32],
-    rounds: &[u8],
-    fixed: &[u32],
-    misclosures: &mut [i32],
-    numerators: &mut [i32],
-    rounded: &mut [i32],
-    corrected: &mut [u32],
-    corrected_rounds: &mut [u8],
-    rests: &mut [i32],
-) -> Verdict
-    ensures { FirstPromiseOf figure limit angles.now rounds.now fixed.now
-        (first_lent misclosures.old numerators.old rounded.old
-        corrected.old corrected_rounds.old rests.old) result
-        (first_lent misclosures.new numerators.new rounded.new
-        corrected.new corrected_rounds.new rests.new) }
+    given: FirstInput<'_>,
+    room: &mut FirstRoom<'_>,
+) -> Result<(), Refusal>
+    ensures promise { FirstPromiseOf figure given.entry.limit given.entry.angles.now given.entry.rounds.now given.entry.fixed.now
+        (first_held room.old) result (first_held room.new) }
+    ensures same { SameFirstSlices room.new room.old }
 {
-    let results = [
-        misclosures.len(),
-        numerators.len(),
-        rounded.len(),
-        corrected.len(),
-        corrected_rounds.len(),
-        rests.len(),
-    ];
-    let before = pass_rules::first_given_verdict(figure, limit, angles, rounds, fixed, results);
-    if let Verdict::Failed(_) = before {
-        return before;
-    }
-    let m = misclosures.len();
-    let mut w = [0i32; MOST_CONDITIONS];
-    misclosures_into(figure, angles, fixed, &mut w[..m]);
-    let beyond = misclosures_verdict(&w[..m], pass_rules::limit_in_force(limit));
-    if let Verdict::Failed(_) = beyond {
-        return beyond;
-    }
-    let outside = first_corrected(
-        figure,
-        angles,
-        &w[..m],
-        misclosures,
-        numerators,
-        rounded,
-        corrected,
-        rests,
-    );
-    store_rounds(outside, rounds, corrected_rounds);
-    outside
+    check_first_given(figure, given, room.lengths())?;
+    let mut w = [0; MOST_CONDITIONS];
+    let w = &mut w[..room.misclosures.len()];
+    misclosures_into(figure, given.angles, given.fixed, w);
+    check_misclosures(w, limit_in_force(given.limit))?;
+    first_corrected(figure, given.angles, w, room)?;
+    store(given.rounds, room.corrected_rounds);
+    Ok(())
 }

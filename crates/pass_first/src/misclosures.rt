@@ -1,4 +1,5 @@
 // The misclosures of the first pass: document 01, "The two passes". Conditions are used by their indices, counted from 0.
+// A cast by `as` stands where the library has no `From`, to a narrower type or to and from usize; each is proved to keep its value.
 ghost use Rattle.std.specs.Prelude.{◌≡◌, suc, ◌<◌, ◌-ℤ◌, length};
 ghost use Rattle.whole.specs.Lists.{listed};
 ghost use Rattle.whole.specs.Sums.{vector};
@@ -23,10 +24,10 @@ pub(crate) fn misclosures_into(figure: Figure, angles: &[u32], fixed: &[u32], w:
     requires angles_2 { Angles fixed.now }
     ensures { w.new ≡ misclosures_of figure angles.now fixed.now }
 {
-    let n = angles.len();
-    let mut observed = [0i32; MOST_ANGLES];
-    signed_into(angles, &mut observed[..n]);
-    condition_sums(figure, &observed[..n], w);
+    let mut observed = [0; MOST_ANGLES];
+    let observed = &mut observed[..angles.len()];
+    signed_into(angles, observed);
+    condition_sums(figure, observed, w);
     less_targets(figure, fixed, w);
 }
 
@@ -35,10 +36,8 @@ fn signed_into(angles: &[u32], signed: &mut [i32])
     requires angles { Angles angles.now }
     ensures { signed.new ≡ listed (length angles.now) (given angles.now) }
 {
-    let mut i = 0;
-    while i < signed.len() {
-        signed[i] = angles[i] as i32;
-        i += 1;
+    for (i, angle) in signed.iter_mut().enumerate() {
+        *angle = angles[i] as i32;
     }
 }
 
@@ -50,10 +49,9 @@ fn less_targets(figure: Figure, fixed: &[u32], w: &mut [i32])
     ensures { w.new
         ≡ listed (condition_count figure) (λ j. vector w.old j -ℤ should_be (target_of figure (suc j)) fixed.now) }
 {
-    let mut j = 0;
-    while j < w.len() {
-        w[j] = w[j] - should_be(figure, fixed, j, w.len());
-        j += 1;
+    let conditions = w.len();
+    for (j, misclosure) in w.iter_mut().enumerate() {
+        *misclosure -= should_be(figure, fixed, j, conditions);
     }
 }
 

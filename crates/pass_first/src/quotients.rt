@@ -1,5 +1,7 @@
-// The rounded corrections: document 01, "The two passes".
-ghost use Rattle.std.specs.Prelude.{◌≡◌, length};
+// The rounded corrections: document 01, "The two passes". The figure's type is chosen here as in pass_steps' `table_applied`: one choice for
+// both needs a closure that is generic in the figure's type, which the language does not have.
+// A cast by `as` stands where the library has no `From`, to a narrower type or to and from usize; each is proved to keep its value.
+ghost use Rattle.std.specs.Prelude.{◌≡◌, ◌≤◌, nat_abs, length};
 ghost use Rattle.whole.specs.Lists.{listed};
 ghost use Rattle.whole.specs.Quotient.{rounded_quotient};
 ghost use Rattle.whole.specs.Sums.{vector};
@@ -7,8 +9,7 @@ ghost use Rattle.figures.specs.Figure.{denominator};
 ghost use Rattle.pass_steps.specs.Premises.{Within, most_rounded};
 
 use figure_tables::{
-    CentralHeptagon, CentralHexagon, CentralOctagon, CentralPentagon, CentralQuadrilateral,
-    CentralTriangle, PointInQuadrilateral, PointInTriangle, Quadrilateral,
+    CentralPolygon, FigureTable, PointInQuadrilateral, PointInTriangle, Quadrilateral,
 };
 use figures::Figure;
 
@@ -21,27 +22,34 @@ pub(crate) fn rounded_into(figure: Figure, numerators: &[i32], rounded: &mut [i3
         ≡ listed (length numerators.now) (λ i. rounded_quotient (vector numerators.now i) (denominator figure)) }
 {
     match figure {
-        Figure::Quadrilateral => over(Quadrilateral::D as u64, numerators, rounded),
-        Figure::PointInTriangle => over(PointInTriangle::D as u64, numerators, rounded),
-        Figure::PointInQuadrilateral => over(PointInQuadrilateral::D as u64, numerators, rounded),
-        Figure::CentralTriangle => over(CentralTriangle::D as u64, numerators, rounded),
-        Figure::CentralQuadrilateral => over(CentralQuadrilateral::D as u64, numerators, rounded),
-        Figure::CentralPentagon => over(CentralPentagon::D as u64, numerators, rounded),
-        Figure::CentralHexagon => over(CentralHexagon::D as u64, numerators, rounded),
-        Figure::CentralHeptagon => over(CentralHeptagon::D as u64, numerators, rounded),
-        Figure::CentralOctagon => over(CentralOctagon::D as u64, numerators, rounded),
+        Figure::Quadrilateral => over::<Quadrilateral>(numerators, rounded),
+        Figure::PointInTriangle => over::<PointInTriangle>(numerators, rounded),
+        Figure::PointInQuadrilateral => over::<PointInQuadrilateral>(numerators, rounded),
+        Figure::CentralTriangle => over::<CentralPolygon<3>>(numerators, rounded),
+        Figure::CentralQuadrilateral => over::<CentralPolygon<4>>(numerators, rounded),
+        Figure::CentralPentagon => over::<CentralPolygon<5>>(numerators, rounded),
+        Figure::CentralHexagon => over::<CentralPolygon<6>>(numerators, rounded),
+        Figure::CentralHeptagon => over::<CentralPolygon<7>>(numerators, rounded),
+        Figure::CentralOctagon => over::<CentralPolygon<8>>(numerators, rounded),
     }
 }
 
-fn over(divisor: u64, numerators: &[i32], rounded: &mut [i32])
+fn over<F: FigureTable>(numerators: &[i32], rounded: &mut [i32])
     requires rounded_len { length rounded.old ≡ length numerators.now }
     requires within { Within most_rounded numerators.now }
     ensures { rounded.new
-        ≡ listed (length numerators.now) (λ i. rounded_quotient (vector numerators.now i) divisor) }
+        ≡ listed (length numerators.now) (λ i. rounded_quotient (vector numerators.now i) (denominator F.figure)) }
 {
-    let mut i = 0;
-    while i < rounded.len() {
-        rounded[i] = whole::rounded_quotient(numerators[i] as i64, divisor) as i32;
-        i += 1;
+    for (i, numerator) in numerators.iter().enumerate() {
+        rounded[i] = quotient(*numerator, F::D);
     }
+}
+
+// None is greater than its numerator, so that it fits.
+#[tactic(auto, using(whole::proofs::Quotient::rounded_within, pass_steps::proofs::Narrowing::narrow_fits, pass_steps::proofs::Narrowing::narrowed))]
+fn quotient(numerator: i32, divisor: u32) -> i32
+    requires { nat_abs numerator ≤ most_rounded }
+    ensures { result ≡ rounded_quotient numerator divisor }
+{
+    whole::rounded_quotient(i64::from(numerator), u64::from(divisor)) as i32
 }

@@ -2,7 +2,8 @@
 use Rattle.std.specs.Prelude.{◌≡◌, refl, Bool, true, false, cond, ◌||◌, ℕ, zero, suc, ◌+◌, ◌-◌, ◌^◌, ◌≤◌, ◌<◌, T, ltb, ℤ, pos, negsuc}
 use Rattle.std.specs.Prelude.{neg_ℤ, nat_abs, ◌+ℤ◌}
 use Rattle.vocabulary.specs.{sym, ap, ◌∙◌, subst, le_refl, arith, ltb-true, ltb-false, lt-ltb, le-ltb, lt_z}
-use Rattle.wide.specs.{Wide.radix, Wide.size_of, Wide.signed, declared.Size.Size}
+use Rattle.wide.specs.Wide.{signed}
+use Rattle.wide.proofs.Signs.{signed_above, signed_below}
 use Rattle.pass_pair.specs.Pair.{most_tenths, clamped_size, clamped}
 
 -- ---- Its size
@@ -18,13 +19,6 @@ size_small n h = go (ltb n most_tenths) refl
 pub size_large : (n : ℕ) → most_tenths ≤ n → clamped_size n ≡ most_tenths
 unfolding clamped_size
 size_large n h = rw (le-ltb n most_tenths h)
-
--- a size with a high word
-pub high_large : (s : Size) → (s.high ≡ 0 → ⊥) → most_tenths ≤ size_of s
-unfolding size_of radix
-high_large s some =
-    let high : 0 < s.high = omega (arith, some) in
-    omega arith
 
 pub size_within : (n : ℕ) → clamped_size n ≤ most_tenths
 unfolding clamped_size
@@ -46,6 +40,12 @@ unfolding clamped signed clamped_size
 clamped_signed false n = refl
 clamped_signed true zero = refl
 clamped_signed true (suc n) = refl
+
+pub clamped_above : (s : Bool) (n : ℕ) → s ≡ false → clamped (signed s n) ≡ pos (clamped_size n)
+clamped_above s n e = rw e (clamped_signed false n ∙ signed_above (clamped_size n))
+
+pub clamped_below : (s : Bool) (n : ℕ) → s ≡ true → clamped (signed s n) ≡ neg_ℤ (pos (clamped_size n))
+clamped_below s n e = rw e (clamped_signed true n ∙ signed_below (clamped_size n))
 
 -- ---- An angle and its correction, outside the range of angles: what number 7 asks
 

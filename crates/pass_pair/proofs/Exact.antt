@@ -1,7 +1,8 @@
--- That two words hold every step of the numerator, from bounds of what goes in. Assumes nothing.
+-- That 128 bits hold every step of the numerator, from bounds of what goes in. Assumes nothing.
 use Rattle.std.specs.Prelude.{◌≡◌, ℕ, ◌^◌, ◌≤◌, ◌<◌, ℤ, nat_abs, ◌+ℤ◌, ◌-ℤ◌, ◌*ℤ◌}
-use Rattle.vocabulary.specs.{lt_of_le_of_lt, lit<}
+use Rattle.vocabulary.specs.{lt_of_le_of_lt, lit<, w64, SFits}
 use Rattle.whole.specs.Quotient.{rounded_quotient}
+use Rattle.whole.proofs.Magnitudes.{fits_magnitude}
 use Rattle.whole.proofs.Ring.{ring, ◌≐◌, ◌⊕◌, ◌⊖◌, ◌⊗◌}
 use Rattle.wide.specs.Wide.{held}
 use Rattle.wide.proofs.Bounds.{stays, magnitude_reaches}
@@ -11,9 +12,13 @@ use Rattle.pass_pair.specs.Pair.{first_factor, second_factor, pair_numerator, he
 use Rattle.pass_pair.specs.declared.PairCorrection.{PairCorrection}
 
 -- the difference of two products of 64-bit numbers
-pub products_stay : (a b c d : ℤ) → nat_abs a ≤ 2 ^ 63 → nat_abs b ≤ 2 ^ 63 → nat_abs c ≤ 2 ^ 63 → nat_abs d ≤ 2 ^ 63
+products_stay : (a b c d : ℤ) → nat_abs a ≤ 2 ^ 63 → nat_abs b ≤ 2 ^ 63 → nat_abs c ≤ 2 ^ 63 → nat_abs d ≤ 2 ^ 63
     → held (a *ℤ b -ℤ c *ℤ d) ≡ a *ℤ b -ℤ c *ℤ d
 products_stay a b c d h k l m = stays 4 (λ a b c d. a ⊗ b ⊖ c ⊗ d) a (2 ^ 63) h b (2 ^ 63) k c (2 ^ 63) l d (2 ^ 63) m tt
+
+pub difference_stays : (a b c d : ℤ) → SFits w64 a → SFits w64 b → SFits w64 c → SFits w64 d → held (a *ℤ b -ℤ c *ℤ d) ≡ a *ℤ b -ℤ c *ℤ d
+difference_stays a b c d h k l m =
+    products_stay a b c d (fits_magnitude w64 a h) (fits_magnitude w64 b k) (fits_magnitude w64 c l) (fits_magnitude w64 d m)
 
 -- ---- The numerator
 

@@ -1,7 +1,8 @@
 -- What an accepted first pass says of its sheet, row by row. Assumes nothing.
+use Rattle.std.specs.Prelude.{Ok}
 use Rattle.std.specs.Prelude.{List, ◌≡◌, ℕ, ◌≤◌, ◌<◌, pos, nat_abs, length, get_or, ◌≤ℤ◌}
 use Rattle.whole.specs.Lists.{listed}
-use Rattle.refusals.specs.{declared.Verdict.TheVariants.Passed, Order.Row, Order.judged, Table.sum_of_all, Table.fixed_sum}
+use Rattle.refusals.specs.{Order.Row, Order.judged, Table.sum_of_all, Table.fixed_sum}
 use Rattle.refusals.specs.Ranges.{least_angle, most_angle, most_limit, least_rounds, most_rounds}
 use Rattle.refusals.proofs.{InSteps.both_parts, Rows.none_holds}
 use Rattle.refusals.proofs.Nowhere.{same_lengths, limit_within, angles_most, rounds_within, fixed_most, fixed_summed}
@@ -19,7 +20,7 @@ module _ (f : Figure) (limit : ℕ) (angles rounds fixed lent : List ℕ) where
     pub fixed_angle_most : (i : ℕ) → get_or fixed i 0 ≤ most_angle
     pub fixed_angles_sum : sum_of_all fixed ≡ fixed_sum (length fixed)
 
-  pub entries_passed : judged (given_rows f limit angles rounds fixed lent) ≡ Passed → Entries
+  pub entries_passed : judged (given_rows f limit angles rounds fixed lent) ≡ Ok tt → Entries
   entries_passed e =
       let none = none_holds (given_rows f limit angles rounds fixed lent) e in
       record {
@@ -40,7 +41,7 @@ module _ (f : Figure) (limit : ℕ) (angles rounds fixed lent : List ℕ) where
   abbrev own_rows : List Row
   own_rows = work_rows limit (misclosures_of f angles fixed) (listed (angle_count f) (corrected f angles fixed))
 
-  pub accepted : judged (first_rows f limit angles rounds fixed lent) ≡ Passed → Accepted
+  pub accepted : judged (first_rows f limit angles rounds fixed lent) ≡ Ok tt → Accepted
   unfolding first_rows
   accepted e =
       let parts = both_parts (given_rows f limit angles rounds fixed lent) own_rows e in

@@ -6,7 +6,7 @@ use Rattle.whole.specs.Sums.{sum}
 use Rattle.whole.proofs.Ring.{constant, ◌⊕◌, ◌⊖◌, ◌⊗◌, ⊝◌, ◌≐◌, ring}
 use Rattle.whole.proofs.Sums.{sum_ext, sum_add, sum_scale, sum_front}
 use Rattle.refusals.specs.Table.{sum_of_all, fixed_sum}
-use Rattle.figures.specs.{declared.Figure.Figure, declared.Target.Target, Numerators.condition_sum, Numerators.horizon_sum}
+use Rattle.figures.specs.{declared.Figure.Figure, Figure.Target, Numerators.condition_sum, Numerators.horizon_sum}
 use Rattle.figures.specs.Figure.{description, condition_count, fixed_count, target_of}
 use Rattle.figures.proofs.{Families.is_point_inside, Families.point_inside_lem, Families.triangle_target, Horizon.horizon_and_corners}
 use Rattle.pass_rules.specs.{FirstPass.should_be, FirstPass.misclosure, Pass.given}

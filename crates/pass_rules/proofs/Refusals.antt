@@ -1,12 +1,14 @@
 -- The orders of both passes, for demand 1: every row is in the table, and the second pass's answer tells what its rows are judged to be.
 -- Of every code, n and sheet. Assumes nothing.
+use Rattle.figures.specs.declared.Figure.{Figure}
+use Rattle.std.specs.Prelude.{Err}
+use Rattle.std.specs.Prelude.{Err, None, Ok, Option, Some}
+use Rattle.refusals.specs.Numbers.{Verdict}
 use Rattle.std.specs.Prelude.{List, ◌≡◌, refl, ℕ, T}
 use Rattle.vocabulary.specs.{sym, ap}
-use Rattle.refusals.specs.{declared.Refusal.Refusal, declared.Verdict.Verdict, Numbers.verdict_told, Order.all_in_table}
-use Rattle.refusals.specs.declared.Verdict.TheVariants.{Passed, Failed}
-use Rattle.figures.specs.{declared.Named.Named, declared.Named.TheVariants.As, declared.Named.TheVariants.Nothing}
+use Rattle.refusals.specs.{declared.Refusal.Refusal, Numbers.verdict_told, Order.all_in_table}
 use Rattle.figures.specs.Figure.{figure_of, of_named}
-use Rattle.pass_rules.specs.{declared.second.SecondAnswer.TheVariants.Refused, FirstPass.first_rows, FirstPass.first_pass_rows}
+use Rattle.pass_rules.specs.{FirstPass.first_rows, FirstPass.first_pass_rows}
 use Rattle.pass_rules.specs.SecondPass.{SineEntries, second_rows, second_pass_rows, second_pass_verdict, second_answer_for, second_pass_answer, second_told}
 use Rattle.pass_rules.proofs.PassRows.{rows_in_table, none_judged}
 
@@ -26,13 +28,13 @@ module _ (code n tolerance : ℕ) (angles rounds : List ℕ) (e : SineEntries) (
   unfolding second_pass_answer second_pass_verdict second_pass_rows
   second_tells = go (figure_of code n) refl
     where
-      go : (m : Named) → figure_of code n ≡ m
-          → second_told (of_named m (Refused Refusal.NoSuchFigure)
+      go : (m : Option Figure) → figure_of code n ≡ m
+          → second_told (of_named m (Err Refusal.NoSuchFigure)
           (λ f. second_answer_for f e (second_pass_verdict code n tolerance angles rounds e lent)))
           ≡ verdict_told (second_pass_verdict code n tolerance angles rounds e lent)
-      go Nothing none = sym (ap verdict_told (none_judged code n (λ f. second_rows f tolerance angles rounds e lent) none))
-      go (As f) one = by_verdict (second_pass_verdict code n tolerance angles rounds e lent)
+      go None none = sym (ap verdict_told (none_judged code n (λ f. second_rows f tolerance angles rounds e lent) none))
+      go (Some f) one = by_verdict (second_pass_verdict code n tolerance angles rounds e lent)
         where
           by_verdict : (v : Verdict) → second_told (second_answer_for f e v) ≡ verdict_told v
-          by_verdict Passed = refl
-          by_verdict (Failed refusal) = refl
+          by_verdict (Ok tt) = refl
+          by_verdict (Err refusal) = refl

@@ -1,11 +1,12 @@
 -- What an accepted second pass says of its sheet, row by row, and how large its numbers then are. Assumes nothing.
+use Rattle.std.specs.Prelude.{Ok}
 use Rattle.std.specs.Prelude.{List, [], ◌∷◌, ◌++◌, ◌≡◌, refl, ℕ, zero, suc, ◌+◌, ◌*◌, ◌≤◌, ◌<◌, ℤ, pos, negsuc, neg_ℤ, nat_abs, ◌-ℤ◌, ◌*ℤ◌}
 use Rattle.std.specs.Prelude.{length, get_or, ◌≤ℤ◌}
 use Rattle.vocabulary.specs.{sym, subst, zero-le, dec_lt, arith, length-append, list-get_or_append, list-get_or_eq_default}
 use Rattle.vocabulary.specs.{get_or-append-add}
 use Rattle.whole.specs.{Lists.listed, Sums.vector}
 use Rattle.whole.proofs.{Magnitudes.nat_abs_sub, Ring.ring, Ring.◌≐◌, Ring.◌⊕◌, Ring.◌⊖◌}
-use Rattle.refusals.specs.{declared.Verdict.TheVariants.Passed, Order.Row, Order.judged, Table.results_row}
+use Rattle.refusals.specs.{Order.Row, Order.judged, Table.results_row}
 use Rattle.refusals.specs.Ranges.{least_angle, most_angle, least_rounds, most_rounds, most_log_sine, most_difference, most_tolerance}
 use Rattle.refusals.proofs.{InSteps.both_parts, Rows.none_holds}
 use Rattle.refusals.proofs.Nowhere.{same_lengths, limit_within, tolerance_kept, squares_not_zero, angles_most, rounds_within, log_sines_most, differences_within, between}
@@ -55,7 +56,7 @@ module _ (f : Figure) (tolerance : ℕ) (angles rounds : List ℕ) (e : SineEntr
     pub log_side_most : (i : ℕ) → get_or e.log_sides i 0 ≤ most_log_sine
     pub difference_most : length e.differences ≡ length e.log_sines → (i : ℕ) → nat_abs (vector e.differences i) ≤ most_difference
 
-  pub entries_passed : judged (entry_rows f tolerance angles rounds e lent) ≡ Passed → Entries
+  pub entries_passed : judged (entry_rows f tolerance angles rounds e lent) ≡ Ok tt → Entries
   entries_passed passed =
       let none = none_holds (entry_rows f tolerance angles rounds e lent) passed in
       let most = log_sines_most (e.log_sines ++ e.log_sides) e.differences none.1.1.1.1.0 in
@@ -82,7 +83,7 @@ module _ (f : Figure) (tolerance : ℕ) (angles rounds : List ℕ) (e : SineEntr
   abbrev work_rows : List Row
   work_rows = sine_rows_of f tolerance e ++ (results_row (listed (angle_count f) (second_adjusted f angles e)) ∷ [])
 
-  pub accepted : judged (second_rows f tolerance angles rounds e lent) ≡ Passed → Accepted
+  pub accepted : judged (second_rows f tolerance angles rounds e lent) ≡ Ok tt → Accepted
   unfolding second_rows
   accepted passed =
       let parts = both_parts (entry_rows f tolerance angles rounds e lent) work_rows passed in

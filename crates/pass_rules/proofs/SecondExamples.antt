@@ -1,14 +1,14 @@
 -- Sheets of the second pass as the definitions answer them: document 01, "Sheets worked through", case 9 and its printed sheet of kind 2,
 -- and the edges of the ranges; halves; and accepted sheets of codes 2 and 3, whose values were worked out apart from the definitions
 -- (tests/independent.py). Assumes nothing.
+use Rattle.std.specs.Prelude.{Err}
+use Rattle.pass_rules.specs.SecondPass.{SecondAnswer, done_with}
 use Rattle.std.specs.Prelude.{◌≡◌, refl, List, [], ◌∷◌, ◌++◌, map, ℕ, zero, suc, ◌+◌, replicate, ℤ, pos, neg_ℤ}
 use Rattle.whole.specs.{Lists.listed, Quotient.nearest, Quotient.rounded_quotient, Sums.sum, Sums.dot, Sums.applied}
 use Rattle.refusals.specs.{declared.Refusal.Refusal, Order.answer_of, Order.lowest_place}
 use Rattle.figures.specs.{declared.Figure.Figure, Figure.angle_count, Figure.figure_of}
 use Rattle.figures.specs.declared.Figure.TheVariants.{Quadrilateral, PointInTriangle, CentralQuadrilateral}
 use Rattle.figures.specs.Numerators.{condition_sum, sum_over, numerator, reduced_coefficient}
-use Rattle.pass_rules.specs.declared.second.SecondAnswer.{SecondAnswer}
-use Rattle.pass_rules.specs.declared.second.SecondAnswer.TheVariants.{Done, Refused}
 use Rattle.pass_rules.specs.SecondPass.{SineEntries, sine_entries, signed_in, reduced_in, misclosure_in, difference_squares_in, sum_of_squares, side_squares, shared_products, divisor, second_numerator, second_rounded, second_adjusted, second_rest, reduced_of, second_rounded_of, adjusted_of, second_rests_of, second_rows, second_pass_rows, second_pass_verdict, second_pass_answer}
 use Rattle.pass_rules.proofs.StarredCases.{differences-6}
 
@@ -80,29 +80,29 @@ abbrev gives : Sheet → SecondAnswer → Answered
 gives given answer = record { given = given; answer = answer }
 
 abbrev sheets : List Answered
-sheets = gives printed (Done (pos 100) (pos 0) 0 24315176)
+sheets = gives printed (done_with (pos 100) (pos 0) 0 24315176)
     -- case 9: all differences 0, with W 100 and with W 0
-    ∷ gives (quadrilateral 10 1620000 (replicate 8 (pos 0))) (Refused Refusal.SumOfSquaresIsZero)
-    ∷ gives (sheet 1 0 (lengths_of 8 3) 10 (replicate 8 1620000) (replicate 8 1) (replicate 8 98494850) (replicate 8 (pos 0))) (Refused Refusal.SumOfSquaresIsZero)
-    ∷ gives (quadrilateral 51 1620000 differences-6) (Refused Refusal.LimitOrToleranceOutOfRange)
+    ∷ gives (quadrilateral 10 1620000 (replicate 8 (pos 0))) (Err Refusal.SumOfSquaresIsZero)
+    ∷ gives (sheet 1 0 (lengths_of 8 3) 10 (replicate 8 1620000) (replicate 8 1) (replicate 8 98494850) (replicate 8 (pos 0))) (Err Refusal.SumOfSquaresIsZero)
+    ∷ gives (quadrilateral 51 1620000 differences-6) (Err Refusal.LimitOrToleranceOutOfRange)
     -- rounds of 0 (M-106): at the first angle, and at the last; 4 comes before 16, and 16 before 8; and from the least to the most
-    ∷ gives (observed 1620000 (0 ∷ replicate 7 1) 98494950) (Refused (Refusal.RoundsOutOfRange 1))
-    ∷ gives (observed 1620000 (replicate 7 1 ++ (0 ∷ [])) 98494950) (Refused (Refusal.RoundsOutOfRange 8))
-    ∷ gives (observed 0 (0 ∷ replicate 7 1) 98494950) (Refused (Refusal.AngleOutOfRange 8))
-    ∷ gives (observed 1620000 (replicate 7 1 ++ (0 ∷ [])) 0) (Refused (Refusal.RoundsOutOfRange 8))
-    ∷ gives (observed 1620000 (1 ∷ 255 ∷ 2 ∷ 3 ∷ 4 ∷ 5 ∷ 6 ∷ 255 ∷ []) 98494950) (Done (pos 100) (pos 0) 0 24315176)
+    ∷ gives (observed 1620000 (0 ∷ replicate 7 1) 98494950) (Err (Refusal.RoundsOutOfRange 1))
+    ∷ gives (observed 1620000 (replicate 7 1 ++ (0 ∷ [])) 98494950) (Err (Refusal.RoundsOutOfRange 8))
+    ∷ gives (observed 0 (0 ∷ replicate 7 1) 98494950) (Err (Refusal.AngleOutOfRange 8))
+    ∷ gives (observed 1620000 (replicate 7 1 ++ (0 ∷ [])) 0) (Err (Refusal.RoundsOutOfRange 8))
+    ∷ gives (observed 1620000 (1 ∷ 255 ∷ 2 ∷ 3 ∷ 4 ∷ 5 ∷ 6 ∷ 255 ∷ []) 98494950) (done_with (pos 100) (pos 0) 0 24315176)
     -- a correction of −7 to an angle of 8, and of 7
-    ∷ gives (quadrilateral 0 8 differences-6) (Done (pos 100) (pos 0) 0 24315176)
-    ∷ gives (quadrilateral 0 7 differences-6) (Refused (Refusal.ResultOutOfRange 1))
-    ∷ gives in_triangle (Done (minus 150) (pos 0) 0 85019520)
-    ∷ gives round_point_lem (Done (pos 80) (pos 0) 0 260614560)
+    ∷ gives (quadrilateral 0 8 differences-6) (done_with (pos 100) (pos 0) 0 24315176)
+    ∷ gives (quadrilateral 0 7 differences-6) (Err (Refusal.ResultOutOfRange 1))
+    ∷ gives in_triangle (done_with (minus 150) (pos 0) 0 85019520)
+    ∷ gives round_point_lem (done_with (pos 80) (pos 0) 0 260614560)
     -- the largest W on either side, with the largest differences and tolerance
-    ∷ gives (octagon (triangles 8 1 100000000 1) (triangles 8 (pos 0) (pos 9999) (pos 9999))) (Refused Refusal.SineMisclosureBeyondTolerance)
-    ∷ gives (octagon (triangles 8 1 1 100000000) (triangles 8 (pos 0) (pos 9999) (pos 9999))) (Refused Refusal.SineMisclosureBeyondTolerance)
+    ∷ gives (octagon (triangles 8 1 100000000 1) (triangles 8 (pos 0) (pos 9999) (pos 9999))) (Err Refusal.SineMisclosureBeyondTolerance)
+    ∷ gives (octagon (triangles 8 1 1 100000000) (triangles 8 (pos 0) (pos 9999) (pos 9999))) (Err Refusal.SineMisclosureBeyondTolerance)
     -- the same W where the linear conditions already fix what d measures, so that each A is 0
-    ∷ gives (octagon (triangles 8 1 100000000 1) (triangles 8 (pos 0) (pos 9999) (minus 9999))) (Refused Refusal.SumOfSquaresIsZero)
+    ∷ gives (octagon (triangles 8 1 100000000 1) (triangles 8 (pos 0) (pos 9999) (minus 9999))) (Err Refusal.SumOfSquaresIsZero)
     -- a difference past its range at an angle with sign 0, the first of the second triangle
-    ∷ gives (octagon (replicate 24 98494850) (pos 0 ∷ pos 1 ∷ pos 1 ∷ pos 10000 ∷ replicate 20 (pos 1))) (Refused (Refusal.SineEntryOutOfRange 4))
+    ∷ gives (octagon (replicate 24 98494850) (pos 0 ∷ pos 1 ∷ pos 1 ∷ pos 10000 ∷ replicate 20 (pos 1))) (Err (Refusal.SineEntryOutOfRange 4))
     ∷ []
 
 abbrev answer_to : Sheet → SecondAnswer

@@ -1,11 +1,12 @@
 -- The first pass: document 01, "The two passes", and document 02, M-101 for number 14, M-102 for the default limit and M-106 for the
 -- rounds of each angle. Angles and conditions are used by their indices, counted from 0.
+use Rattle.refusals.specs.Numbers.{Verdict}
 use Rattle.std.specs.Prelude.{ℕ, suc, List, [], ◌∷◌, ◌++◌, ℤ, pos, nat_abs, ◌+ℤ◌, ◌-ℤ◌}
 use Rattle.whole.specs.{Lists.listed, Quotient.rounded_quotient}
-use Rattle.refusals.specs.{declared.Verdict.Verdict, Numbers.numbered, Order.Row, Order.judged, Ranges.most_limit, Ranges.most_rounds}
+use Rattle.refusals.specs.{Numbers.numbered, Order.Row, Order.judged, Ranges.most_limit, Ranges.most_rounds}
 use Rattle.refusals.specs.Table.{figure_row, lengths_row, limit_or_tolerance_row, angles_row, rounds_row, fixed_row, fixed_sum_row, misclosures_row, results_row}
-use Rattle.figures.specs.{declared.Figure.Figure, declared.Target.Target, Numerators.condition_sum, Numerators.numerator}
-use Rattle.figures.specs.declared.Target.TheVariants.{HalfTurn, FullTurn, FixedAngle, NoCondition}
+use Rattle.figures.specs.{declared.Figure.Figure, Figure.Target, Numerators.condition_sum, Numerators.numerator}
+use Rattle.figures.specs.Figure.{HalfTurn, FullTurn, FixedAngle, NoCondition}
 use Rattle.figures.specs.Figure.{denominator, angle_count, condition_count, fixed_count, target_of, figure_of, figure_names, of_named}
 use Rattle.pass_rules.specs.Pass.{in_force, given}
 

@@ -1,4 +1,5 @@
 pub mod FirstPass
+pub mod Lent
 pub mod Pass
 pub mod Promises
 pub mod SecondPass

@@ -1,9 +1,10 @@
 -- What the two passes promise: document 01, "The two passes" and "What the promises must decide", and document 02, M-106, for the rounds
 -- of each angle. What is given, what is lent, what is answered, and what everything lent holds in the end.
+use Rattle.pass_rules.specs.SecondPass.{SecondAnswer}
+use Rattle.refusals.specs.Numbers.{Verdict}
 use Rattle.std.specs.Prelude.{ℕ, List, [], ◌∷◌, ℤ, length}
-use Rattle.refusals.specs.{declared.Verdict.Verdict, Order.Row, Order.judged, Promise.Promised, Promise.stored}
+use Rattle.refusals.specs.{Order.Row, Order.judged, Promise.Promised, Promise.stored}
 use Rattle.figures.specs.{declared.Figure.Figure, Figure.figure_of, Figure.of_named}
-use Rattle.pass_rules.specs.declared.second.SecondAnswer.{SecondAnswer}
 use Rattle.pass_rules.specs.FirstPass.{first_rows, first_pass_rows, first_pass_verdict, misclosures_of, numerators_of, rounded_of, corrected_of, rests_of}
 use Rattle.pass_rules.specs.SecondPass.{SineEntries, second_rows, second_pass_rows, second_pass_verdict, second_answer_for, second_pass_answer, reduced_of, side_reduced_of, high_numerators_of, low_numerators_of, second_rounded_of, adjusted_of, second_rests_of}
 

@@ -1,17 +1,17 @@
 -- The second pass: document 01, "The two passes", and document 02, M-100 for the figure that has two sine conditions and M-106 for the
 -- rounds of each angle. Angles and conditions are used by their indices, counted from 0.
+use Rattle.std.specs.Prelude.{Result, Ok, Err}
+use Rattle.refusals.specs.Numbers.{Verdict}
 use Rattle.std.specs.Prelude.{ℕ, ◌/◌, ◌%◌, ◌^◌, cond, List, [], ◌∷◌, ◌++◌, ℤ, pos, neg_ℤ, nat_abs, ◌+ℤ◌, ◌-ℤ◌, ◌*ℤ◌, length}
 use Rattle.whole.specs.{Lists.listed, Quotient.rounded_quotient, Sums.dot, Sums.squares, Sums.vector}
 use Rattle.wide_words.specs.Words.{high_word, low_word}
 use Rattle.pass_pair.specs.Pair.{pair_numerator}
-use Rattle.refusals.specs.{declared.Verdict.Verdict, declared.Verdict.TheVariants.Passed, declared.Verdict.TheVariants.Failed}
 use Rattle.refusals.specs.{declared.Refusal.Refusal, Numbers.Told, Numbers.told, Numbers.refusal_told, Order.Row, Order.judged}
 use Rattle.refusals.specs.Ranges.{most_tolerance, most_rounds}
 use Rattle.refusals.specs.Table.{figure_row, lengths_row, limit_or_tolerance_row, angles_row, rounds_row, results_row, sine_entries_row, sine_misclosure_row, sum_of_squares_row}
 use Rattle.figures.specs.{declared.Figure.Figure, Numerators.condition_sum, Numerators.reduced_coefficient}
 use Rattle.figures.specs.Figure.{SineCondition, denominator, angle_count, condition_count, side_count, pole, side, has_side, figure_of, figure_names, of_named}
-use Rattle.pass_rules.specs.{declared.second.SecondAnswer.SecondAnswer, Pass.in_force, Pass.given}
-use Rattle.pass_rules.specs.declared.second.SecondAnswer.TheVariants.{Done, Refused}
+use Rattle.pass_rules.specs.{declared.second.SineAnswer.SineAnswer, Pass.in_force, Pass.given}
 
 -- the sine tolerance e: 0 stands for 10
 abbrev pub tolerance_of : ℕ → ℕ
@@ -185,18 +185,24 @@ second_pass_verdict code n tolerance angles rounds e lent = judged (second_pass_
 
 -- ---- what is answered: both misclosures, 0 for a condition that the figure has not, and S or the determinant as two words; or the refusal
 
+abbrev pub SecondAnswer : Type 0
+SecondAnswer = Result SineAnswer Refusal
+
+abbrev pub done_with : (w sideW : ℤ) → (high low : ℕ) → SecondAnswer
+done_with w sideW high low = Ok (record { misclosure = w; side_misclosure = sideW; divisor_high = high; divisor_low = low })
+
 abbrev pub second_answer_of : Verdict → (w sideW divisor : ℤ) → SecondAnswer
-second_answer_of Passed w sideW divisor = Done w sideW (nat_abs divisor / 2 ^ 64) (nat_abs divisor % 2 ^ 64)
-second_answer_of (Failed refusal) w sideW divisor = Refused refusal
+second_answer_of (Ok tt) w sideW divisor = done_with w sideW (nat_abs divisor / 2 ^ 64) (nat_abs divisor % 2 ^ 64)
+second_answer_of (Err refusal) w sideW divisor = Err refusal
 
 abbrev pub second_answer_for : Figure → SineEntries → Verdict → SecondAnswer
 second_answer_for f e verdict = second_answer_of verdict (sine_misclosure f e) (side_misclosure f e) (divisor f e)
 
 unfoldable pub second_pass_answer : (code n tolerance : ℕ) → (angles rounds : List ℕ) → SineEntries → (lent : List ℕ) → SecondAnswer
 second_pass_answer code n tolerance angles rounds e lent =
-    of_named (figure_of code n) (Refused Refusal.NoSuchFigure) (λ f. second_answer_for f e (second_pass_verdict code n tolerance angles rounds e lent))
+    of_named (figure_of code n) (Err Refusal.NoSuchFigure) (λ f. second_answer_for f e (second_pass_verdict code n tolerance angles rounds e lent))
 
 -- its number and place
 abbrev pub second_told : SecondAnswer → Told
-second_told (Done w sideW high low) = told 0 0
-second_told (Refused refusal) = refusal_told refusal
+second_told (Ok sums) = told 0 0
+second_told (Err refusal) = refusal_told refusal

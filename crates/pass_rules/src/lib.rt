@@ -8,13 +8,11 @@ ghost use Rattle.pass_rules.specs.Pass.{in_force};
 mod first;
 mod second;
 
-pub use first::{first_given_verdict, first_result_lengths, limit_in_force};
+pub use first::{FirstInput, FirstRoom, check_first_given, first_result_lengths, limit_in_force};
 pub use second::{
-    SecondAnswer, SecondLengths, second_given_verdict, second_result_lengths, tolerance_in_force,
+    SecondInput, SecondRoom, SineAnswer, check_second_given, second_result_lengths,
+    tolerance_in_force,
 };
-
-// The lengths of the six slices that a first pass is lent for its results.
-pub type ResultLengths = [usize; 6];
 
 // L or e in force: 0 stands for the default.
 pub fn in_force(value: u32, default: u32) -> u32

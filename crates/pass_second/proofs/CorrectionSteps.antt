@@ -1,37 +1,36 @@
 -- The exact corrections of the second pass, as the code works them: what a clamped quotient is, how the angles are filled in, and that one
 -- sine condition and two make the corrections of the definitions. Assumes nothing.
-use Rattle.std.specs.Prelude.{◌≡◌, true, false, List, ℕ, suc, ◌+◌, ◌*◌, ◌^◌, ◌≤◌, ◌<◌, T, ℤ, pos, negsuc, neg_ℤ, nat_abs, ◌*ℤ◌, length, set}
-use Rattle.vocabulary.specs.{sym, ap, ap₂, ◌∙◌, subst, le_refl, le_trans, arith, leb-true, leb-false, eq-eqb, ne_eqb, lit≤, le_z}
+use Rattle.std.proofs.lemmas.Int.{clamps, ints}
+use Rattle.std.specs.Int.{int_max, int_min}
+use Rattle.std.specs.Prelude.{Bool, ltb, refl, ◌≡◌, true, false, List, ℕ, suc, ◌+◌, ◌*◌, ◌≤◌, ◌<◌, ℤ, pos, negsuc, neg_ℤ, nat_abs, ◌*ℤ◌, length, set}
+use Rattle.vocabulary.specs.{sym, ap, ap₂, ◌∙◌, le_refl, le_trans, arith, ltb-true, ltb-false, eq-eqb, ne_eqb, lit≤}
 use Rattle.whole.specs.{Lists.listed, Sums.vector}
 use Rattle.whole.proofs.Lists.{Filled, filled_none, filled_more, filled_all, listed_ext}
 use Rattle.whole.proofs.Ring.{ring, ◌≐◌, ◌⊗◌}
-use Rattle.wide.specs.{declared.Size.Size, Wide.radix, Wide.size_of, Wide.value_of}
+use Rattle.wide.specs.Wide.{value_of}
 use Rattle.pass_pair.specs.{declared.Pair.Pair, declared.PairFactors.PairFactors, declared.PairCorrection.PairCorrection}
 use Rattle.pass_pair.specs.Pair.{first_factor, second_factor, determinant, most_tenths, clamped}
-use Rattle.pass_pair.proofs.{Clamping.size_large, Exact.Bounded, Exact.correction_exact}
+use Rattle.pass_pair.proofs.{Clamping.size_large, Clamping.clamped_small, Exact.Bounded, Exact.correction_exact}
 use Rattle.pass_steps.specs.Premises.{Within, most_denominator, most_reduced}
 use Rattle.pass_second.specs.Steps.{SmallPair, factor_of, exact_from, divisor_from, exact_correction, pair_correction}
 use Rattle.pass_second.proofs.Exact.{product_magnitude}
 
--- ---- a quotient of 64 bits that is clamped, by the two tests of the code
+-- ---- a quotient of 64 bits, clamped as the code does it
 
--- −mostTenths
-abbrev pub least_tenths : ℤ
-least_tenths = negsuc 1_299_999_999
-
-pub clamped_below : (z : ℤ) → le_z z least_tenths ≡ true → clamped z ≡ least_tenths
+pub clamp_is : (z : ℤ) → int_max (neg_ℤ (pos most_tenths)) (int_min z (pos most_tenths)) ≡ clamped z
 unfolding clamped
-clamped_below (pos n) e = absurd (subst T (sym e) tt)
-clamped_below (negsuc n) e = ap (λ (k : ℕ). neg_ℤ (pos k)) (size_large (suc n) (omega (arith, leb-true 1_299_999_999 n e)))
-
-pub clamped_above : (z : ℤ) → le_z (pos most_tenths) z ≡ true → clamped z ≡ pos most_tenths
-unfolding clamped
-clamped_above (pos n) e = ap pos (size_large n (leb-true most_tenths n e))
-clamped_above (negsuc n) e = absurd (subst T (sym e) tt)
-
-pub between : (z : ℤ) → le_z z least_tenths ≡ false → le_z (pos most_tenths) z ≡ false → nat_abs z ≤ most_tenths
-between (pos n) e f = omega (arith, leb-false most_tenths n f)
-between (negsuc n) e f = omega (arith, leb-false 1_299_999_999 n e)
+clamp_is z = go z (ltb most_tenths (nat_abs z)) refl
+  where
+    go : (z : ℤ) (t : Bool) → ltb most_tenths (nat_abs z) ≡ t → int_max (neg_ℤ (pos most_tenths)) (int_min z (pos most_tenths)) ≡ clamped z
+    go z false e =
+        let few : nat_abs z ≤ most_tenths = ltb-false most_tenths (nat_abs z) e in
+        sym (clamped_small z few ∙ omega (arith, ints, clamps, few))
+    go (pos n) true e =
+        let many : most_tenths ≤ n = omega (arith, ltb-true most_tenths n e) in
+        sym (ap pos (size_large n many) ∙ omega (arith, ints, clamps, many))
+    go (negsuc n) true e =
+        let many : most_tenths ≤ suc n = omega (arith, ltb-true most_tenths (suc n) e) in
+        sym (ap (λ (k : ℕ). neg_ℤ (pos k)) (size_large (suc n) many) ∙ omega (arith, ints, clamps, many))
 
 -- ---- both loops over the angles
 
@@ -71,11 +70,6 @@ corrected_all d b = (filled_all d.highs b, (filled_all d.lows b, filled_all d.ro
 pub factor_magnitude : (denominator : ℕ) → denominator ≤ most_denominator → nat_abs (factor_of denominator) ≤ 100 * most_denominator
 factor_magnitude denominator few = product_magnitude (neg_ℤ (pos 100)) (pos denominator) 100 most_denominator (le_refl 100) few
 
--- a divisor this small has no high word
-pub low_whole : (divisor : Size) → size_of divisor ≤ 2 ^ 60 → divisor.low ≡ size_of divisor
-unfolding size_of radix
-low_whole divisor small = omega arith
-
 module _ (denominator sides : ℕ) (p : Pair) (a b : List ℤ) where
   -- that of an angle; of all angles they are `highs_from`, `lows_from` and `tenths_from`
   abbrev pub correction : ℕ → PairCorrection
@@ -93,14 +87,13 @@ module _ (denominator sides : ℕ) (p : Pair) (a b : List ℤ) where
 
   module _ (small : SmallPair p) where
     -- with one sine condition
-    pub one_is : (divisor : Size) → sides ≡ 0 → pos (size_of divisor) ≡ divisor_from sides p
-        → (i : ℕ) → exact_correction (factor_of denominator *ℤ p.wa *ℤ vector a i) divisor.low ≡ correction i
+    pub one_is : (divisor : ℕ) → sides ≡ 0 → pos divisor ≡ divisor_from sides p
+        → (i : ℕ) → exact_correction (factor_of denominator *ℤ p.wa *ℤ vector a i) divisor ≡ correction i
     one_is divisor none is i =
         let test = eq-eqb sides 0 none in
-        let sums : pos (size_of divisor) ≡ p.aa = rw test at is in
-        let few : size_of divisor ≤ 2 ^ 60 = subst (λ (z : ℤ). nat_abs z ≤ 2 ^ 60) (sym sums) small.aa_small in
+        let sums : pos divisor ≡ p.aa = rw test at is in
         let numerator = ring 3 (λ k w a. k ⊗ w ⊗ a ≐ k ⊗ a ⊗ w) tt (factor_of denominator) p.wa (vector a i) in
-        rw test (ap₂ exact_correction numerator (low_whole divisor few ∙ ap nat_abs sums))
+        rw test (ap₂ exact_correction numerator (ap nat_abs sums))
 
     -- with two
     pub two_is : (factors : PairFactors) → (sides ≡ 0 → ⊥) → denominator ≤ most_denominator → Within most_reduced a → Within most_reduced b
@@ -122,3 +115,24 @@ module _ (denominator sides : ℕ) (p : Pair) (a b : List ℤ) where
           a_few = le_trans (a_small i) (lit≤ tt);
           b_few = le_trans (b_small i) (lit≤ tt);
         }
+
+    -- all angles with one
+    pub by_one : (scale : ℤ) (divisor : ℕ) → scale ≡ factor_of denominator *ℤ p.wa → sides ≡ 0 → pos divisor ≡ divisor_from sides p
+        → {high : List ℤ} {low : List ℕ} {tenths : List ℤ}
+        → AllCorrected (length a) (λ i. exact_correction (scale *ℤ vector a i) divisor) high low tenths
+        → AllCorrected (length a) correction high low tenths
+    by_one scale divisor scale-is none is =
+        corrections_are _ (λ i. ap (λ (z : ℤ). exact_correction (z *ℤ vector a i) divisor) scale-is ∙ one_is divisor none is i)
+
+    -- and with two
+    pub by_two : (factor : ℤ) (factors : PairFactors) → factor ≡ factor_of denominator → (sides ≡ 0 → ⊥) → denominator ≤ most_denominator
+        → Within most_reduced a → Within most_reduced b
+        → value_of factors.first ≡ first_factor p.ab p.bb p.wa p.wb
+        → value_of factors.second ≡ second_factor p.aa p.ab p.wa p.wb
+        → value_of factors.determinant ≡ determinant p.aa p.ab p.bb
+        → {high : List ℤ} {low : List ℕ} {tenths : List ℤ}
+        → AllCorrected (length a) (pair_correction factor factors a b) high low tenths
+        → AllCorrected (length a) correction high low tenths
+    by_two factor factors factor-is some few a_small b_small first second divisor =
+        corrections_are _
+        (λ i. ap (λ (z : ℤ). pair_correction z factors a b i) factor-is ∙ two_is factors some few a_small b_small first second divisor i)

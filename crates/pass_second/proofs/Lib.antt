@@ -2,6 +2,7 @@
 pub mod AcceptedBounds
 mod CorrectionSteps
 pub mod Exact
+mod Growing
 mod Passed
 mod SecondPromised
 mod SecondSteps

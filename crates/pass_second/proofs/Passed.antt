@@ -1,16 +1,17 @@
 -- Where number 7 passes, a rounded correction is the difference of two angles. Assumes nothing.
+use Rattle.std.specs.Prelude.{Ok}
 use Rattle.std.specs.Prelude.{◌≡◌, List, ℕ, ◌≤◌, ◌<◌, ℤ, pos, nat_abs, ◌+ℤ◌, ◌-ℤ◌, length}
 use Rattle.vocabulary.specs.{sym, subst, zero-le, dec_lt, arith, list-get_or_eq_default}
 use Rattle.whole.specs.Sums.{vector}
 use Rattle.whole.proofs.{Lists.length_listed, Magnitudes.nat_abs_sub, Ring.ring, Ring.◌≐◌, Ring.◌⊕◌, Ring.◌⊖◌}
-use Rattle.refusals.specs.{declared.Verdict.TheVariants.Passed, Order.verdict_of, Table.results_row}
+use Rattle.refusals.specs.{Order.verdict_of, Table.results_row}
 use Rattle.judging.specs.Searches.{results_of}
 use Rattle.pass_rules.specs.Pass.{given}
 use Rattle.pass_steps.specs.Premises.{Within, Angles, most_summed}
 use Rattle.pass_steps.proofs.{Judged.results_in_range, Judged.result_most, StepLaws.listed_at}
 
 module _ (angles : List ℕ) (tenths : List ℤ) (as_many : length tenths ≡ length angles) (small : Angles angles)
-    (passed : verdict_of (results_row (results_of angles tenths)) ≡ Passed) where
+    (passed : verdict_of (results_row (results_of angles tenths)) ≡ Ok tt) where
   result_at : (i : ℕ) → i < length angles → vector (results_of angles tenths) i ≡ given angles i +ℤ vector tenths i
   result_at i h = listed_at (length angles) (λ k. given angles k +ℤ vector tenths k) i h
 

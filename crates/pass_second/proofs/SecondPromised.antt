@@ -1,56 +1,45 @@
 -- From the steps of a second pass to what it promises, of a figure that is named. Assumes nothing.
+use Rattle.std.specs.Prelude.{Err}
+use Rattle.pass_rules.specs.SecondPass.{SecondAnswer}
+use Rattle.std.specs.Prelude.{Err, None, Ok, Option, Some}
+use Rattle.refusals.specs.Numbers.{Verdict}
 use Rattle.std.specs.Prelude.{Bool, true, false, cond, ◌≡◌, refl, List, [], ◌∷◌, ◌++◌, ℕ, ◌^◌, ◌≤◌, ◌<◌, ℤ, pos, nat_abs, get_or, ◌≤ℤ◌}
 use Rattle.vocabulary.specs.{sym, ap, ap₂, ◌∙◌, subst, zero-le, lt_of_le_of_lt, arith, lit<}
 use Rattle.whole.specs.{Lists.listed, Sums.dot, Sums.vector}
-use Rattle.wide.specs.{declared.Size.Size, Wide.radix, Wide.size_of}
-use Rattle.wide_words.proofs.Joining.{size_high, size_low}
-use Rattle.refusals.specs.{declared.Refusal.Refusal, declared.Verdict.Verdict, Order.Row, Order.verdict_of, Order.judged, Promise.stored}
-use Rattle.refusals.specs.{declared.Verdict.TheVariants.Passed, declared.Verdict.TheVariants.Failed, Table.results_row}
+use Rattle.refusals.specs.{declared.Refusal.Refusal, Order.Row, Order.verdict_of, Order.judged, Promise.stored}
+use Rattle.refusals.specs.Table.{results_row}
 use Rattle.refusals.specs.Ranges.{most_difference, most_tolerance}
 use Rattle.refusals.proofs.{Answers.answer_of_one, InSteps.judged_after_pass, InSteps.judged_after_failure, Nowhere.tolerance_kept}
 use Rattle.refusals.proofs.Rows.{none_holds}
 use Rattle.judging.specs.Searches.{results_of}
-use Rattle.figures.specs.{declared.Figure.Figure, declared.Named.Named, declared.Named.TheVariants.As, declared.Named.TheVariants.Nothing}
+use Rattle.figures.specs.declared.Figure.{Figure}
 use Rattle.figures.specs.Figure.{SineCondition, denominator, angle_count, pole, side, has_side, side_count, figure_of, of_named}
 use Rattle.figures.proofs.Figures.{Signed, pole_signed, side_signed}
 use Rattle.pass_pair.specs.declared.Pair.{Pair}
-use Rattle.pass_rules.specs.{declared.second.SecondAnswer.SecondAnswer, Pass.given}
-use Rattle.pass_rules.specs.declared.second.SecondAnswer.TheVariants.{Done, Refused}
+use Rattle.pass_rules.specs.Pass.{given}
 use Rattle.pass_rules.specs.Promises.{SecondGiven, SecondLent, second_slices, second_lengths_lent, second_verdict, second_values_of, second_values, SecondPromise, second_verdict_of, SecondPromiseOf}
 use Rattle.pass_rules.specs.SecondPass.{SineEntries, tolerance_of, reduced_in, misclosure_in, difference_squares_in, second_reduced, side_reduced, sine_misclosure, side_misclosure, sum_of_squares, side_squares, shared_products, divisor, second_adjusted, reduced_of, side_reduced_count, side_reduced_of, second_lengths, entry_rows, sine_rows, sine_rows_of, second_rows, second_pass_rows, second_pass_verdict, second_answer_of, second_answer_for, second_pass_answer}
 use Rattle.pass_rules.proofs.{PassRows.one_judged, SecondAccepted.Entries, SecondAccepted.entries_passed, SecondAccepted.Kept}
 use Rattle.pass_rules.proofs.SineSums.{pole_misclosure, no_misclosure}
 use Rattle.pass_steps.specs.Premises.{Angles, LogSines, Within, most_misclosure, most_reduced}
-use Rattle.pass_steps.specs.Steps.{StoredIf, same_length}
+use Rattle.pass_steps.specs.Steps.{same_length}
 use Rattle.pass_steps.proofs.{Fitting.beside, StepLaws.listed_within}
 use Rattle.pass_second.specs.{declared.sums.Sums.Sums, Sines.pair_of, Sines.sums_of}
-use Rattle.pass_second.specs.Steps.{SmallPair, divisor_from, tenths_from, SecondWork, second_work, with_rounds, second_from, answer_by}
+use Rattle.pass_second.specs.Steps.{SmallPair, divisor_from, tenths_from, SecondWork, work_of, with_rounds, second_from}
 use Rattle.pass_second.proofs.{SecondSteps.divisor_is, SecondSteps.results_same, SecondSteps.values_same, Tolerance.within_tolerance}
 use Rattle.pass_second.proofs.SineBounds.{angles_magnitude, squares_natural, squares_magnitude, reduced_magnitude, products_magnitude}
 use Rattle.pass_second.proofs.SumSteps.{both_misclosure, sides_magnitude}
 
 -- ---- what is answered and what is stored
 
--- the words of S or the determinant
-answer_is_lem : (v : Verdict) (w sideW : ℤ) (d : Size) → d.low < 2 ^ 64
-    → answer_by v w sideW d.high d.low ≡ second_answer_of v w sideW (pos (size_of d))
-unfolding radix
-answer_is_lem Passed w sideW d h = ap₂ (Done w sideW) (sym (size_high d h)) (sym (size_low d h))
-answer_is_lem (Failed refusal) w sideW d h = refl
-
-stored_same : (v : Verdict) (new own entry : SecondLent) → (v ≡ Passed → new ≡ own) → stored v new entry ≡ stored v own entry
-stored_same Passed new own entry same = same refl
-stored_same (Failed refusal) new own entry same = refl
+stored_same : (v : Verdict) (new own entry : SecondLent) → (v ≡ Ok tt → new ≡ own) → stored v new entry ≡ stored v own entry
+stored_same (Ok tt) new own entry same = same refl
+stored_same (Err refusal) new own entry same = refl
 
 -- a sum that is 0 where there is no side condition
 sum_small : (t : Bool) (z : ℤ) (most : ℕ) → nat_abs z ≤ most → nat_abs (cond t z (pos 0)) ≤ most
 sum_small true z most small = small
 sum_small false z most small = zero-le
-
--- what is lent for the work
-abbrev pub work_of : SecondLent → SecondWork
-work_of lent =
-    second_work lent.reduced lent.side_reduced lent.high_numerators lent.low_numerators lent.rounded lent.adjusted lent.rests
 
 -- ---- the rows, step by step
 
@@ -58,19 +47,19 @@ module _ (f : Figure) (tolerance : ℕ) (angles rounds : List ℕ) (e : SineEntr
   abbrev before : List Row
   before = entry_rows f tolerance angles rounds e (second_slices angles rounds e entry)
 
-  abbrev sines : List Row
+  abbrev pub sines : List Row
   sines = sine_rows_of f tolerance e
 
   abbrev result_row : Row
   result_row = results_row (listed (angle_count f) (second_adjusted f angles e))
 
   -- numbers 10 and 9, from the sums as they are worked
-  pub sines_judged : (sides : ℕ) (sums : Sums) (d : Size) → sides ≡ side_count f → sums ≡ sums_of f e
-      → pos (size_of d) ≡ divisor_from sides sums.pair
-      → judged (sine_rows tolerance (pos (size_of d)) sums.pair.wa sums.difference_squares sums.pair.wb
+  pub sines_judged : (sides : ℕ) (sums : Sums) (d : ℕ) → sides ≡ side_count f → sums ≡ sums_of f e
+      → pos d ≡ divisor_from sides sums.pair
+      → judged (sine_rows tolerance (pos d) sums.pair.wa sums.difference_squares sums.pair.wb
       sums.side_difference_squares) ≡ judged sines
   sines_judged sides sums d sides-are sums_are d_is =
-      let over : pos (size_of d) ≡ divisor f e = d_is ∙ (λ i. divisor_from (sides-are i) (sums_are i).pair) ∙ divisor_is f e in
+      let over : pos d ≡ divisor f e = d_is ∙ (λ i. divisor_from (sides-are i) (sums_are i).pair) ∙ divisor_is f e in
       λ i. judged (sine_rows tolerance (over i) (sums_are i).pair.wa (sums_are i).difference_squares (sums_are i).pair.wb
       (sums_are i).side_difference_squares)
 
@@ -84,11 +73,11 @@ module _ (f : Figure) (tolerance : ℕ) (angles rounds : List ℕ) (e : SineEntr
   }
 
   -- a row before the work holds
-  pub refused_before : (r : Refusal) → judged before ≡ Failed r → SecondPromiseOf f tolerance angles rounds e entry (Refused r) entry
+  pub refused_before : (r : Refusal) → judged before ≡ Err r → SecondPromiseOf f tolerance angles rounds e entry (Err r) entry
   unfolding second_rows
-  refused_before r refused = by_verdict (Failed r) (judged_after_failure before (sines ++ (result_row ∷ [])) r refused) refl
+  refused_before r refused = by_verdict (Err r) (judged_after_failure before (sines ++ (result_row ∷ [])) r refused) refl
 
-  module _ (passed : judged before ≡ Passed) where
+  module _ (passed : judged before ≡ Ok tt) where
     entries : Entries f tolerance angles rounds e (second_slices angles rounds e entry)
     entries = entries_passed f tolerance angles rounds e (second_slices angles rounds e entry) passed
 
@@ -154,10 +143,10 @@ module _ (f : Figure) (tolerance : ℕ) (angles rounds : List ℕ) (e : SineEntr
     after = judged_after_pass before (sines ++ (result_row ∷ [])) passed
 
     -- number 10 or number 9 holds
-    pub refused_sines : (r : Refusal) → judged sines ≡ Failed r → SecondPromiseOf f tolerance angles rounds e entry (Refused r) entry
-    refused_sines r refused = by_verdict (Failed r) (after ∙ judged_after_failure sines (result_row ∷ []) r refused) refl
+    pub refused_sines : (r : Refusal) → judged sines ≡ Err r → SecondPromiseOf f tolerance angles rounds e entry (Err r) entry
+    refused_sines r refused = by_verdict (Err r) (after ∙ judged_after_failure sines (result_row ∷ []) r refused) refl
 
-    module _ (within : judged sines ≡ Passed) where
+    module _ (within : judged sines ≡ Ok tt) where
       -- number 9 passed for a sine condition
       misclosure_most : (c : SineCondition) → Signed f c → Kept f tolerance c e → nat_abs (misclosure_in f c e) ≤ most_misclosure
       misclosure_most c signed kept =
@@ -196,7 +185,7 @@ module _ (f : Figure) (tolerance : ℕ) (angles rounds : List ℕ) (e : SineEntr
             ∙ results_same f e angles (length_at 0) small_angles
             ∙ sym (after ∙ judged_after_pass sines (result_row ∷ []) within ∙ answer_of_one (verdict_of result_row))
 
-        values_are : second_verdict_of f tolerance angles rounds e entry ≡ Passed
+        values_are : second_verdict_of f tolerance angles rounds e entry ≡ Ok tt
             → with_rounds (second_from f angles sides p a b) rounds ≡ second_values_of f angles rounds e
         values_are done =
             let ready =
@@ -205,24 +194,22 @@ module _ (f : Figure) (tolerance : ℕ) (angles rounds : List ℕ) (e : SineEntr
             (λ i. with_rounds (second_from f angles (sides-are i) (p-is i) (a_is i) (b_is i)) rounds)
             ∙ values_same f e angles (length_at 0) small_angles ready rounds
 
-        pub by_results : (d : Size) → d.low < 2 ^ 64 → pos (size_of d) ≡ divisor_from sides p
-            → {answer : Verdict} {exit : SecondWork} {left : List ℕ}
-            → StoredIf (verdict_of (results_row (results_of angles (tenths_from (denominator f) sides p a b))))
-            (second_from f angles sides p a b) (work_of entry) answer exit
+        pub by_results : (d : ℕ) → pos d ≡ divisor_from sides p → {answer : Verdict} {exit : SecondWork} {left : List ℕ}
+            → answer ≡ verdict_of (results_row (results_of angles (tenths_from (denominator f) sides p a b)))
+            → exit ≡ stored (verdict_of (results_row (results_of angles (tenths_from (denominator f) sides p a b))))
+            (second_from f angles sides p a b) (work_of entry)
             → left ≡ stored answer (same_length rounds entry.adjusted_rounds) entry.adjusted_rounds
-            → (v : Verdict) → answer ≡ v
-            → SecondPromiseOf f tolerance angles rounds e entry (answer_by v p.wa p.wb d.high d.low) (with_rounds exit left)
-        by_results d word d_is {answer} {exit} promise beside-them v told =
+            → SecondPromiseOf f tolerance angles rounds e entry (second_answer_of answer p.wa p.wb (pos d)) (with_rounds exit left)
+        by_results d d_is {answer} {exit} answered left beside-them =
             let new = second_from f angles sides p a b in
-            let worked : exit ≡ stored answer new (work_of entry) =
-            promise.leaves ∙ ap (λ (u : Verdict). stored u new (work_of entry)) (sym promise.answered) in
-            let is : v ≡ second_verdict_of f tolerance angles rounds e entry = sym told ∙ promise.answered ∙ verdict_is in
-            let over : pos (size_of d) ≡ divisor f e = d_is ∙ (λ i. divisor_from (sides-are i) (p-is i)) ∙ divisor_is f e in
+            let worked : exit ≡ stored answer new (work_of entry) = left ∙ ap (λ (u : Verdict). stored u new (work_of entry)) (sym answered) in
+            let is : answer ≡ second_verdict_of f tolerance angles rounds e entry = answered ∙ verdict_is in
+            let over : pos d ≡ divisor f e = d_is ∙ (λ i. divisor_from (sides-are i) (p-is i)) ∙ divisor_is f e in
             record {
-              answered = answer_is_lem v p.wa p.wb d word ∙ λ i. second_answer_of (is i) (p-is i).wa (p-is i).wb (over i);
+              answered = λ i. second_answer_of (is i) (p-is i).wa (p-is i).wb (over i);
               leaves =
                   beside with_rounds new (work_of entry) rounds entry.adjusted_rounds answer (length_at 1 ∙ sym (length_at 11)) worked beside-them
-                  ∙ ap (λ (u : Verdict). stored u (with_rounds new rounds) entry) (promise.answered ∙ verdict_is)
+                  ∙ ap (λ (u : Verdict). stored u (with_rounds new rounds) entry) is
                   ∙ stored_same (second_verdict_of f tolerance angles rounds e entry) (with_rounds new rounds)
                   (second_values_of f angles rounds e) entry values_are;
             }
@@ -236,15 +223,15 @@ module _ (sheet : SecondGiven) (entry : SecondLent) where
   abbrev answer_for : Verdict → Figure → SecondAnswer
   answer_for v f = second_answer_for f sheet.entries v
 
-  pub none_named : figure_of sheet.code sheet.n ≡ Nothing → SecondPromise sheet entry (Refused Refusal.NoSuchFigure) entry
+  pub none_named : figure_of sheet.code sheet.n ≡ None → SecondPromise sheet entry (Err Refusal.NoSuchFigure) entry
   unfolding second_pass_answer
   none_named e = record {
     answered =
-        sym (ap (λ (m : Named). of_named m (Refused Refusal.NoSuchFigure) (answer_for (second_verdict sheet entry))) e);
-    leaves = sym (ap (λ (m : Named). of_named m entry (λ f. stored (second_verdict sheet entry) (second_values f sheet) entry)) e);
+        sym (ap (λ (m : Option Figure). of_named m (Err Refusal.NoSuchFigure) (answer_for (second_verdict sheet entry))) e);
+    leaves = sym (ap (λ (m : Option Figure). of_named m entry (λ f. stored (second_verdict sheet entry) (second_values f sheet) entry)) e);
   }
 
-  pub of_figure : (f : Figure) → figure_of sheet.code sheet.n ≡ As f → {answer : SecondAnswer} {exit : SecondLent}
+  pub of_figure : (f : Figure) → figure_of sheet.code sheet.n ≡ Some f → {answer : SecondAnswer} {exit : SecondLent}
       → SecondPromiseOf f sheet.tolerance sheet.angles sheet.rounds sheet.entries entry answer exit → SecondPromise sheet entry answer exit
   unfolding second_pass_answer second_pass_verdict second_pass_rows
   of_figure f named promise =
@@ -252,9 +239,9 @@ module _ (sheet : SecondGiven) (entry : SecondLent) where
       record {
         answered =
             promise.answered
-            ∙ ap₂ (λ (m : Named) (v : Verdict). of_named m (Refused Refusal.NoSuchFigure) (answer_for v))
+            ∙ ap₂ (λ (m : Option Figure) (v : Verdict). of_named m (Err Refusal.NoSuchFigure) (answer_for v))
             (sym named) verdict;
         leaves =
             promise.leaves
-            ∙ ap₂ (λ (m : Named) (v : Verdict). of_named m entry (λ g. stored v (second_values g sheet) entry)) (sym named) verdict;
+            ∙ ap₂ (λ (m : Option Figure) (v : Verdict). of_named m entry (λ g. stored v (second_values g sheet) entry)) (sym named) verdict;
       }

@@ -1,12 +1,13 @@
 -- The steps of the second pass, from the sums of both sine conditions and the reduced coefficients: what they give is what the definitions
 -- say. A correction that is clamped leaves number 7 as it is, and where number 7 passes none is clamped. Assumes nothing.
+use Rattle.std.specs.Prelude.{Ok}
 use Rattle.std.specs.Prelude.{Bool, true, false, cond, ◌||◌, ◌≡◌, refl, List, ℕ, zero, suc, ◌≤◌, ◌<◌, eqb, ℤ, pos, nat_abs, ◌+ℤ◌, ◌-ℤ◌}
 use Rattle.std.specs.Prelude.{◌*ℤ◌, length, ◌≤ℤ◌}
 use Rattle.vocabulary.specs.{sym, ap, ap₂, ◌∙◌, arith}
 use Rattle.whole.specs.{Lists.listed, Quotient.rounded_quotient, Sums.vector}
 use Rattle.whole.proofs.{Lists.length_listed, Lists.listed_ext, Magnitudes.nat_abs_sub, Ring.ring, Ring.◌≐◌, Ring.◌⊕◌, Ring.◌⊖◌}
 use Rattle.wide_words.specs.Words.{high_word, low_word}
-use Rattle.refusals.specs.{declared.Verdict.TheVariants.Passed, Numbers.numbered, Numbers.refusal_of, Ranges.least_angle, Ranges.most_angle}
+use Rattle.refusals.specs.{Numbers.numbered, Numbers.refusal_of, Ranges.least_angle, Ranges.most_angle}
 use Rattle.refusals.specs.{Order.fails_at, Order.or_here, Order.lowest_place, Order.verdict_of, Questions.asked, Questions.outside_signed}
 use Rattle.refusals.specs.Table.{results_row}
 use Rattle.refusals.proofs.{Decided.not_less_signed, Rows.row_passes}
@@ -76,7 +77,7 @@ module _ (D sides : ℕ) (p : Pair) (a b : List ℤ) where
         ap (λ (l : List ℤ). verdict_of (results_row l)) results_listed
         ∙ results_alike (length a) result unclamped (λ i h. clamped_outside _ (small i) (rounded_from i))
 
-    module _ (passed : verdict_of (results_row (results_of angles (tenths_from D sides p a b))) ≡ Passed) where
+    module _ (passed : verdict_of (results_row (results_of angles (tenths_from D sides p a b))) ≡ Ok tt) where
       -- a correction is the difference of two angles
       difference_most : (i : ℕ) → i < length a → nat_abs (tenths i) ≤ most_summed
       difference_most i h =
@@ -180,7 +181,7 @@ module _ (f : Figure) (e : SineEntries) where
         (ap (λ (n : ℕ). listed n (λ i. given angles i +ℤ rounded_from (denominator f) sides p a b i)) count
         ∙ listed_ext (angle_count f) _ (second_adjusted f angles e) adjusted_at)
 
-    module _ (passed : verdict_of (results_row (results_of angles (tenths_from (denominator f) sides p a b))) ≡ Passed) where
+    module _ (passed : verdict_of (results_row (results_of angles (tenths_from (denominator f) sides p a b))) ≡ Ok tt) where
       tenths_same : tenths_from (denominator f) sides p a b ≡ second_rounded_of f e
       tenths_same =
           tenths_unclamped (denominator f) sides p a b angles as_reduced small passed

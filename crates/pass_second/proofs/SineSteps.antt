@@ -1,15 +1,19 @@
 -- The steps of a sine condition are those of the definitions. Assumes nothing.
 use Rattle.std.specs.Prelude.{◌≡◌, refl, List, ℕ, ◌≤◌, ◌<◌, ℤ, pos, nat_abs, ◌+ℤ◌, ◌*ℤ◌, length, take}
-use Rattle.vocabulary.specs.{sym, ap, ap₂, ◌∙◌, get_or-take}
+use Rattle.vocabulary.specs.{sym, ap, ap₂, ◌∙◌, le_trans, lit≤, get_or-take}
 use Rattle.whole.specs.{Lists.listed, Sums.dot, Sums.squares, Sums.vector}
 use Rattle.whole.proofs.{Lists.listed_ext, Sums.dot_ext, Sums.squares_ext}
 use Rattle.figures.specs.{declared.Figure.Figure, Figure.SineCondition, Figure.denominator, Figure.angle_count, Figure.condition_count}
 use Rattle.figures.specs.Numerators.{condition_sum, numerator, reduced_coefficient}
 use Rattle.figures.proofs.Figures.{Signed}
 use Rattle.pass_rules.specs.{Pass.given, SecondPass.SineEntries, SecondPass.signed_in, SecondPass.reduced_in, SecondPass.difference_squares_in}
-use Rattle.pass_steps.specs.Premises.{Within}
+use Rattle.refusals.specs.{Order.verdict_of, Promise.stored, Ranges.most_difference, Table.misclosures_row}
+use Rattle.pass_steps.specs.Premises.{Within, most_applied, most_taken}
+use Rattle.pass_steps.specs.Steps.{fitting, numerators_from, sums_of}
+use Rattle.pass_steps.proofs.{Fitting.fits, Held.sums_are, Judged.misclosures_pass, Judged.taken}
+use Rattle.pass_second.proofs.SineBounds.{sums_magnitude, taken_magnitude}
 use Rattle.pass_second.specs.{declared.sines.Sines.Sines, Sines.signed_by, Sines.reduced_from, Sines.sines_by, Sines.reduced_by}
-use Rattle.pass_steps.proofs.StepLaws.{listed_at, listed_within, condition_ext, numerator_ext}
+use Rattle.pass_steps.proofs.StepLaws.{listed_at, listed_within, length_of, condition_ext, numerator_ext}
 
 -- ---- the reduced coefficients of d
 
@@ -20,6 +24,29 @@ module _ (f : Figure) (d : List ℤ) where
       made
       ∙ ap (λ (l : List ℤ). listed (angle_count f) (numerator f (vector l))) e
       ∙ listed_ext (angle_count f) _ _ (λ i h. numerator_ext f _ (condition_sum f (vector d)) (listed_at (condition_count f) (condition_sum f (vector d))) i)
+
+  module _ (small : Within most_difference d) (n : length d ≡ angle_count f) where
+    -- as they are lent
+    pub taken_made : (lent entry : List ℤ) {sums taken : List ℤ} → length lent ≡ condition_count f
+        → sums ≡ fitting (length d) (angle_count f) (length lent) (condition_count f) (sums_of f d) lent
+        → length entry ≡ angle_count f
+        → taken ≡ fitting (length sums) (condition_count f) (length entry) (angle_count f)
+        (stored (verdict_of (misclosures_row most_applied sums)) (numerators_from f sums) entry) entry
+        → taken ≡ listed (angle_count f) (numerator f (condition_sum f (vector d)))
+    taken_made lent entry {sums} many summed room made =
+        taken_are sums_listed (made ∙ fits _ _ _ _ _ _ (length_of _ _ sums_listed) room ∙ taken _ _ _ (misclosures_pass most_applied sums sums_small))
+      where
+        sums_listed : sums ≡ listed (condition_count f) (condition_sum f (vector d))
+        sums_listed = sums_are f d (λ i. le_trans (small i) (lit≤ tt)) d lent refl n many summed
+
+        sums_small : Within most_applied sums
+        sums_small j =
+            rw sums_listed (listed_within (condition_count f) (condition_sum f (vector d)) most_applied
+            (λ k b. le_trans (sums_magnitude f (vector d) small k) (lit≤ tt)) j)
+
+    pub taken_small : {taken : List ℤ} → taken ≡ listed (angle_count f) (numerator f (condition_sum f (vector d))) → Within most_taken taken
+    taken_small is i =
+        rw is (listed_within (angle_count f) (numerator f (condition_sum f (vector d))) most_taken (λ k b. taken_magnitude f (vector d) small k) i)
 
   module _ (D : ℕ) (taken : List ℤ) (whole : D ≡ denominator f) (n : length d ≡ angle_count f) (e : taken ≡ listed (angle_count f) (numerator f (condition_sum f (vector d)))) where
     reduced_at : (i : ℕ) → i < angle_count f → reduced_from D d taken i ≡ reduced_coefficient f (vector d) i

@@ -1,6 +1,6 @@
 -- The sums of both sine conditions are those of the definitions: of a figure that has only the pole, and of one with known sides. Assumes
 -- nothing.
-use Rattle.std.specs.Prelude.{Bool, true, false, cond, ◌≡◌, List, [], ◌∷◌, ℕ, ◌*◌, ◌^◌, ◌≤◌, ◌<◌, ℤ, pos, negsuc, nat_abs, ◌+ℤ◌, ◌-ℤ◌}
+use Rattle.std.specs.Prelude.{Bool, true, false, cond, not, eqb, refl, ◌≡◌, List, [], ◌∷◌, ℕ, ◌*◌, ◌^◌, ◌≤◌, ◌<◌, ℤ, pos, negsuc, nat_abs, ◌+ℤ◌, ◌-ℤ◌}
 use Rattle.std.specs.Prelude.{length}
 use Rattle.vocabulary.specs.{sym, ap, ◌∙◌, arith}
 use Rattle.whole.specs.{Lists.listed, Sums.sum, Sums.dot, Sums.squares, Sums.vector}
@@ -12,10 +12,23 @@ use Rattle.figures.specs.Numerators.{most_angles}
 use Rattle.figures.proofs.Figures.{side_signs}
 use Rattle.pass_rules.specs.Pass.{given}
 use Rattle.pass_rules.specs.SecondPass.{SineEntries, reduced_in, misclosure_in, difference_squares_in, sine_misclosure, side_misclosure, sum_of_squares, side_squares, shared_products, reduced_of, side_reduced_of}
+use Rattle.pass_rules.proofs.SideCounts.{sides_tell}
 use Rattle.pass_rules.proofs.SineSums.{pole_misclosure, no_misclosure, no_squares}
 use Rattle.pass_steps.specs.Premises.{LogSines}
 use Rattle.pass_steps.proofs.StepLaws.{listed_at}
 use Rattle.pass_second.specs.Sines.{alone_of, together_of, with_sides, pair_from, sums_from, sums_of}
+
+-- how many sides are known tells whether there is a side condition
+pub told_side : (f : Figure) (n : ℕ) (t : Bool) → n ≡ side_count f → t ≡ eqb n 0 → has_side f ≡ not t
+told_side f n t same is = go (has_side f) t (is ∙ ap (λ (k : ℕ). eqb k 0) same ∙ sides_tell f)
+  where
+    go : (h t : Bool) → t ≡ cond h false true → h ≡ not t
+    go true t e = sym (ap not e)
+    go false t e = sym (ap not e)
+
+pub none_left : {A : Type 0} (xs : List A) → length xs ≡ 0 → xs ≡ []
+none_left [] e = refl
+none_left (x ∷ xs) e = absurd (omega (arith, e))
 
 module _ (f : Figure) (e : SineEntries) where
   abbrev pole_part : ℤ

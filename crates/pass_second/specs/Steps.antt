@@ -1,14 +1,13 @@
 -- What the steps of the second pass give, from the sums of both sine conditions and the reduced coefficients a and b.
-use Rattle.std.specs.Prelude.{ℕ, ◌^◌, ◌≤◌, cond, List, [], ◌∷◌, ◌≡◌, eqb, ℤ, pos, neg_ℤ, nat_abs, ◌*ℤ◌, length}
+use Rattle.std.specs.Prelude.{ℕ, ◌/◌, ◌%◌, ◌^◌, ◌≤◌, cond, List, [], ◌∷◌, eqb, ℤ, pos, neg_ℤ, nat_abs, ◌*ℤ◌, length}
 use Rattle.whole.specs.{Lists.listed, Quotient.rounded_quotient, Sums.vector}
 use Rattle.wide.specs.Wide.{value_of}
 use Rattle.wide_words.specs.Words.{high_word, low_word}
 use Rattle.pass_pair.specs.{declared.Pair.Pair, declared.PairFactors.PairFactors, declared.PairCorrection.PairCorrection}
 use Rattle.pass_pair.specs.Pair.{determinant, pair_numerator, held_numerator, correction_from, clamped}
-use Rattle.refusals.specs.{declared.Verdict.Verdict, declared.Verdict.TheVariants.Passed, declared.Verdict.TheVariants.Failed}
 use Rattle.figures.specs.{declared.Figure.Figure, Figure.denominator, Figure.angle_count, Figure.condition_count, Numerators.condition_sum}
-use Rattle.pass_rules.specs.{declared.second.SecondAnswer.SecondAnswer, Promises.SecondLent, Promises.second_lent}
-use Rattle.pass_rules.specs.declared.second.SecondAnswer.TheVariants.{Done, Refused}
+use Rattle.pass_rules.specs.{Promises.SecondLent, Promises.second_lent}
+use Rattle.pass_rules.specs.declared.second.SineAnswer.{SineAnswer}
 use Rattle.pass_rules.specs.SecondPass.{side_reduced_count}
 use Rattle.pass_steps.specs.{Premises.most_misclosure, Steps.results_from}
 
@@ -75,6 +74,11 @@ second_work reduced side_reduced high_numerators low_numerators rounded adjusted
   rests = rests;
 }
 
+-- of what is lent
+abbrev pub work_of : SecondLent → SecondWork
+work_of lent =
+    second_work lent.reduced lent.side_reduced lent.high_numerators lent.low_numerators lent.rounded lent.adjusted lent.rests
+
 abbrev pub work_lent : SecondWork → List ℕ
 work_lent work =
     length work.reduced ∷ length work.side_reduced ∷ length work.high_numerators ∷ length work.low_numerators
@@ -96,16 +100,6 @@ second_from f angles sides p a b =
     (results_from angles (tenths_from (denominator f) sides p a b))
     (listed (condition_count f) (condition_sum f (vector (tenths_from (denominator f) sides p a b))))
 
--- six slices hold what they are to hold
-pub record Stored (reduced side_reduced highs : List ℤ) (lows : List ℕ) (rounded rests a b high : List ℤ) (low : List ℕ) (tenths sums : List ℤ) : Type 0 where
-  pub reduced_are : reduced ≡ a
-  pub side_reduced_are : side_reduced ≡ b
-  pub highs_are : highs ≡ high
-  pub lows_are : lows ≡ low
-  pub rounded_are : rounded ≡ tenths
-  pub rests_are : rests ≡ sums
-
 -- what is answered
-abbrev pub answer_by : Verdict → (w sideW : ℤ) → (high low : ℕ) → SecondAnswer
-answer_by Passed w sideW high low = Done w sideW high low
-answer_by (Failed refusal) w sideW high low = Refused refusal
+abbrev pub answer_from : (w sideW : ℤ) → (divisor : ℕ) → SineAnswer
+answer_from w sideW divisor = record { misclosure = w; side_misclosure = sideW; divisor_high = divisor / 2 ^ 64; divisor_low = divisor % 2 ^ 64 }

@@ -2,162 +2,113 @@
 ghost use Rattle.std.specs.Prelude.{◌≡◌, pos, length};
 ghost use Rattle.whole.specs.Lists.{listed};
 ghost use Rattle.whole.specs.Sums.{vector};
-ghost use Rattle.wide.specs.Wide.{size_of};
 ghost use Rattle.refusals.specs.Order.{verdict_of};
+ghost use Rattle.refusals.specs.Promise.{stored};
 ghost use Rattle.refusals.specs.Table.{results_row};
 ghost use Rattle.judging.specs.Searches.{results_of};
 ghost use Rattle.figures.specs.Figure.{denominator, angle_count, condition_count, side_count};
 ghost use Rattle.figures.specs.Numerators.{condition_sum};
 ghost use Rattle.pass_rules.specs.SecondPass.{side_reduced_count};
+ghost use Rattle.pass_rules.specs.Promises.{second_lent};
+ghost use Rattle.pass_rules.specs.Lent.{second_held, SameSecondSlices};
 ghost use Rattle.pass_steps.specs.Premises.{Within, Angles, most_summed, most_reduced};
-ghost use Rattle.pass_steps.specs.Steps.{StoredIf};
-ghost use Rattle.pass_second.specs.Steps.{SmallPair, divisor_from, tenths_from, second_work, work_lent, work_lengths, second_from, Stored};
+ghost use Rattle.pass_second.specs.Steps.{SmallPair, divisor_from, tenths_from, work_of, work_lent, work_lengths, second_from};
 
 use crate::numerators::corrections_into;
 use figures::{Figure, MOST_ANGLES};
 use pass_pair::Pair;
-use pass_steps::{condition_sums, results_into, store_signed};
-use refusals::Verdict;
-use wide::Size;
+use pass_rules::SecondRoom;
+use pass_steps::{condition_sums, results_into, store};
+use refusals::Refusal;
+
+// What the corrections are worked from: how many sides are known, the sums of both sine conditions, S or the determinant, and the reduced
+// coefficients A and B.
+#[derive(Clone, Copy)]
+pub(crate) struct SineConditions<'a> {
+    pub sides: usize,
+    pub pair: Pair,
+    pub divisor: u128,
+    pub a: &'a [i32],
+    pub b: &'a [i32],
+}
 
 // Numbers 10 and 9 have passed.
 pub(crate) fn second_corrected(
     figure: Figure,
     angles: &[u32],
-    sides: usize,
-    pair: Pair,
-    divisor: Size,
-    a: &[i32],
-    b: &[i32],
-    reduced: &mut [i64],
-    side_reduced: &mut [i64],
-    numerators_high: &mut [i64],
-    numerators_low: &mut [u64],
-    rounded: &mut [i32],
-    adjusted: &mut [u32],
-    rests: &mut [i32],
-) -> Verdict
-    requires sides_value { sides ≡ side_count figure }
+    conditions: SineConditions<'_>,
+    room: &mut SecondRoom<'_>,
+) -> Result<(), Refusal>
+    requires sides_value { conditions.sides ≡ side_count figure }
     requires angles_len { length angles.now ≡ angle_count figure }
-    requires a_len { length a.now ≡ angle_count figure }
-    requires b_len { length b.now ≡ side_reduced_count figure }
-    requires rests_value { work_lent (second_work reduced.old side_reduced.old numerators_high.old numerators_low.old
-        rounded.old adjusted.old rests.old) ≡ work_lengths figure }
+    requires a_len { length conditions.a.now ≡ angle_count figure }
+    requires b_len { length conditions.b.now ≡ side_reduced_count figure }
+    requires room_len { work_lent (work_of (second_held room.old)) ≡ work_lengths figure }
     requires angles { Angles angles.now }
-    requires small_pair { SmallPair pair }
-    requires divisor_value { pos (size_of divisor) ≡ divisor_from sides pair }
-    requires within { Within most_reduced a.now }
-    requires within_2 { Within most_reduced b.now }
-    ensures { StoredIf
+    requires small_pair { SmallPair conditions.pair }
+    requires divisor_value { pos conditions.divisor ≡ divisor_from conditions.sides conditions.pair }
+    requires within { Within most_reduced conditions.a.now }
+    requires within_2 { Within most_reduced conditions.b.now }
+    ensures answer { result ≡ verdict_of (results_row (results_of angles.now
+        (tenths_from (denominator figure) conditions.entry.sides conditions.entry.pair conditions.entry.a.now conditions.entry.b.now))) }
+    ensures left { work_of (second_held room.new) ≡ stored
         (verdict_of (results_row (results_of angles.now
-        (tenths_from (denominator figure) sides pair a.now b.now))))
-        (second_from figure angles.now sides pair a.now b.now)
-        (second_work reduced.old side_reduced.old numerators_high.old numerators_low.old
-        rounded.old adjusted.old rests.old) result
-        (second_work reduced.new side_reduced.new numerators_high.new numerators_low.new
-        rounded.new adjusted.new rests.new) }
+        (tenths_from (denominator figure) conditions.entry.sides conditions.entry.pair conditions.entry.a.now conditions.entry.b.now))))
+        (second_from figure angles.now conditions.entry.sides conditions.entry.pair conditions.entry.a.now conditions.entry.b.now)
+        (work_of (second_held room.old)) }
+    ensures rounds { room.new.adjusted_rounds.now ≡ room.old.adjusted_rounds.now }
+    ensures same { SameSecondSlices room.new room.old }
 {
     let n = angles.len();
+    let mut high = [0; MOST_ANGLES];
+    let mut low = [0; MOST_ANGLES];
+    let mut tenths = [0; MOST_ANGLES];
+    let high = &mut high[..n];
+    let low = &mut low[..n];
+    let tenths = &mut tenths[..n];
     let denominator = figure_tables::counts_of(figure).denominator;
-    let mut high = [0i64; MOST_ANGLES];
-    let mut low = [0u64; MOST_ANGLES];
-    let mut tenths = [0i32; MOST_ANGLES];
-    corrections_into(
-        denominator,
-        sides,
-        pair,
-        divisor,
-        a,
-        b,
-        &mut high[..n],
-        &mut low[..n],
-        &mut tenths[..n],
-    );
-    let outside = results_into(angles, &tenths[..n], adjusted);
-    if let Verdict::Passed = outside {
-        store_second(
-            figure,
-            a,
-            b,
-            &high[..n],
-            &low[..n],
-            &tenths[..n],
-            reduced,
-            side_reduced,
-            numerators_high,
-            numerators_low,
-            rounded,
-            rests,
-        );
-    }
-    outside
+    corrections_into(denominator, conditions, high, low, tenths);
+    results_into(angles, tenths, room.adjusted)?;
+    store_second(figure, conditions, high, low, tenths, room);
+    Ok(())
 }
 
-// The stores, once no row holds.
+// The stores, once no row holds; the adjusted angles are stored by `results_into`. What it stores are three slices of this pass: a struct of
+// them would be made here alone, and the words are two slices for C (PROMISES.md: `bienguloc_second_pass`).
 fn store_second(
     figure: Figure,
-    a: &[i32],
-    b: &[i32],
+    conditions: SineConditions<'_>,
     high: &[i64],
     low: &[u64],
     tenths: &[i32],
-    reduced: &mut [i64],
-    side_reduced: &mut [i64],
-    numerators_high: &mut [i64],
-    numerators_low: &mut [u64],
-    rounded: &mut [i32],
-    rests: &mut [i32],
+    room: &mut SecondRoom<'_>,
 )
-    requires reduced_len { length reduced.old ≡ length a.now }
-    requires side_reduced_len { length side_reduced.old ≡ length b.now }
-    requires numerators_high_len { length numerators_high.old ≡ length high.now }
-    requires numerators_low_len { length numerators_low.old ≡ length low.now }
+    requires a_len { length conditions.a.now ≡ angle_count figure }
+    requires b_len { length conditions.b.now ≡ side_reduced_count figure }
+    requires high_len { length high.now ≡ angle_count figure }
+    requires low_len { length low.now ≡ angle_count figure }
     requires tenths_len { length tenths.now ≡ angle_count figure }
-    requires rounded_len { length rounded.old ≡ angle_count figure }
-    requires rests_len { length rests.old ≡ condition_count figure }
+    requires room_len { work_lent (work_of (second_held room.old)) ≡ work_lengths figure }
     requires within { Within most_summed tenths.now }
-    ensures { Stored reduced.new side_reduced.new
-        numerators_high.new numerators_low.new rounded.new rests.new
-        a.now b.now high.now low.now tenths.now
+    ensures left { second_held room.new ≡ second_lent conditions.entry.a.now conditions.entry.b.now high.now low.now tenths.now
+        room.old.adjusted.now room.old.adjusted_rounds.now
         (listed (condition_count figure) (condition_sum figure (vector tenths.now))) }
+    ensures same { SameSecondSlices room.new room.old }
 {
-    store_wide(a, reduced);
-    store_wide(b, side_reduced);
-    store_high(high, numerators_high);
-    store_words(low, numerators_low);
-    store_signed(tenths, rounded);
-    condition_sums(figure, tenths, rests);
+    store_wide(conditions.a, room.reduced);
+    store_wide(conditions.b, room.side_reduced);
+    store(high, room.numerators_high);
+    store(low, room.numerators_low);
+    store(tenths, room.rounded);
+    condition_sums(figure, tenths, room.rests);
 }
 
-fn store_wide(x: &[i32], lent: &mut [i64])
-    requires { length lent.old ≡ length x.now }
-    ensures { lent.new ≡ x.now }
+// Not `store`: the lent places are wider.
+fn store_wide(values: &[i32], lent: &mut [i64])
+    requires { length lent.old ≡ length values.now }
+    ensures { lent.new ≡ values.now }
 {
-    let mut i = 0;
-    while i < lent.len() {
-        lent[i] = x[i] as i64;
-        i += 1;
-    }
-}
-
-fn store_high(x: &[i64], lent: &mut [i64])
-    requires { length lent.old ≡ length x.now }
-    ensures { lent.new ≡ x.now }
-{
-    let mut i = 0;
-    while i < lent.len() {
-        lent[i] = x[i];
-        i += 1;
-    }
-}
-
-fn store_words(x: &[u64], lent: &mut [u64])
-    requires { length lent.old ≡ length x.now }
-    ensures { lent.new ≡ x.now }
-{
-    let mut i = 0;
-    while i < lent.len() {
-        lent[i] = x[i];
-        i += 1;
+    for (i, value) in values.iter().enumerate() {
+        lent[i] = i64::from(*value);
     }
 }

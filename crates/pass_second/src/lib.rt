@@ -1,6 +1,8 @@
 // The second pass of document 01 over lent slices: every row in its order, the work in arrays of its own that are lent from step to step,
-// and the stores last, so that a refusal changes nothing. Every loop ends at the figure's own count. A figure with one sine condition is
-// worked in 64 bits throughout.
+// and the stores last, so that a refusal changes nothing. Every loop ends at the figure's own count. The angles of a figure with one sine
+// condition are worked in 64 bits throughout.
+// What several functions require of a value, its length or its range, stays a premise of each: the values are slices that callers lend,
+// and a type that holds them would be built and taken apart at each of these calls.
 #![tactic(auto)]
 
 mod corrections;
@@ -9,5 +11,4 @@ mod second;
 mod sines;
 mod sums;
 
-pub use pass_rules::SecondAnswer;
 pub use second::{second_pass, second_pass_of};

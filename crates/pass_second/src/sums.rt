@@ -2,19 +2,19 @@
 // sums.
 ghost use Rattle.std.specs.Prelude.{◌≡◌, ◌*◌, ◌≤◌, pos, nat_abs, length, ◌≤ℤ◌};
 ghost use Rattle.whole.specs.Sums.{dot, vector};
-ghost use Rattle.wide.specs.Wide.{size_of};
 ghost use Rattle.refusals.specs.Ranges.{most_log_sine, most_difference};
 ghost use Rattle.figures.specs.Figure.{angle_count, side_count};
 ghost use Rattle.figures.specs.Numerators.{most_angles};
-ghost use Rattle.pass_rules.specs.SecondPass.{sine_entries, side_reduced_count, reduced_of, side_reduced_of};
+ghost use Rattle.pass_rules.specs.Lent.{entries_given};
+ghost use Rattle.pass_rules.specs.SecondPass.{side_reduced_count, reduced_of, side_reduced_of};
 ghost use Rattle.pass_steps.specs.Premises.{Within, LogSines, most_reduced};
-ghost use Rattle.pass_second.specs.Sines.{alone_of, together_of, with_sides, sums_of};
+ghost use Rattle.pass_second.specs.Sines.{together_of, with_sides, sums_of};
 ghost use Rattle.pass_second.specs.Steps.{divisor_from};
 
-use crate::sines::{Sines, sines_into};
+use crate::sines::{Sines, product, sines_into};
 use figures::Figure;
 use pass_pair::{Pair, pair_factors};
-use wide::Size;
+use pass_rules::SecondInput;
 
 // [AA], [AB], [BB] and both misclosures, and the sum of d² of each condition.
 #[derive(Clone, Copy)]
@@ -24,67 +24,45 @@ pub(crate) struct Sums {
     pub side_difference_squares: i64,
 }
 
+// Of a side condition that there is not.
+const NO_SINES: Sines = Sines {
+    misclosure: 0,
+    squares: 0,
+    difference_squares: 0,
+};
+
 // The reduced coefficients A, and B where there are known sides, with the sums.
 pub(crate) fn sums_into(
     figure: Figure,
-    log_sines: &[u32],
-    differences: &[i32],
-    log_sides: &[u32],
+    given: SecondInput<'_>,
     a: &mut [i32],
     b: &mut [i32],
 ) -> Sums
-    requires log_sines_len { length log_sines.now ≡ angle_count figure }
-    requires differences_len { length differences.now ≡ angle_count figure }
-    requires log_sides_len { length log_sides.now ≡ side_count figure }
+    requires log_sines_len { length given.log_sines.now ≡ angle_count figure }
+    requires differences_len { length given.differences.now ≡ angle_count figure }
+    requires log_sides_len { length given.log_sides.now ≡ side_count figure }
     requires a_len { length a.old ≡ angle_count figure }
     requires b_len { length b.old ≡ side_reduced_count figure }
-    requires log_sines { LogSines log_sines.now }
-    requires log_sines_2 { LogSines log_sides.now }
-    requires within { Within most_difference differences.now }
+    requires log_sines { LogSines given.log_sines.now }
+    requires log_sines_2 { LogSines given.log_sides.now }
+    requires within { Within most_difference given.differences.now }
     ensures value { result
-        ≡ sums_of figure (sine_entries log_sines.now differences.now log_sides.now) }
+        ≡ sums_of figure (entries_given given.entry) }
     ensures a_after { a.new
-        ≡ reduced_of figure (sine_entries log_sines.now differences.now log_sides.now) }
+        ≡ reduced_of figure (entries_given given.entry) }
     ensures b_after { b.new
-        ≡ side_reduced_of figure (sine_entries log_sines.now differences.now log_sides.now) }
+        ≡ side_reduced_of figure (entries_given given.entry) }
 {
-    let pole = sines_into(
-        figure,
-        figure_tables::signs_of(figure),
-        log_sines,
-        differences,
-        a,
-    );
-    if log_sides.len() == 0 {
-        return alone(pole);
+    let signs = figure_tables::signs_of(figure);
+    let pole = sines_into(figure, signs, given.log_sines, given.differences, a);
+    if given.log_sides.is_empty() {
+        return together(pole, NO_SINES, 0, 0);
     }
-    let side = sines_into(
-        figure,
-        figure_tables::side_signs_of(figure),
-        log_sines,
-        differences,
-        b,
-    );
+    let side_signs = figure_tables::side_signs_of(figure);
+    let side = sines_into(figure, side_signs, given.log_sines, given.differences, b);
     let shared = products(a, b);
-    let side_misclosure = with_sides(side.misclosure, log_sides);
+    let side_misclosure = with_sides(side.misclosure, given.log_sides);
     together(pole, side, shared, side_misclosure)
-}
-
-fn alone(pole: Sines) -> Sums
-    ensures { result ≡ alone_of pole }
-{
-    let pair = Pair {
-        aa: pole.squares,
-        ab: 0,
-        bb: 0,
-        wa: pole.misclosure,
-        wb: 0,
-    };
-    Sums {
-        pair,
-        difference_squares: pole.difference_squares,
-        side_difference_squares: 0,
-    }
 }
 
 fn together(pole: Sines, side: Sines, shared: i64, side_misclosure: i64) -> Sums
@@ -105,6 +83,7 @@ fn together(pole: Sines, side: Sines, shared: i64, side_misclosure: i64) -> Sums
 }
 
 // [AB].
+#[tactic(auto, using(crate::proofs::Growing::total_all), unfolding(whole::specs::Sums::dot))]
 fn products(a: &[i32], b: &[i32]) -> i64
     requires b_len { length b.now ≡ length a.now }
     requires a_len_bound { length a.now ≤ most_angles }
@@ -113,10 +92,8 @@ fn products(a: &[i32], b: &[i32]) -> i64
     ensures { result ≡ dot (length a.now) (vector a.now) (vector b.now) }
 {
     let mut total = 0i64;
-    let mut i = 0;
-    while i < a.len() {
-        total += a[i] as i64 * b[i] as i64;
-        i += 1;
+    for (i, value) in a.iter().enumerate() {
+        total += product(*value, b[i]);
     }
     total
 }
@@ -128,20 +105,17 @@ fn with_sides(of_angles: i64, log_sides: &[u32]) -> i64
     requires log_sines { LogSines log_sides.now }
     ensures { result ≡ with_sides of_angles log_sides.now }
 {
-    of_angles + (log_sides[0] as i64 - log_sides[1] as i64)
+    of_angles + (i64::from(log_sides[0]) - i64::from(log_sides[1]))
 }
 
 // S, or with known sides the determinant.
-pub(crate) fn divisor_of(sides: usize, pair: Pair) -> Size
+pub(crate) fn divisor_of(sides: usize, pair: Pair) -> u128
     requires { pos 0 ≤ℤ divisor_from sides pair }
-    ensures { pos (size_of result) ≡ divisor_from sides pair }
+    ensures { pos result ≡ divisor_from sides pair }
 {
     if sides == 0 {
-        return Size {
-            high: 0,
-            low: whole::magnitude(pair.aa),
-        };
+        u128::from(pair.aa.unsigned_abs())
+    } else {
+        pair_factors(pair).determinant.size
     }
-    let determinant = pair_factors(pair).determinant;
-    determinant.size
 }

@@ -1,14 +1,18 @@
 -- What a sheet worked through is turned back with: the first row that holds of the reader's order and then its pass's. Assumes nothing.
+use Rattle.std.specs.Prelude.{Err, Ok}
+use Rattle.sheet_layout.specs.Head.{Look, headed}
+use Rattle.sheet_rules.specs.Sheet.{Reading}
+use Rattle.std.specs.Prelude.{Err, Ok}
+use Rattle.refusals.specs.Numbers.{Verdict}
 use Rattle.std.specs.Prelude.{ℕ, List, [], ◌++◌, ◌≡◌, refl, T}
 use Rattle.vocabulary.specs.{sym, ap, ◌∙◌}
-use Rattle.refusals.specs.{declared.Verdict.Verdict, declared.Verdict.TheVariants.Passed, declared.Verdict.TheVariants.Failed}
 use Rattle.refusals.specs.{Numbers.told, Numbers.verdict_told, Order.Row, Order.all_in_table, Order.judged}
 use Rattle.refusals.proofs.InSteps.{judged_after_pass, judged_after_failure}
 use Rattle.figures.specs.declared.Figure.{Figure}
-use Rattle.sheet_layout.specs.{declared.Kind.Kind, declared.Pass.Pass, Kinds.pass_of, Kinds.default_of, declared.head.Look.Look}
-use Rattle.sheet_layout.specs.{declared.head.Look.TheVariants.Head, Head.head_rows, Head.look_of, Head.of_head}
+use Rattle.sheet_layout.specs.{declared.Kind.Kind, declared.Pass.Pass, Kinds.pass_of, Kinds.default_of}
+use Rattle.sheet_layout.specs.{Head.head_rows, Head.look_of, Head.of_head}
 use Rattle.sheet_layout.proofs.Naming.{head_verdict, look_judged}
-use Rattle.sheet_rules.specs.{Sheet.Values, Sheet.values_read, declared.Reading.Reading}
+use Rattle.sheet_rules.specs.{Sheet.Values, Sheet.values_read}
 use Rattle.sheet_rules.specs.Judging.{own_lengths, body_rows, reading_after}
 use Rattle.sheet_rules.proofs.Accepted.{head_found}
 use Rattle.pass_rules.specs.{Pass.in_force, FirstPass.first_rows, SecondPass.second_rows}
@@ -32,14 +36,14 @@ sheet_rows_known sheet = go (look_of sheet)
     go : (found : Look)
         → T (all_in_table (of_head found []
         (λ kind f. body_rows kind f sheet (own_lengths kind f) ++ pass_rows kind f (values_read kind f sheet))))
-    go (Head kind f) = body_known sheet kind f
-    go (Look.Refused refusal) = tt
+    go (Ok head) = body_known sheet head.kind head.figure
+    go (Err refusal) = tt
 
 -- what a pass shows tells its verdict
 if_told : (verdict : Verdict) (shown : WorkedSheet) → outcome_told shown.outcome ≡ told 0 0
     → outcome_told (shown_if verdict shown).outcome ≡ verdict_told verdict
-if_told Passed shown done = done
-if_told (Failed refusal) shown done = refl
+if_told (Ok tt) shown done = done
+if_told (Err refusal) shown done = refl
 
 shown_told : (pass : Pass) (f : Figure) (limit_or_tolerance : ℕ) (v : Values)
     → outcome_told (worked_pass pass f limit_or_tolerance v.angles v.rounds v.fixed (entries_of v)).outcome
@@ -55,20 +59,20 @@ module _ (sheet : List ℕ) where
   body_told : (kind : Kind) (f : Figure) (v : Verdict) → judged (body_rows kind f sheet (own_lengths kind f)) ≡ v
       → outcome_told (worked_read (reading_after v kind f sheet) sheet).outcome
       ≡ verdict_told (judged (body_rows kind f sheet (own_lengths kind f) ++ pass_rows kind f (values_read kind f sheet)))
-  body_told kind f Passed e =
+  body_told kind f (Ok tt) e =
       shown_told (pass_of kind) f (in_force (default_of kind) (values_read kind f sheet).limit_or_tolerance) (values_read kind f sheet)
       ∙ sym (ap verdict_told (judged_after_pass (body_rows kind f sheet (own_lengths kind f)) (pass_rows kind f (values_read kind f sheet)) e))
-  body_told kind f (Failed refusal) e =
+  body_told kind f (Err refusal) e =
       sym (ap verdict_told
       (judged_after_failure (body_rows kind f sheet (own_lengths kind f)) (pass_rows kind f (values_read kind f sheet)) refusal e))
 
   head_told : (found : Look) → look_of sheet ≡ found
       → outcome_told (worked_look found sheet).outcome ≡ verdict_told (judged (head_rows sheet ++ rows_after found))
-  head_told (Head kind f) e =
-      ap (λ (reading : Reading). outcome_told (worked_read reading sheet).outcome) (head_found sheet (own_lengths kind f) kind f e)
-      ∙ body_told kind f (judged (body_rows kind f sheet (own_lengths kind f))) refl
-      ∙ sym (ap verdict_told (judged_after_pass (head_rows sheet) (rows_after (Head kind f)) (sym (look_judged sheet) ∙ ap head_verdict e)))
-  head_told (Look.Refused refusal) e =
+  head_told (Ok head) e =
+      ap (λ (reading : Reading). outcome_told (worked_read reading sheet).outcome) (head_found sheet (own_lengths head.kind head.figure) head.kind head.figure e)
+      ∙ body_told head.kind head.figure (judged (body_rows head.kind head.figure sheet (own_lengths head.kind head.figure))) refl
+      ∙ sym (ap verdict_told (judged_after_pass (head_rows sheet) (rows_after (headed head.kind head.figure)) (sym (look_judged sheet) ∙ ap head_verdict e)))
+  head_told (Err refusal) e =
       sym (ap verdict_told (judged_after_failure (head_rows sheet) [] refusal (sym (look_judged sheet) ∙ ap head_verdict e)))
 
   pub worked_told : outcome_told (worked_of sheet).outcome ≡ verdict_told (judged (sheet_rows sheet))

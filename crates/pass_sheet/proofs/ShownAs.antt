@@ -1,13 +1,16 @@
 -- A sheet worked through is shown in one of three ways: as a worked figure of either kind, whose order has passed, or as a refusal. Assumes
 -- nothing.
+use Rattle.std.specs.Prelude.{Err}
+use Rattle.sheet_layout.specs.Head.{Look}
+use Rattle.sheet_rules.specs.Sheet.{Reading}
+use Rattle.std.specs.Prelude.{Err, Ok}
+use Rattle.refusals.specs.Numbers.{Verdict}
 use Rattle.std.specs.Prelude.{ℕ, List, [], ◌⊎◌, ◌≡◌, refl}
 use Rattle.vocabulary.specs.{inl, inr, sym, ap, subst}
-use Rattle.refusals.specs.{declared.Refusal.Refusal, declared.Verdict.Verdict, Order.judged}
-use Rattle.refusals.specs.declared.Verdict.TheVariants.{Passed, Failed}
+use Rattle.refusals.specs.{declared.Refusal.Refusal, Order.judged}
 use Rattle.figures.specs.declared.Figure.{Figure}
-use Rattle.sheet_layout.specs.{declared.Kind.Kind, declared.Pass.Pass, Kinds.pass_of, declared.head.Look.Look, Head.look_of, Head.of_head}
-use Rattle.sheet_layout.specs.declared.head.Look.TheVariants.{Head}
-use Rattle.sheet_rules.specs.{declared.Reading.Reading, Sheet.Values, Sheet.values_read}
+use Rattle.sheet_layout.specs.{declared.Kind.Kind, declared.Pass.Pass, Kinds.pass_of, Head.look_of, Head.of_head}
+use Rattle.sheet_rules.specs.{Sheet.Values, Sheet.values_read}
 use Rattle.sheet_rules.specs.Judging.{own_lengths, body_rows, reading_after}
 use Rattle.sheet_rules.proofs.Accepted.{head_found}
 use Rattle.pass_rules.specs.{FirstPass.first_rows, SecondPass.SineEntries, SecondPass.sine_entries, SecondPass.second_rows}
@@ -20,7 +23,7 @@ pub record FirstShown (sheet : List ℕ) (worked : WorkedSheet) : Type 0 where
   pub rounds : List ℕ
   pub fixed : List ℕ
   pub rounds_held_lem : rounds_held sheet ≡ rounds
-  pub passed : judged (first_rows figure limit angles rounds fixed (first_sheet_lengths figure angles rounds fixed)) ≡ Passed
+  pub passed : judged (first_rows figure limit angles rounds fixed (first_sheet_lengths figure angles rounds fixed)) ≡ Ok tt
   pub is : worked ≡ first_shown figure angles rounds fixed
 
 pub record SecondShown (sheet : List ℕ) (worked : WorkedSheet) : Type 0 where
@@ -31,7 +34,7 @@ pub record SecondShown (sheet : List ℕ) (worked : WorkedSheet) : Type 0 where
   pub entries : SineEntries
   pub held : entries_in sheet ≡ entries
   pub rounds_held_lem : rounds_held sheet ≡ rounds
-  pub passed : judged (second_rows figure tolerance angles rounds entries (second_sheet_lengths figure angles rounds entries)) ≡ Passed
+  pub passed : judged (second_rows figure tolerance angles rounds entries (second_sheet_lengths figure angles rounds entries)) ≡ Ok tt
   pub is : worked ≡ second_shown figure angles rounds entries
 
 pub record RefusedShown (worked : WorkedSheet) : Type 0 where
@@ -52,7 +55,7 @@ module _ (sheet : List ℕ) where
     where
       go : (v : Verdict) → judged (first_rows f limit angles rounds fixed (first_sheet_lengths f angles rounds fixed)) ≡ v
           → ShownAs sheet (shown_if v (first_shown f angles rounds fixed))
-      go Passed e = inl (record {
+      go (Ok tt) e = inl (record {
         figure = f;
         limit = limit;
         angles = angles;
@@ -62,7 +65,7 @@ module _ (sheet : List ℕ) where
         passed = e;
         is = refl;
       })
-      go (Failed refusal) e = refused_shown refusal
+      go (Err refusal) e = refused_shown refusal
 
   second_shown_lem : (f : Figure) (tolerance : ℕ) (angles rounds : List ℕ) (e : SineEntries) → entries_in sheet ≡ e → rounds_held sheet ≡ rounds
       → ShownAs sheet (second_sheet f tolerance angles rounds e)
@@ -71,7 +74,7 @@ module _ (sheet : List ℕ) where
     where
       go : (v : Verdict) → judged (second_rows f tolerance angles rounds e (second_sheet_lengths f angles rounds e)) ≡ v
           → ShownAs sheet (shown_if v (second_shown f angles rounds e))
-      go Passed passed = inr (inl (record {
+      go (Ok tt) passed = inr (inl (record {
         figure = f;
         tolerance = tolerance;
         angles = angles;
@@ -82,7 +85,7 @@ module _ (sheet : List ℕ) where
         passed = passed;
         is = refl;
       }))
-      go (Failed refusal) failed = refused_shown refusal
+      go (Err refusal) failed = refused_shown refusal
 
   pass_shown : (pass : Pass) (f : Figure) (limit_or_tolerance : ℕ) (v : Values) → entries_in sheet ≡ entries_of v → rounds_held sheet ≡ v.rounds
       → ShownAs sheet (worked_pass pass f limit_or_tolerance v.angles v.rounds v.fixed (entries_of v))
@@ -92,16 +95,16 @@ module _ (sheet : List ℕ) where
   read_shown : (kind : Kind) (f : Figure) → entries_in sheet ≡ entries_of (values_read kind f sheet) → rounds_held sheet ≡ (values_read kind f sheet).rounds
       → (v : Verdict)
       → ShownAs sheet (worked_read (reading_after v kind f sheet) sheet)
-  read_shown kind f held counted Passed = pass_shown (pass_of kind) f _ (values_read kind f sheet) held counted
-  read_shown kind f held counted (Failed refusal) = refused_shown refusal
+  read_shown kind f held counted (Ok tt) = pass_shown (pass_of kind) f _ (values_read kind f sheet) held counted
+  read_shown kind f held counted (Err refusal) = refused_shown refusal
 
   look_shown : (found : Look) → look_of sheet ≡ found → ShownAs sheet (worked_look found sheet)
-  look_shown (Head kind f) e =
-      subst (λ (reading : Reading). ShownAs sheet (worked_read reading sheet)) (sym (head_found sheet (own_lengths kind f) kind f e))
-      (read_shown kind f (ap (λ (found : Look). of_head found (sine_entries [] [] []) (λ k g. entries_of (values_read k g sheet))) e)
+  look_shown (Ok head) e =
+      subst (λ (reading : Reading). ShownAs sheet (worked_read reading sheet)) (sym (head_found sheet (own_lengths head.kind head.figure) head.kind head.figure e))
+      (read_shown head.kind head.figure (ap (λ (found : Look). of_head found (sine_entries [] [] []) (λ k g. entries_of (values_read k g sheet))) e)
       (ap (λ (found : Look). of_head found [] (λ k g. (values_read k g sheet).rounds)) e)
-      (judged (body_rows kind f sheet (own_lengths kind f))))
-  look_shown (Look.Refused refusal) e = refused_shown refusal
+      (judged (body_rows head.kind head.figure sheet (own_lengths head.kind head.figure))))
+  look_shown (Err refusal) e = refused_shown refusal
 
   pub shown_as : ShownAs sheet (worked_of sheet)
   unfolding worked_of

@@ -1,12 +1,17 @@
 -- A sheet worked through.
+use Rattle.std.specs.Prelude.{Err, Ok}
+use Rattle.sheet_layout.specs.Head.{Look}
+use Rattle.sheet_rules.specs.Sheet.{Reading}
+use Rattle.std.specs.Prelude.{Err, Ok}
+use Rattle.refusals.specs.Numbers.{Verdict}
 use Rattle.std.specs.Prelude.{ℕ, List, [], ◌∷◌, ◌++◌, ℤ, length}
-use Rattle.refusals.specs.{declared.Refusal.Refusal, declared.Verdict.Verdict, Numbers.Told, Numbers.told, Numbers.refusal_told}
-use Rattle.refusals.specs.{declared.Verdict.TheVariants.Passed, declared.Verdict.TheVariants.Failed, Order.Row, Order.judged}
+use Rattle.refusals.specs.{declared.Refusal.Refusal, Numbers.Told, Numbers.told, Numbers.refusal_told}
+use Rattle.refusals.specs.{Order.Row, Order.judged}
 use Rattle.whole.specs.Lists.{listed}
 use Rattle.figures.specs.{declared.Figure.Figure, Figure.angle_count}
-use Rattle.sheet_layout.specs.{declared.Kind.Kind, declared.Pass.Pass, declared.head.Look.Look, declared.head.Look.TheVariants.Head}
+use Rattle.sheet_layout.specs.{declared.Kind.Kind, declared.Pass.Pass}
 use Rattle.sheet_layout.specs.{Head.head_rows, Head.look_of, Head.of_head, Kinds.pass_of, Kinds.default_of}
-use Rattle.sheet_rules.specs.{declared.Reading.Reading, declared.Reading.TheVariants.Read, Sheet.Values, Sheet.values_read}
+use Rattle.sheet_rules.specs.{declared.ReadHead.ReadHead, Lent.Slices, Sheet.Values, Sheet.values_read}
 use Rattle.sheet_rules.specs.Judging.{own_lengths, body_rows, reading_of, reading_after}
 use Rattle.pass_rules.specs.Pass.{in_force}
 use Rattle.pass_rules.specs.FirstPass.{first_result_lengths, first_rows, misclosures_of, numerators_of, rounded_of, corrected_of, rests_of}
@@ -62,8 +67,8 @@ first_shown f angles rounds fixed = record {
 }
 
 abbrev pub shown_if : Verdict → WorkedSheet → WorkedSheet
-shown_if Passed shown = shown
-shown_if (Failed r) shown = refused_sheet r
+shown_if (Ok tt) shown = shown
+shown_if (Err r) shown = refused_sheet r
 
 -- kinds for the first pass: that of the figure, with slices of the right lengths lent for the results
 abbrev pub first_sheet_lengths : Figure → (angles rounds fixed : List ℕ) → List ℕ
@@ -110,24 +115,26 @@ worked_pass Pass.Second f tolerance angles rounds fixed e = second_sheet f toler
 abbrev pub worked_kind : Kind → Figure → (limit_or_tolerance : ℕ) → (angles rounds fixed : List ℕ) → SineEntries → WorkedSheet
 worked_kind kind f limit_or_tolerance angles rounds fixed e = worked_pass (pass_of kind) f (in_force (default_of kind) limit_or_tolerance) angles rounds fixed e
 
-abbrev pub worked_reading : Reading → (angles rounds fixed : List ℕ) → SineEntries → WorkedSheet
-worked_reading (Reading.Refused r) angles rounds fixed e = refused_sheet r
-worked_reading (Read kind f limit_or_tolerance) angles rounds fixed e = worked_kind kind f limit_or_tolerance angles rounds fixed e
+-- what was read, with its values in slices
+abbrev pub worked_slices : ReadHead → Slices → WorkedSheet
+worked_slices read s =
+    worked_kind read.kind read.figure read.limit_or_tolerance s.angles s.rounds s.fixed (sine_entries s.log_sines s.differences s.log_sides)
 
 -- the values that the reader gives, where it gives them
 abbrev pub worked_read : Reading → List ℕ → WorkedSheet
-worked_read (Reading.Refused r) sheet = refused_sheet r
-worked_read (Read kind f limit_or_tolerance) sheet =
-    worked_kind kind f limit_or_tolerance (values_read kind f sheet).angles (values_read kind f sheet).rounds (values_read kind f sheet).fixed
-    (entries_of (values_read kind f sheet))
+worked_read (Err r) sheet = refused_sheet r
+worked_read (Ok read) sheet =
+    worked_kind read.kind read.figure read.limit_or_tolerance (values_read read.kind read.figure sheet).angles
+    (values_read read.kind read.figure sheet).rounds (values_read read.kind read.figure sheet).fixed
+    (entries_of (values_read read.kind read.figure sheet))
 
 -- and of a sheet whose head is known
 abbrev pub worked_body : Kind → Figure → List ℕ → WorkedSheet
 worked_body kind f sheet = worked_read (reading_after (judged (body_rows kind f sheet (own_lengths kind f))) kind f sheet) sheet
 
 abbrev pub worked_look : Look → List ℕ → WorkedSheet
-worked_look (Look.Refused r) sheet = refused_sheet r
-worked_look (Head kind f) sheet = worked_read (reading_of sheet (own_lengths kind f)) sheet
+worked_look (Err r) sheet = refused_sheet r
+worked_look (Ok head) sheet = worked_read (reading_of sheet (own_lengths head.kind head.figure)) sheet
 
 -- a sheet worked through, from any bytes
 unfoldable pub worked_of : List ℕ → WorkedSheet

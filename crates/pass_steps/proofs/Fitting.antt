@@ -1,7 +1,8 @@
 -- What a step gives where what is lent to it fits, and leaves where it does not. Assumes nothing.
+use Rattle.std.specs.Prelude.{Err, Ok}
+use Rattle.refusals.specs.Numbers.{Verdict}
 use Rattle.std.specs.Prelude.{Bool, cond, List, ◌≡◌, ℕ, eqb, length}
 use Rattle.vocabulary.specs.{sym, ap, ap₂, ◌∙◌, eq-eqb, ne_eqb}
-use Rattle.refusals.specs.{declared.Verdict.Verdict, declared.Verdict.TheVariants.Passed, declared.Verdict.TheVariants.Failed}
 use Rattle.refusals.specs.Promise.{stored}
 use Rattle.pass_steps.specs.Steps.{fitting, same_length}
 
@@ -28,5 +29,5 @@ module _ {A : Type 0} (new entry : List A) where
 module _ {W L : Type 0} (joined : W → List ℕ → L) (new entry : W) (rounds held : List ℕ) where
   pub beside : (v : Verdict) {exit : W} {left : List ℕ} → length rounds ≡ length held → exit ≡ stored v new entry
       → left ≡ stored v (same_length rounds held) held → joined exit left ≡ stored v (joined new rounds) (joined entry held)
-  beside Passed same worked kept = ap₂ joined worked (kept ∙ copied rounds held same)
-  beside (Failed refusal) same worked kept = ap₂ joined worked kept
+  beside (Ok tt) same worked kept = ap₂ joined worked (kept ∙ copied rounds held same)
+  beside (Err refusal) same worked kept = ap₂ joined worked kept

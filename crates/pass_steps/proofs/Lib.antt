@@ -1,6 +1,5 @@
 -- The steps that both passes share meet their contracts; and for the passes: how large sums and numerators are, what a step gives where
 -- what is lent fits, and the counts of a figure.
-pub mod Again
 mod AppliedRows
 pub mod Bounds
 pub mod Counted

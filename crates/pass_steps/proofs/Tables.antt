@@ -1,5 +1,5 @@
 -- A table brought to one size and filled with 0 gives the numerators of the natural table, of every figure at once. Assumes nothing.
-use Rattle.std.specs.Prelude.{◌≡◌, List, [], map, ℕ, ◌≤◌, ◌<◌, get_or, ℤ, pos}
+use Rattle.std.specs.Prelude.{◌≡◌, List, [], map, ℕ, ◌<◌, get_or, ℤ, pos}
 use Rattle.vocabulary.specs.{sym, ap, ◌∙◌, subst, lt_of_lt_of_le, list-get_or_map}
 use Rattle.whole.specs.{Lists.listed, Lists.padded, Sums.applied, Sums.table, Sums.vector}
 use Rattle.whole.proofs.{Lists.length_padded, Lists.get_or_padded, Lists.get_d_any, Lists.listed_ext, Sums.applied_rows}
@@ -24,16 +24,6 @@ padded_numerator f w i h =
     applied_rows (condition_count f) (table (padded_rows f)) (table (description f).rows) w i
     (λ j k. padded_entry f i j (lt_of_lt_of_le h (angle_bound f)) (lt_of_lt_of_le k (condition_bound f)))
 
-module _ (f g : Figure) (told : f ≡ g) where
-  -- the numerators of the figure that is told, by its table
-  pub told_numerators : (rows : List (List ℤ)) (w exit : List ℤ) → rows ≡ padded_rows g → exit ≡ listed (angle_count g) (applied (condition_count g) (table rows) (vector w))
-      → exit ≡ listed (angle_count f) (numerator f (vector w))
-  told_numerators rows w exit its made =
-      made
-      ∙ ap (λ (t : List (List ℤ)). listed (angle_count g) (applied (condition_count g) (table t) (vector w))) its
-      ∙ listed_ext (angle_count g) (applied (condition_count g) (table (padded_rows g)) (vector w)) (numerator g (vector w)) (padded_numerator g (vector w))
-      ∙ ap (λ (h : Figure). listed (angle_count h) (numerator h (vector w))) (sym told)
-
-  pub told_lengths : {m n : ℕ} → m ≡ condition_count f → n ≡ angle_count f → {A : Type 0} → A
-      → (n ≡ angle_count g) × ((angle_count g ≤ most_angles) × ((m ≡ condition_count g) × ((condition_count g ≤ most_conditions) × A)))
-  told_lengths m n rest = (n ∙ ap angle_count told, (angle_bound g, (m ∙ ap condition_count told, (condition_bound g, rest))))
+-- all of them
+pub padded_numerators : (f : Figure) (w : ℕ → ℤ) → listed (angle_count f) (applied (condition_count f) (table (padded_rows f)) w) ≡ listed (angle_count f) (numerator f w)
+padded_numerators f w = listed_ext (angle_count f) (applied (condition_count f) (table (padded_rows f)) w) (numerator f w) (padded_numerator f w)

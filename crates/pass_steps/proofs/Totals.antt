@@ -1,8 +1,15 @@
 -- A total that a loop adds up, term by term, within its width. Assumes nothing.
-use Rattle.std.specs.Prelude.{◌≡◌, ℕ, ◌+◌, ◌*◌, ◌^◌, ◌≤◌, ◌<◌, ℤ, nat_abs, ◌+ℤ◌}
+use Rattle.std.specs.Prelude.{◌≡◌, refl, ℕ, ◌+◌, ◌*◌, ◌^◌, ◌≤◌, ◌<◌, ℤ, pos, nat_abs, ◌+ℤ◌}
 use Rattle.vocabulary.specs.{ap₂, ◌∙◌, lt_of_le_of_lt, arith, Width, SFits, to_z, of_z, hbits, to_z-of_z}
 use Rattle.whole.specs.Sums.{sum}
 use Rattle.whole.proofs.{Magnitudes.nat_abs_add, Magnitudes.magnitude_fits, Sums.sum_more}
+
+pub sum_none : (f : ℕ → ℤ) → sum 0 f ≡ pos 0
+unfolding sum
+sum_none f = refl
+
+-- a sum that a loop adds up
+pub ruleset sums = (sum_none, sum_more)
 
 -- one more term, added to the total of those before it
 pub record More (w : Width) (most : ℕ) (f : ℕ → ℤ) (k : ℕ) (total : ℤ) : Type 0 where

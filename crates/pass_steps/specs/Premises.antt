@@ -1,8 +1,8 @@
 -- What the steps of the work ask of what they take, so that no sum and no product passes its width.
-use Rattle.std.specs.Prelude.{ℕ, ◌+◌, ◌*◌, ◌^◌, ◌≤◌, ◌<◌, Bool, ◌&&◌, List, eqb, leb, get_or, ℤ, nat_abs}
+use Rattle.std.specs.Prelude.{ℕ, ◌+◌, ◌*◌, ◌^◌, ◌≤◌, ◌<◌, List, get_or, ℤ, nat_abs}
 use Rattle.whole.specs.Sums.{vector}
 use Rattle.refusals.specs.Ranges.{most_log_sine, most_difference}
-use Rattle.figures.specs.{declared.Figure.Figure, Figure.description, Numerators.most_conditions, Numerators.most_members}
+use Rattle.figures.specs.{Numerators.most_conditions, Numerators.most_members}
 
 -- no magnitude is greater
 abbrev pub Within : (most : ℕ) → List ℤ → Type 0
@@ -46,7 +46,3 @@ most_taken = most_conditions * (100 * (most_members * most_difference))
 -- no reduced coefficient is greater; the squares of as many as there are angles sum to 63 bits
 abbrev pub most_reduced : ℕ
 most_reduced = most_denominator * most_difference + most_taken
-
--- a central polygon of five triangles or more
-abbrev pub has_five : Figure → Bool
-has_five f = eqb (description f).code 3 && leb 5 (description f).n

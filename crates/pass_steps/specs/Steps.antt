@@ -1,7 +1,8 @@
 -- What the steps that both passes share give, and what they leave where what is lent does not fit.
+use Rattle.refusals.specs.Numbers.{Verdict}
 use Rattle.std.specs.Prelude.{ℕ, cond, List, [], ◌∷◌, ◌≡◌, eqb, ltb, ℤ, pos, nat_abs, length, take}
 use Rattle.whole.specs.{Lists.listed, Sums.vector}
-use Rattle.refusals.specs.{declared.Verdict.Verdict, Order.Row, Promise.Promised, Promise.stored, Table.lengths_row, Table.results_row}
+use Rattle.refusals.specs.{Order.Row, Promise.Promised, Promise.stored, Table.lengths_row, Table.results_row}
 use Rattle.judging.specs.Searches.{results_of}
 use Rattle.figures.specs.{declared.Figure.Figure, Figure.angle_count, Figure.condition_count, Numerators.condition_sum, Numerators.numerator}
 

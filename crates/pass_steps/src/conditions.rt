@@ -1,5 +1,6 @@
 // The conditions of each figure, by its family: document 01, "The eight figures", and document 02, M-100. Conditions and angles are used by
 // their indices, counted from 0.
+// A cast by `as` stands where the library has no `From`, to a narrower type or to and from usize; each is proved to keep its value.
 ghost use Rattle.std.specs.Prelude.{cond, ◌≡◌, ℕ, ◌+◌, ◌-◌, ◌*◌, ◌<◌, ◌≤◌, eqb, ◌+ℤ◌, length};
 ghost use Rattle.whole.specs.Sums.{sum, vector};
 ghost use Rattle.figures.specs.declared.Figure.{Figure};
@@ -11,7 +12,7 @@ ghost use Rattle.pass_steps.specs.Steps.{held as Steps·held};
 use figures::Figure;
 
 // The most that a sum may be, either way: what 32 bits hold.
-const MOST_HELD: i64 = 2147483647;
+const MOST_HELD: u64 = 2147483647;
 
 // The sum over the angles of each condition.
 pub fn condition_sums(figure: Figure, x: &[i32], sums: &mut [i32])
@@ -20,10 +21,8 @@ pub fn condition_sums(figure: Figure, x: &[i32], sums: &mut [i32])
         (sums_of figure x.now) sums.old }
 {
     let counts = figure_tables::counts_of(figure);
-    if x.len() == counts.angles {
-        if sums.len() == counts.conditions {
-            sums_into(figure, x, sums);
-        }
+    if x.len() == counts.angles && sums.len() == counts.conditions {
+        sums_into(figure, x, sums);
     }
 }
 
@@ -32,19 +31,16 @@ fn sums_into(figure: Figure, x: &[i32], sums: &mut [i32])
     requires sums_len { length sums.old ≡ condition_count figure }
     ensures { sums.new ≡ sums_of figure x.now }
 {
-    let mut j = 0;
-    while j < sums.len() {
-        sums[j] = held(condition_sum(figure, x, j));
-        j += 1;
+    for (j, sum) in sums.iter_mut().enumerate() {
+        *sum = held(condition_sum(figure, x, j));
     }
 }
 
+#[tactic(auto, unfolding(crate::specs::Steps::held))]
 fn held(total: i64) -> i32
     ensures { result ≡ Steps·held total }
 {
-    if total < -MOST_HELD {
-        0
-    } else if MOST_HELD < total {
+    if total.unsigned_abs() > MOST_HELD {
         0
     } else {
         total as i32
@@ -84,20 +80,19 @@ fn corner_sum(x: &[i32], first: usize) -> i64
         ≡ vector x.now (cond (eqb first 0) (length x.now) first - 1) +ℤ vector x.now (first + 1) }
 {
     let before = if first == 0 { x.len() } else { first };
-    x[before - 1] as i64 + x[first + 1] as i64
+    i64::from(x[before - 1]) + i64::from(x[first + 1])
 }
 
 // The sum of `count` numbers: the one at `first`, and then every `step`th.
+#[tactic(auto, using(crate::proofs::Totals::sums))]
 fn run_sum(x: &[i32], first: usize, step: usize, count: usize) -> i64
     requires by_index { (k : ℕ) → k < count → first + step * k < length x.now }
     requires count_le_most_members { count ≤ most_members }
     ensures { result ≡ sum count (λ k. vector x.now (first + step * k)) }
 {
-    let mut total = 0i64;
-    let mut k = 0;
-    while k < count {
-        total += x[first + step * k] as i64;
-        k += 1;
+    let mut total = 0;
+    for k in 0..count {
+        total += i64::from(x[first + step * k]);
     }
     total
 }

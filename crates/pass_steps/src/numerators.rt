@@ -1,6 +1,7 @@
 // The numerators of the exact corrections: document 01, "The two passes". Each figure's table as its type has it, by value, to one
-// function.
-ghost use Rattle.std.specs.Prelude.{◌≡◌, ◌+◌, ◌*◌, ◌^◌, ◌≤◌, nat_abs, ◌*ℤ◌, T, length};
+// function. The figure's type is chosen here as in pass_first's `rounded_into`: one choice for both needs a closure that is generic in the
+// figure's type, which the language does not have.
+ghost use Rattle.std.specs.Prelude.{◌≡◌, ◌+◌, ◌*◌, ◌^◌, ◌≤◌, nat_abs, ◌*ℤ◌, length};
 ghost use Rattle.whole.specs.Lists.{listed};
 ghost use Rattle.whole.specs.Sums.{vector, table, dot, applied};
 ghost use Rattle.figures.specs.Figure.{angle_count, condition_count};
@@ -8,16 +9,13 @@ ghost use Rattle.figures.specs.Numerators.{most_angles, most_conditions};
 ghost use Rattle.refusals.specs.Order.{verdict_of};
 ghost use Rattle.refusals.specs.Promise.{stored};
 ghost use Rattle.refusals.specs.Table.{misclosures_row};
-ghost use Rattle.pass_steps.specs.Premises.{Within, has_five, most_applied};
+ghost use Rattle.pass_steps.specs.Premises.{Within, most_applied};
 ghost use Rattle.pass_steps.specs.Steps.{fitting, numerators_from, AppliedTo};
 
-use crate::stores::copied;
 use figure_tables::{
-    CentralHeptagon, CentralHexagon, CentralOctagon, CentralPentagon, CentralQuadrilateral,
-    CentralTriangle, PointInQuadrilateral, PointInTriangle, Quadrilateral,
+    CentralPolygon, FigureTable, PointInQuadrilateral, PointInTriangle, Quadrilateral,
 };
 use figures::{Figure, MOST_CONDITIONS, Rows};
-use refusals::Verdict;
 
 // The greatest misclosure of which nine products with a byte sum to 31 bits.
 const MOST_APPLIED: u32 = 1048576;
@@ -31,11 +29,9 @@ pub fn numerators_into(figure: Figure, w: &[i32], numerators: &mut [i32])
         numerators.old }
 {
     let counts = figure_tables::counts_of(figure);
-    if w.len() == counts.conditions {
-        if numerators.len() == counts.angles {
-            if let Verdict::Passed = judging::misclosures_verdict(w, MOST_APPLIED) {
-                table_applied(figure, w, numerators);
-            }
+    if w.len() == counts.conditions && numerators.len() == counts.angles {
+        if let Ok(()) = judging::check_misclosures(w, MOST_APPLIED) {
+            table_applied(figure, w, numerators);
         }
     }
 }
@@ -47,83 +43,25 @@ fn table_applied(figure: Figure, w: &[i32], numerators: &mut [i32])
     ensures { numerators.new ≡ numerators_from figure w.now }
 {
     match figure {
-        Figure::Quadrilateral => rows_applied(
-            Quadrilateral::rows(),
-            Quadrilateral::ANGLES,
-            Quadrilateral::CONDITIONS,
-            w,
-            numerators,
-        ),
-        Figure::PointInTriangle => rows_applied(
-            PointInTriangle::rows(),
-            PointInTriangle::ANGLES,
-            PointInTriangle::CONDITIONS,
-            w,
-            numerators,
-        ),
-        Figure::PointInQuadrilateral => rows_applied(
-            PointInQuadrilateral::rows(),
-            PointInQuadrilateral::ANGLES,
-            PointInQuadrilateral::CONDITIONS,
-            w,
-            numerators,
-        ),
-        Figure::CentralTriangle => rows_applied(
-            CentralTriangle::rows(),
-            CentralTriangle::ANGLES,
-            CentralTriangle::CONDITIONS,
-            w,
-            numerators,
-        ),
-        Figure::CentralQuadrilateral => rows_applied(
-            CentralQuadrilateral::rows(),
-            CentralQuadrilateral::ANGLES,
-            CentralQuadrilateral::CONDITIONS,
-            w,
-            numerators,
-        ),
-        _ => polygon_applied(figure, w, numerators),
+        Figure::Quadrilateral => applied_of::<Quadrilateral>(w, numerators),
+        Figure::PointInTriangle => applied_of::<PointInTriangle>(w, numerators),
+        Figure::PointInQuadrilateral => applied_of::<PointInQuadrilateral>(w, numerators),
+        Figure::CentralTriangle => applied_of::<CentralPolygon<3>>(w, numerators),
+        Figure::CentralQuadrilateral => applied_of::<CentralPolygon<4>>(w, numerators),
+        Figure::CentralPentagon => applied_of::<CentralPolygon<5>>(w, numerators),
+        Figure::CentralHexagon => applied_of::<CentralPolygon<6>>(w, numerators),
+        Figure::CentralHeptagon => applied_of::<CentralPolygon<7>>(w, numerators),
+        Figure::CentralOctagon => applied_of::<CentralPolygon<8>>(w, numerators),
     }
 }
 
-// The central polygons of five triangles and more.
-fn polygon_applied(figure: Figure, w: &[i32], numerators: &mut [i32])
-    requires w_len { length w.now ≡ condition_count figure }
-    requires numerators_len { length numerators.old ≡ angle_count figure }
+fn applied_of<F: FigureTable>(w: &[i32], numerators: &mut [i32])
+    requires w_len { length w.now ≡ condition_count F.figure }
+    requires numerators_len { length numerators.old ≡ angle_count F.figure }
     requires within { Within most_applied w.now }
-    requires t { T (has_five figure) }
-    ensures { numerators.new ≡ numerators_from figure w.now }
+    ensures { numerators.new ≡ numerators_from F.figure w.now }
 {
-    match figure {
-        Figure::CentralPentagon => rows_applied(
-            CentralPentagon::rows(),
-            CentralPentagon::ANGLES,
-            CentralPentagon::CONDITIONS,
-            w,
-            numerators,
-        ),
-        Figure::CentralHexagon => rows_applied(
-            CentralHexagon::rows(),
-            CentralHexagon::ANGLES,
-            CentralHexagon::CONDITIONS,
-            w,
-            numerators,
-        ),
-        Figure::CentralHeptagon => rows_applied(
-            CentralHeptagon::rows(),
-            CentralHeptagon::ANGLES,
-            CentralHeptagon::CONDITIONS,
-            w,
-            numerators,
-        ),
-        _ => rows_applied(
-            CentralOctagon::rows(),
-            CentralOctagon::ANGLES,
-            CentralOctagon::CONDITIONS,
-            w,
-            numerators,
-        ),
-    }
+    rows_applied(F::rows(), F::ANGLES, F::CONDITIONS, w, numerators);
 }
 
 // The one row-apply function: the rows of a figure of so many angles and conditions. The misclosures are taken into an array of its own, so
@@ -137,7 +75,7 @@ fn rows_applied(rows: Rows, angles: usize, conditions: usize, w: &[i32], numerat
     ensures { numerators.new ≡ listed angles (applied conditions (table rows) (vector w.now)) }
 {
     let mut own = [0i32; MOST_CONDITIONS];
-    copied(w, &mut own[..conditions]);
+    own[..conditions].copy_from_slice(&w[..conditions]);
     let taken = &own[..conditions];
     nine_applied(rows, 0, angles, conditions, taken, numerators);
     nine_applied(rows, 9, angles, conditions, taken, numerators);
@@ -145,7 +83,7 @@ fn rows_applied(rows: Rows, angles: usize, conditions: usize, w: &[i32], numerat
 }
 
 // Nine rows, or what is left of the angles, from `from` on. So short a loop over a table that is told is compiled row by row, with no table
-// in memory.
+// in memory. Rows and counts are arguments and no struct: the compiler sees the constants of the figure's type through them.
 fn nine_applied(
     rows: Rows,
     from: usize,
@@ -163,15 +101,12 @@ fn nine_applied(
     requires applied_to { AppliedTo from angles (applied conditions (table rows) (vector w.now)) numerators.old }
     ensures { AppliedTo (from + 9) angles (applied conditions (table rows) (vector w.now)) numerators.new }
 {
-    let to = if angles < from + 9 { angles } else { from + 9 };
-    let mut i = from;
-    while i < to {
-        let row = rows[i];
-        numerators[i] = row_applied(row, conditions, w);
-        i += 1;
+    for i in from..angles.min(from + 9) {
+        numerators[i] = row_applied(rows[i], conditions, w);
     }
 }
 
+#[tactic(auto, unfolding(whole::specs::Sums::dot, whole::specs::Sums::sum))]
 fn row_applied(row: [i8; MOST_CONDITIONS], conditions: usize, w: &[i32]) -> i32
     requires w_len { length w.now ≡ conditions }
     requires conditions_le_most_conditions { conditions ≤ most_conditions }
@@ -179,10 +114,8 @@ fn row_applied(row: [i8; MOST_CONDITIONS], conditions: usize, w: &[i32]) -> i32
     ensures { result ≡ dot conditions (vector row) (vector w.now) }
 {
     let mut total = 0i32;
-    let mut j = 0;
-    while j < conditions {
+    for j in 0..conditions {
         total += product(row[j], w[j]);
-        j += 1;
     }
     total
 }
@@ -191,5 +124,5 @@ fn product(coefficient: i8, misclosure: i32) -> i32
     requires { nat_abs misclosure ≤ most_applied }
     ensures { (result ≡ coefficient *ℤ misclosure) × (nat_abs result ≤ 2 ^ 7 * most_applied) }
 {
-    coefficient as i32 * misclosure
+    i32::from(coefficient) * misclosure
 }

@@ -1,23 +1,25 @@
 // The stores, once no row holds.
-ghost use Rattle.std.specs.Prelude.{◌≡◌, length};
+ghost use Rattle.std.specs.Prelude.{◌≡◌};
+ghost use Rattle.refusals.specs.Promise.{stored};
 ghost use Rattle.pass_steps.specs.Steps.{same_length};
 
-// Copies as many numbers as are lent, where the lengths are the same.
-pub fn store_signed(x: &[i32], lent: &mut [i32])
-    ensures { lent.new ≡ same_length x.now lent.old }
+use refusals::Refusal;
+
+// Copies as many values as are lent, where the lengths are the same.
+pub fn store<T: Copy>(values: &[T], lent: &mut [T])
+    ensures { lent.new ≡ same_length values.now lent.old }
 {
-    if x.len() == lent.len() {
-        copied(x, lent);
+    if values.len() == lent.len() {
+        lent.copy_from_slice(values);
     }
 }
 
-pub(crate) fn copied(x: &[i32], lent: &mut [i32])
-    requires { length lent.old ≡ length x.now }
-    ensures { lent.new ≡ x.now }
+// The rounds that were given, where every test has passed and the lengths are the same: document 02, M-106.
+#[tactic(auto, unfolding(refusals::specs::Promise::stored))]
+pub fn store_rounds(verdict: Result<(), Refusal>, rounds: &[u8], lent: &mut [u8])
+    ensures { lent.new ≡ stored verdict (same_length rounds.now lent.old) lent.old }
 {
-    let mut i = 0;
-    while i < lent.len() {
-        lent[i] = x[i];
-        i += 1;
+    if verdict.is_ok() {
+        store(rounds, lent);
     }
 }

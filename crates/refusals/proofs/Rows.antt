@@ -1,11 +1,12 @@
 -- The law of every order: number k at place p is answered if and only if its row holds at p, at no lower place, and no row before it
 -- holds anywhere; the operation is done if and only if no row holds; and no number is given that does not stand in the order. Assumes
 -- nothing.
+use Rattle.std.specs.Prelude.{Err, None, Ok, Option, Some}
+use Rattle.refusals.specs.Numbers.{Verdict}
 use Rattle.std.specs.Prelude.{ℕ, zero, suc, ◌≤◌, ◌<◌, Bool, true, false, cond, ◌&&◌, List, [], ◌∷◌, map, ◌↔◌, ◌⊎◌, ◌≡◌, refl, T, eqb}
 use Rattle.vocabulary.specs.{inl, inr, ⊎_elim, sym, ap, ap₂, subst, ◌∙◌, arith, eqb→eq, list-get_or_map}
-use Rattle.refusals.specs.{declared.Refusal.Refusal, declared.Verdict.Verdict, declared.Lowest.Lowest}
-use Rattle.refusals.specs.declared.Verdict.TheVariants.{Passed, Failed}
-use Rattle.refusals.specs.{declared.Lowest.TheVariants.Nowhere, declared.Lowest.TheVariants.At, Questions.Question, Questions.asked}
+use Rattle.refusals.specs.declared.Refusal.{Refusal}
+use Rattle.refusals.specs.{Questions.Question, Questions.asked}
 use Rattle.refusals.specs.Numbers.{number_of, place_of, numbered, table_at, refusal_of, Told, told, refusal_told, verdict_told}
 use Rattle.refusals.specs.Order.{Row, row, row_at, number, LowestAt, HoldsNowhere, Answers, NoneHolds, Stands, in_table, all_in_table, answer_of, fails_if, fails_at, lowest_place, verdict_of, judged}
 use Rattle.refusals.proofs.{Answers.cons_passes, Decided.decided, Decided.decided_not}
@@ -65,8 +66,8 @@ row_at_told k p t =
 
 -- what a row's verdict says
 abbrev Says : Row → Verdict → Type 0
-Says r Passed = HoldsNowhere r
-Says r (Failed refusal) = (p : ℕ) × (LowestAt r p) × (refusal_told refusal ≡ told (number r) p)
+Says r (Ok tt) = HoldsNowhere r
+Says r (Err refusal) = (p : ℕ) × (LowestAt r p) × (refusal_told refusal ≡ told (number r) p)
 
 if_says : (k : ℕ) (q : Question) (t : Bool) → asked q ≡ t → T (in_table (row k q)) → Says (row k q) (fails_if t (refusal_of k 0))
 if_says k q true e ok = (
@@ -86,34 +87,34 @@ module _ (k count : ℕ) (q : ℕ → Question) where
     at_no_lower = λ below l held. (decided_not (q below)).0 (found.passes_below below held.0 l) held.2;
   }
 
-  at_says : (lowest : Lowest) → lowest_place fails count ≡ lowest → T (in_table (row_at k count q)) → Says (row_at k count q) (fails_at (refusal_of k) lowest)
-  at_says Nowhere e ok = λ p held. (decided_not (q p)).0 ((lowest_is_nowhere fails count).0 e p held.0 held.1) held.2
-  at_says (At p) e ok = (p, lowest_says p ((lowest_is fails count p).0 e), row_at_told k p ok)
+  at_says : (lowest : Option ℕ) → lowest_place fails count ≡ lowest → T (in_table (row_at k count q)) → Says (row_at k count q) (fails_at (refusal_of k) lowest)
+  at_says None e ok = λ p held. (decided_not (q p)).0 ((lowest_is_nowhere fails count).0 e p held.0 held.1) held.2
+  at_says (Some p) e ok = (p, lowest_says p ((lowest_is fails count p).0 e), row_at_told k p ok)
 
 row_says : (r : Row) → T (in_table r) → Says r (verdict_of r)
 row_says (row k q) ok = if_says k q (asked q) refl ok
 row_says (row_at k count q) ok = at_says k count q (lowest_place (λ p. asked (q p)) count) refl ok
 
 -- a row that passes holds nowhere, whatever its number
-pub row_passes : (r : Row) → verdict_of r ≡ Passed → HoldsNowhere r
+pub row_passes : (r : Row) → verdict_of r ≡ Ok tt → HoldsNowhere r
 row_passes (row k q) e = go (asked q) refl e
   where
-    go : (t : Bool) → asked q ≡ t → fails_if t (refusal_of k 0) ≡ Passed → HoldsNowhere (row k q)
+    go : (t : Bool) → asked q ≡ t → fails_if t (refusal_of k 0) ≡ Ok tt → HoldsNowhere (row k q)
     go true a e = absurd (let z : ◌≡◌ {A = ℕ} 0 1 = cc in omega arith)
     go false a e = λ p held. (decided_not q).0 a held.1
 row_passes (row_at k count q) e = go (lowest_place (fails k count q) count) refl e
   where
-    go : (lowest : Lowest) → lowest_place (fails k count q) count ≡ lowest → fails_at (refusal_of k) lowest ≡ Passed → HoldsNowhere (row_at k count q)
-    go Nowhere a e = λ p held. (decided_not (q p)).0 ((lowest_is_nowhere (fails k count q) count).0 a p held.0 held.1) held.2
-    go (At p) a e = absurd (let z : ◌≡◌ {A = ℕ} 0 1 = cc in omega arith)
+    go : (lowest : Option ℕ) → lowest_place (fails k count q) count ≡ lowest → fails_at (refusal_of k) lowest ≡ Ok tt → HoldsNowhere (row_at k count q)
+    go None a e = λ p held. (decided_not (q p)).0 ((lowest_is_nowhere (fails k count q) count).0 a p held.0 held.1) held.2
+    go (Some p) a e = absurd (let z : ◌≡◌ {A = ℕ} 0 1 = cc in omega arith)
 
 -- ---- an order
 
 one_more : (r : Row) (later : List Row) (k p : ℕ) (v : Verdict) → Says r v → (verdict_told (judged later) ≡ told k p → Answers later k p)
     → verdict_told (answer_of (v ∷ map verdict_of later)) ≡ told k p → Answers (r ∷ later) k p
 unfolding answer_of
-one_more r later k p Passed none rest e = inr (none, rest e)
-one_more r later k p (Failed refusal) some rest e =
+one_more r later k p (Ok tt) none rest e = inr (none, rest e)
+one_more r later k p (Err refusal) some rest e =
     let is : told (number r) some.0 ≡ told k p = sym some.2 ∙ e in
     inl (sym (ap (λ (t : Told). t.number) is), subst (LowestAt r) (ap (λ (t : Told). t.place) is) some.1)
 
@@ -152,7 +153,7 @@ module _ (rows : List Row) (ok : T (all_in_table rows)) where
 
 -- ---- done, and numbers that are never given
 
-pub none_holds : (rows : List Row) → judged rows ≡ Passed → NoneHolds rows
+pub none_holds : (rows : List Row) → judged rows ≡ Ok tt → NoneHolds rows
 unfolding answer_of
 none_holds [] e = tt
 none_holds (r ∷ later) e =
@@ -186,12 +187,12 @@ pub no_zero : (r : Refusal) → number_of r ≡ 0 → ⊥
 no_zero r e = omega (arith, (number_range r).0)
 
 -- an operation tells 0 at 0 only if it is done
-pub passed_told : (v : Verdict) → verdict_told v ≡ told 0 0 → v ≡ Passed
-passed_told Passed e = refl
-passed_told (Failed refusal) e = absurd (no_zero refusal (ap (λ (t : Told). t.number) e))
+pub passed_told : (v : Verdict) → verdict_told v ≡ told 0 0 → v ≡ Ok tt
+passed_told (Ok tt) e = refl
+passed_told (Err refusal) e = absurd (no_zero refusal (ap (λ (t : Told). t.number) e))
 
 module _ (rows : List Row) (ok : T (all_in_table rows)) where
-  pub done_exactly : (judged rows ≡ Passed) ↔ NoneHolds rows
+  pub done_exactly : (judged rows ≡ Ok tt) ↔ NoneHolds rows
   done_exactly = (none_holds rows, λ none. passed_told (judged rows) ((answers_exactly rows ok 0 0).1 (none_answered rows none)))
 
 pub answered_stands : (rows : List Row) (k p : ℕ) → Answers rows k p → (k ≡ 0) ⊎ Stands k rows

@@ -1,8 +1,7 @@
 -- The table of document 01, "Numbers given when a sheet is turned back", with what document 02 adds to it: the number of each refusal,
 -- and its place.
-use Rattle.std.specs.Prelude.{ℕ, zero, suc, List, [], ◌∷◌, get_or}
-use Rattle.refusals.specs.{declared.Refusal.Refusal, declared.Verdict.Verdict}
-use Rattle.refusals.specs.declared.Verdict.TheVariants.{Passed, Failed}
+use Rattle.std.specs.Prelude.{ℕ, zero, suc, List, [], ◌∷◌, get_or, Result, Ok, Err}
+use Rattle.refusals.specs.declared.Refusal.{Refusal}
 
 -- the column "No."
 abbrev pub number_of : Refusal → ℕ
@@ -86,6 +85,10 @@ told k p = record { number = k; place = p }
 abbrev pub refusal_told : Refusal → Told
 refusal_told refusal = told (number_of refusal) (place_of refusal)
 
+-- what a test answers: that it passed, or why the sheet is turned back
+abbrev pub Verdict : Type 0
+Verdict = Result (Unit {0}) Refusal
+
 abbrev pub verdict_told : Verdict → Told
-verdict_told Passed = told 0 0
-verdict_told (Failed refusal) = refusal_told refusal
+verdict_told (Ok tt) = told 0 0
+verdict_told (Err refusal) = refusal_told refusal

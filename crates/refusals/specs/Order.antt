@@ -1,10 +1,10 @@
 -- How an operation answers: document 01, "Numbers given when a sheet is turned back". Its order is one list of rows, each with its number
 -- and its stated case. The first row that holds anywhere is answered, at its lowest place. Places are counted from 1, as the paper counts
 -- angles and conditions; a row without a place has place 0.
+use Rattle.std.specs.Prelude.{Err, None, Ok, Option, Some}
+use Rattle.refusals.specs.Numbers.{Verdict}
 use Rattle.std.specs.Prelude.{ℕ, zero, suc, ◌≤◌, ◌<◌, Bool, true, false, ◌&&◌, List, [], ◌∷◌, map, ◌⊎◌, ◌≡◌, eqb}
-use Rattle.refusals.specs.{declared.Refusal.Refusal, declared.Verdict.Verdict, declared.Lowest.Lowest}
-use Rattle.refusals.specs.declared.Verdict.TheVariants.{Passed, Failed}
-use Rattle.refusals.specs.declared.Lowest.TheVariants.{Nowhere, At}
+use Rattle.refusals.specs.declared.Refusal.{Refusal}
 use Rattle.refusals.specs.{Numbers.number_of, Numbers.place_of, Numbers.refusal_of, Questions.Question, Questions.Holds, Questions.asked}
 
 -- ---- rows
@@ -62,29 +62,29 @@ all_in_table (r ∷ later) = in_table r && all_in_table later
 
 -- the answer of a list of tests: the first that fails, or passed if none does
 unfoldable pub answer_of : List Verdict → Verdict
-answer_of [] = Passed
-answer_of (Passed ∷ later) = answer_of later
-answer_of (Failed refusal ∷ later) = Failed refusal
+answer_of [] = Ok tt
+answer_of ((Ok tt) ∷ later) = answer_of later
+answer_of (Err refusal ∷ later) = Err refusal
 
 -- a test that has no place: it fails with its refusal if its case holds
 abbrev pub fails_if : (holds : Bool) → Refusal → Verdict
-fails_if true refusal = Failed refusal
-fails_if false refusal = Passed
+fails_if true refusal = Err refusal
+fails_if false refusal = Ok tt
 
 -- a test that has a place: it fails with its refusal at the lowest place where its case holds
-abbrev pub fails_at : (refusal : ℕ → Refusal) → Lowest → Verdict
-fails_at refusal Nowhere = Passed
-fails_at refusal (At place) = Failed (refusal place)
+abbrev pub fails_at : (refusal : ℕ → Refusal) → Option ℕ → Verdict
+fails_at refusal None = Ok tt
+fails_at refusal (Some place) = Err (refusal place)
 
 -- what a search says after one place more: the place that it found before, or else this one if the test fails here
-abbrev pub or_here : (found : Lowest) → (fails : Bool) → (here : ℕ) → Lowest
-or_here (At place) fails here = At place
-or_here Nowhere true here = At here
-or_here Nowhere false here = Nowhere
+abbrev pub or_here : (found : Option ℕ) → (fails : Bool) → (here : ℕ) → Option ℕ
+or_here (Some place) fails here = Some place
+or_here None true here = Some here
+or_here None false here = None
 
 -- the lowest of the places 1, 2, .., count at which a test fails, asked of each place in rising order
-unfoldable pub lowest_place : (fails : ℕ → Bool) → (count : ℕ) → Lowest
-lowest_place fails zero = Nowhere
+unfoldable pub lowest_place : (fails : ℕ → Bool) → (count : ℕ) → Option ℕ
+lowest_place fails zero = None
 lowest_place fails (suc count) = or_here (lowest_place fails count) (fails (suc count)) (suc count)
 
 abbrev pub verdict_of : Row → Verdict

@@ -15,7 +15,7 @@ pub use units::{
 };
 
 // Why a sheet is turned back: a case for each row of the table, in its order, with the place where the table has one.
-#[derive(Clone, Copy)]
+#[derive(Clone, Copy, Debug, PartialEq, Eq)]
 pub enum Refusal {
     // 1: code and n name no figure.
     NoSuchFigure,
@@ -51,73 +51,63 @@ pub enum Refusal {
     RoundsOutOfRange(usize),
 }
 
-// What a test says.
-#[derive(Clone, Copy)]
-pub enum Verdict {
-    Passed,
-    Failed(Refusal),
-}
+impl Refusal {
+    // The table's number.
+    pub fn number(self) -> u32
+        ensures { result ≡ number_of self }
+    {
+        match self {
+            Refusal::NoSuchFigure => 1,
+            Refusal::WrongLength => 2,
+            Refusal::LimitOrToleranceOutOfRange => 3,
+            Refusal::AngleOutOfRange(_) => 4,
+            Refusal::FixedAngleOutOfRange(_) => 5,
+            Refusal::MisclosureBeyondLimit(_) => 6,
+            Refusal::ResultOutOfRange(_) => 7,
+            Refusal::SineEntryOutOfRange(_) => 8,
+            Refusal::SineMisclosureBeyondTolerance => 9,
+            Refusal::SumOfSquaresIsZero => 10,
+            Refusal::NoSuchKind => 11,
+            Refusal::WrongSheetLength => 12,
+            Refusal::FillingBitSet => 13,
+            Refusal::FixedAnglesDoNotSum => 14,
+            Refusal::ChoiceDoesNotClose => 15,
+            Refusal::RoundsOutOfRange(_) => 16,
+        }
+    }
 
-// What a search says: the lowest place at which a test fails.
-#[derive(Clone, Copy)]
-pub enum Lowest {
-    Nowhere,
-    At(usize),
-}
-
-pub fn number_of(refusal: Refusal) -> u32
-    ensures { result ≡ number_of refusal }
-{
-    match refusal {
-        Refusal::NoSuchFigure => 1,
-        Refusal::WrongLength => 2,
-        Refusal::LimitOrToleranceOutOfRange => 3,
-        Refusal::AngleOutOfRange(_) => 4,
-        Refusal::FixedAngleOutOfRange(_) => 5,
-        Refusal::MisclosureBeyondLimit(_) => 6,
-        Refusal::ResultOutOfRange(_) => 7,
-        Refusal::SineEntryOutOfRange(_) => 8,
-        Refusal::SineMisclosureBeyondTolerance => 9,
-        Refusal::SumOfSquaresIsZero => 10,
-        Refusal::NoSuchKind => 11,
-        Refusal::WrongSheetLength => 12,
-        Refusal::FillingBitSet => 13,
-        Refusal::FixedAnglesDoNotSum => 14,
-        Refusal::ChoiceDoesNotClose => 15,
-        Refusal::RoundsOutOfRange(_) => 16,
+    // The place, counted from 1, and 0 where the table has none.
+    pub fn place(self) -> usize
+        ensures { result ≡ place_of self }
+    {
+        match self {
+            Refusal::AngleOutOfRange(place)
+            | Refusal::FixedAngleOutOfRange(place)
+            | Refusal::MisclosureBeyondLimit(place)
+            | Refusal::ResultOutOfRange(place)
+            | Refusal::SineEntryOutOfRange(place)
+            | Refusal::RoundsOutOfRange(place) => place,
+            Refusal::NoSuchFigure
+            | Refusal::WrongLength
+            | Refusal::LimitOrToleranceOutOfRange
+            | Refusal::SineMisclosureBeyondTolerance
+            | Refusal::SumOfSquaresIsZero
+            | Refusal::NoSuchKind
+            | Refusal::WrongSheetLength
+            | Refusal::FillingBitSet
+            | Refusal::FixedAnglesDoNotSum
+            | Refusal::ChoiceDoesNotClose => 0,
+        }
     }
 }
 
-pub fn place_of(refusal: Refusal) -> usize
-    ensures { result ≡ place_of refusal }
-{
-    match refusal {
-        Refusal::NoSuchFigure => 0,
-        Refusal::WrongLength => 0,
-        Refusal::LimitOrToleranceOutOfRange => 0,
-        Refusal::AngleOutOfRange(angle) => angle,
-        Refusal::FixedAngleOutOfRange(fixed) => fixed,
-        Refusal::MisclosureBeyondLimit(condition) => condition,
-        Refusal::ResultOutOfRange(angle) => angle,
-        Refusal::SineEntryOutOfRange(angle) => angle,
-        Refusal::SineMisclosureBeyondTolerance => 0,
-        Refusal::SumOfSquaresIsZero => 0,
-        Refusal::NoSuchKind => 0,
-        Refusal::WrongSheetLength => 0,
-        Refusal::FillingBitSet => 0,
-        Refusal::FixedAnglesDoNotSum => 0,
-        Refusal::ChoiceDoesNotClose => 0,
-        Refusal::RoundsOutOfRange(angle) => angle,
-    }
-}
-
-// The answer of two tests in their order.
+// The answer of two tests in their order, for whoever has both.
 #[tactic(auto, unfolding(crate::specs::Order::answer_of))]
-pub fn first_to_fail(earlier: Verdict, later: Verdict) -> Verdict
+pub fn first_to_fail(
+    earlier: Result<(), Refusal>,
+    later: Result<(), Refusal>,
+) -> Result<(), Refusal>
     ensures { result ≡ answer_of (earlier ∷ later ∷ []) }
 {
-    match earlier {
-        Verdict::Failed(_) => earlier,
-        Verdict::Passed => later,
-    }
+    earlier.and(later)
 }

@@ -1,5 +1,7 @@
 -- No sheet is turned back at a place past the number of angles of the largest figure, whoever turns it back: the reader, or a pass.
 -- Assumes nothing.
+use Rattle.std.specs.Prelude.{Err, Ok}
+use Rattle.sheet_layout.specs.Head.{Look}
 use Rattle.std.specs.Prelude.{ℕ, ◌≤◌, List, [], ◌++◌, length}
 use Rattle.vocabulary.specs.{le_trans, arith, lit≤, length-append}
 use Rattle.whole.proofs.Lists.{length_listed}
@@ -8,7 +10,7 @@ use Rattle.refusals.proofs.PlaceBounds.{PlacesWithin}
 use Rattle.figures.specs.{declared.Figure.Figure, Figure.angle_count, Figure.condition_count, Numerators.most_angles}
 use Rattle.figures.proofs.Figures.{angle_bound, condition_bound}
 use Rattle.sheet_layout.specs.{declared.Kind.Kind, declared.Pass.Pass, Kinds.pass_of, Layout.fixed_in, Layout.sine_entries_in, Layout.sides_in}
-use Rattle.sheet_layout.specs.{declared.head.Look.Look, declared.head.Look.TheVariants.Head, Head.head_rows, Head.look_of, Head.of_head}
+use Rattle.sheet_layout.specs.{Head.head_rows, Head.look_of, Head.of_head}
 use Rattle.sheet_layout.proofs.Sizes.{entry_bound}
 use Rattle.sheet_rules.specs.{Sheet.values_read, Judging.own_lengths, Judging.body_rows}
 use Rattle.pass_rules.specs.FirstPass.{first_lengths, first_rows, misclosure, corrected}
@@ -105,5 +107,5 @@ sheet_within sheet = head_within sheet _ (go (look_of sheet))
     go : (found : Look)
         → PlacesWithin most_angles
         (of_head found [] (λ kind f. body_rows kind f sheet (own_lengths kind f) ++ pass_rows kind f (values_read kind f sheet)))
-    go (Head kind f) = body_within kind f sheet (own_lengths kind f) (pass_rows kind f (values_read kind f sheet)) (pass_within kind f sheet)
-    go (Look.Refused refusal) = tt
+    go (Ok head) = body_within head.kind head.figure sheet (own_lengths head.kind head.figure) (pass_rows head.kind head.figure (values_read head.kind head.figure sheet)) (pass_within head.kind head.figure sheet)
+    go (Err refusal) = tt

@@ -1,43 +1,49 @@
 -- Whether a text that was laid by itself has room in what is lent, told by the position after it; and that 2048 bytes are room for every
 -- text. Assumes nothing.
-use Rattle.std.specs.Prelude.{◌≡◌, refl, Bool, true, false, List, ◌++◌, ℕ, ◌≤◌, ◌<◌, leb, length, take, drop, replicate}
-use Rattle.vocabulary.specs.{sym, ap, ◌∙◌, zero-add, le_trans, arith, le-leb, lt-leb, leb-true}
-use Rattle.text.specs.{Text.laid, Holds.Holds}
-use Rattle.text.proofs.Laying.{laid_room, holds_size, holds_length, holds_taken}
-use Rattle.report.specs.declared.reporting.Reported.TheVariants.{Written}
-use Rattle.report.specs.Report.{report_text, has_room, reported_of, after_report}
+use Rattle.std.specs.Prelude.{Some, None, ◌≡◌, refl, Bool, true, false, List, ◌++◌, ℕ, ◌≤◌, ◌<◌, leb, length, take, drop, replicate}
+use Rattle.vocabulary.specs.{sym, ap, ap₂, ◌∙◌, le_trans, arith, le-leb, lt-leb, leb-true}
+use Rattle.text.specs.Holds.{Holds}
+use Rattle.text.proofs.Laying.{holds_size, holds_length, holds_taken}
+use Rattle.report.specs.Report.{report_text, has_room, reported_of, after_report, ReportedPromise}
 use Rattle.lines.specs.Lines.{longest_text}
 use Rattle.report.proofs.Longest.{text_fits}
 
-module _ (t buffer : List ℕ) (end : ℕ) (held : Holds (replicate longest_text 0) t buffer end) (fits : length t ≤ longest_text) where
-  pub length_told : end ≡ length t
-  length_told = holds_length held fits
+module _ (sheet lent : List ℕ) {buffer : List ℕ} {end : ℕ} (held : Holds (replicate longest_text 0) (report_text sheet) buffer end) where
+  abbrev t : List ℕ
+  t = report_text sheet
+
+  length_told : end ≡ length t
+  length_told = holds_length held (text_fits sheet)
 
   pub end_within : end ≤ length buffer
-  end_within = rw (holds_size held) (omega (arith, length_told))
+  end_within = rw (holds_size held) (omega (arith, length_told, text_fits sheet))
 
-  module _ (lent : List ℕ) where
-    decided : has_room t lent ≡ leb end (length lent)
-    decided = ap (λ (k : ℕ). leb k (length lent)) (sym length_told)
+  decided : has_room t lent ≡ leb end (length lent)
+  decided = ap (λ (k : ℕ). leb k (length lent)) (sym length_told)
 
-    pub past_lent : length lent < end → has_room t lent ≡ false
-    past_lent h = decided ∙ lt-leb end (length lent) h
+  pub none_written : length lent < end → ReportedPromise sheet lent None lent
+  none_written h =
+      let none : has_room t lent ≡ false = decided ∙ lt-leb end (length lent) h in
+      record {
+        answered = sym (ap (λ (b : Bool). reported_of b t) none);
+        leaves = sym (ap (λ (b : Bool). after_report b t lent) none);
+      }
 
-    module _ (room : end ≤ length lent) where
-      pub room_there : has_room t lent ≡ true
-      room_there = decided ∙ le-leb end (length lent) room
-
-      pub laid_there : laid lent 0 (take end buffer) ≡ t ++ drop (length t) lent
-      laid_there =
-          ap (laid lent 0) (holds_taken held fits)
-          ∙ laid_room lent 0 t (omega (arith, length_told))
-          ∙ ap (λ (k : ℕ). t ++ drop k lent) (zero-add (length t))
+  pub all_written : end ≤ length lent → ReportedPromise sheet lent (Some end) (take end buffer ++ drop end lent)
+  all_written h =
+      let room : has_room t lent ≡ true = decided ∙ le-leb end (length lent) h in
+      record {
+        answered = ap Some length_told ∙ sym (ap (λ (b : Bool). reported_of b t) room);
+        leaves =
+            ap₂ (λ (l : List ℕ) (k : ℕ). l ++ drop k lent) (holds_taken held (text_fits sheet)) length_told
+            ∙ sym (ap (λ (b : Bool). after_report b t lent) room);
+      }
 
 -- what was written lies within what was lent
-pub written_within : (t lent : List ℕ) (n : ℕ) → reported_of (has_room t lent) t ≡ Written n → n ≤ length lent
+pub written_within : (t lent : List ℕ) (n : ℕ) → reported_of (has_room t lent) t ≡ Some n → n ≤ length lent
 written_within t lent n written = go (has_room t lent) refl written
   where
-    go : (b : Bool) → has_room t lent ≡ b → reported_of b t ≡ Written n → n ≤ length lent
+    go : (b : Bool) → has_room t lent ≡ b → reported_of b t ≡ Some n → n ≤ length lent
     go true e w =
         let same : length t ≡ n = cc in
         omega (arith, same, leb-true (length t) (length lent) e)
@@ -50,7 +56,7 @@ module _ (sheet lent : List ℕ) (enough : longest_text ≤ length lent) where
   room_for_any : has_room (report_text sheet) lent ≡ true
   room_for_any = le-leb (length (report_text sheet)) (length lent) (le_trans (text_fits sheet) enough)
 
-  pub always_written : reported_of (has_room (report_text sheet) lent) (report_text sheet) ≡ Written (length (report_text sheet))
+  pub always_written : reported_of (has_room (report_text sheet) lent) (report_text sheet) ≡ Some (length (report_text sheet))
   always_written = ap (λ (b : Bool). reported_of b (report_text sheet)) room_for_any
 
   pub always_laid : after_report (has_room (report_text sheet) lent) (report_text sheet) lent ≡ report_text sheet ++ drop (length (report_text sheet)) lent

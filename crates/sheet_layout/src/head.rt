@@ -5,57 +5,47 @@ ghost use Rattle.sheet_layout.specs.Head.{kind_of, head_of, look_of};
 
 use crate::{CODE_AT, CODE_WIDTH, KIND_WIDTH, Kind, N_AT, N_WIDTH};
 use bits::field;
-use figures::{Figure, Named, figure_of};
+use figures::{Figure, figure_of};
 use refusals::Refusal;
 
-// What a kind's number names.
-#[derive(Clone, Copy)]
-pub enum NamedKind {
-    Is(Kind),
-    NoKind,
+// What the head of a sheet names.
+#[derive(Clone, Copy, Debug, PartialEq, Eq)]
+pub struct SheetHead {
+    pub kind: Kind,
+    pub figure: Figure,
 }
 
-// What the head of a sheet says.
-#[derive(Clone, Copy)]
-pub enum Look {
-    Head(Kind, Figure),
-    Refused(Refusal),
-}
-
-fn kind_of(number: u32) -> NamedKind
+fn kind_of(number: u32) -> Option<Kind>
     ensures { result ≡ kind_of number }
 {
     match number {
-        1 => NamedKind::Is(Kind::One),
-        2 => NamedKind::Is(Kind::Two),
-        3 => NamedKind::Is(Kind::Three),
-        4 => NamedKind::Is(Kind::Four),
-        5 => NamedKind::Is(Kind::Five),
-        _ => NamedKind::NoKind,
+        1 => Some(Kind::One),
+        2 => Some(Kind::Two),
+        3 => Some(Kind::Three),
+        4 => Some(Kind::Four),
+        5 => Some(Kind::Five),
+        _ => None,
     }
 }
 
 // The kind and the figure that numbers name, for the reader and the writer.
-pub fn named_head(kind: u32, code: u32, n: u32) -> Look
+#[tactic(auto, unfolding(crate::specs::Head::head_of))]
+pub fn named_head(kind: u32, code: u32, n: u32) -> Result<SheetHead, Refusal>
     ensures { result ≡ head_of kind code n }
 {
-    let NamedKind::Is(named) = kind_of(kind) else {
-        return Look::Refused(Refusal::NoSuchKind);
-    };
-    match figure_of(code, n) {
-        Named::As(figure) => Look::Head(named, figure),
-        Named::Nothing => Look::Refused(Refusal::NoSuchFigure),
-    }
+    let kind = kind_of(kind).ok_or(Refusal::NoSuchKind)?;
+    let figure = figure_of(code, n).ok_or(Refusal::NoSuchFigure)?;
+    Ok(SheetHead { kind, figure })
 }
 
 // The kind and the figure of a sheet, so that slices of the right lengths can be lent for its values; or why the reader turns it back
 // already.
 #[tactic(auto, using(crate::proofs::Naming::short, crate::proofs::Naming::long_enough, crate::proofs::Naming::fields_decide))]
-pub fn look_at(sheet: &[u8]) -> Look
+pub fn look_at(sheet: &[u8]) -> Result<SheetHead, Refusal>
     ensures { result ≡ look_of sheet.now }
 {
     if sheet.len() < 2 {
-        return Look::Refused(Refusal::WrongSheetLength);
+        return Err(Refusal::WrongSheetLength);
     }
     named_head(
         field(sheet, 0, KIND_WIDTH),

@@ -15,6 +15,7 @@ fn row(number: u32, pass: Pass, default: u32, rounds: bool) -> KindRow
     }
 }
 
+// The table of kinds, a row for each.
 fn row_of_kind(kind: Kind) -> KindRow
     ensures { result ≡ row_of_kind kind }
 {

@@ -1,5 +1,6 @@
 // The layout of packed sheets: document 01, "Packed sheets". Which fields a sheet has is the definition `layout` of specs/Layout.antt; what
 // the numbers of its head name stands in specs/Head.antt.
+// A cast by `as` stands where the library has no `From`, to a narrower type or to and from usize; each is proved to keep its value.
 #![tactic(auto)]
 
 ghost use Rattle.std.specs.Prelude.{◌≡◌};
@@ -11,18 +12,18 @@ mod kinds;
 
 use figure_tables::counts_of;
 use figures::Figure;
-pub use head::{Look, NamedKind, look_at, named_head};
+pub use head::{SheetHead, look_at, named_head};
 pub use kinds::{carries_rounds, default_of, number_of_kind, pass_of};
 
 // The pass that a kind of sheet is for, and so which values it holds.
-#[derive(Clone, Copy)]
+#[derive(Clone, Copy, Debug, PartialEq, Eq)]
 pub enum Pass {
     First,
     Second,
 }
 
 // Kind 1, kind 2 and so on.
-#[derive(Clone, Copy)]
+#[derive(Clone, Copy, Debug, PartialEq, Eq)]
 pub enum Kind {
     One,
     Two,
@@ -96,6 +97,7 @@ pub const SECOND_PASS_STEP: usize = FIRST_PASS_STEP
 
 // How many values of each sort a sheet has, and so how long each slice of values is. Every angle has its rounds: one where the kind does
 // not carry them.
+// Kind and figure stay two arguments, here and where a column is asked, as the definition of the same name takes them.
 pub fn lengths_of(kind: Kind, figure: Figure) -> Lengths
     ensures { result ≡ lengths_of kind figure }
 {
@@ -151,8 +153,9 @@ pub fn bit_count(kind: Kind, figure: Figure) -> usize
 }
 
 // How many bytes a sheet has.
+#[tactic(auto, unfolding(crate::specs::Layout::sheet_size, bits::specs::Bits::byte_count))]
 pub fn sheet_size(kind: Kind, figure: Figure) -> usize
     ensures { result ≡ sheet_size kind figure }
 {
-    (bit_count(kind, figure) + 7) / 8
+    bit_count(kind, figure).div_ceil(8)
 }

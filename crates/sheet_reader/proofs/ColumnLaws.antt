@@ -1,19 +1,20 @@
 -- The columns of the reader are those of the layout, by tests that antt computes over all kinds and figures, and hold the values of the
 -- sheet. Assumes nothing.
-use Rattle.std.specs.Prelude.{ℕ, suc, ◌+◌, ◌*◌, ◌≤◌, ◌<◌, Bool, true, false, cond, ◌&&◌, List, ◌≡◌, T, eqb, ℤ, length, take, get_or}
-use Rattle.std.specs.Prelude.{replicate}
+use Rattle.std.specs.Prelude.{ℕ, suc, ◌+◌, ◌*◌, ◌<◌, Bool, true, false, cond, ◌&&◌, List, ◌≡◌, T, eqb, ℤ, length, take, get_or}
+use Rattle.std.specs.Prelude.{replicate, ◌%◌, ◌^◌}
 use Rattle.vocabulary.specs.{sym, ap, ap₂, subst, ◌∙◌, arith, eqb→eq, length-replicate, get_or-replicate, length-take-le}
 use Rattle.whole.specs.Lists.{listed, every, every_below}
 use Rattle.whole.proofs.{Computed.and_left, Computed.and_right, Computed.every_below_lem, Lists.listed_ext}
 use Rattle.bits.specs.{Bits.field_at, Complement.signed_of}
-use Rattle.figures.specs.{declared.Figure.Figure, Figure.all_figures, Figure.angle_count, Figure.fixed_count, Figure.side_count}
+use Rattle.figures.specs.{declared.Figure.Figure, Figure.all_figures, Figure.angle_count}
+use Rattle.bits.proofs.Fields.{field_at_lt}
 use Rattle.figures.proofs.Figures.{angle_bound}
-use Rattle.sheet_layout.specs.{declared.Kind.Kind, declared.Pass.Pass, Kinds.all_kinds, Kinds.pass_of, Kinds.carries_rounds, Kinds.of_pass}
-use Rattle.sheet_layout.specs.Layout.{Item, angle, angle_rounds, fixed_angle, log_sine, difference, log_side, width_of, layout, lengths_of, limit_or_tolerance_item, rounds_in, fixed_in, sine_entries_in, sides_in, sort, number_of_item, same, position_of, held}
-use Rattle.sheet_layout.proofs.{EachKind.each, Sizes.fixed_bound, Sizes.side_bound}
-use Rattle.sheet_rules.specs.Sheet.{values_read, most_bits}
+use Rattle.sheet_layout.specs.{declared.Kind.Kind, Kinds.all_kinds, Kinds.pass_of, Kinds.carries_rounds}
+use Rattle.sheet_layout.specs.Layout.{Item, angle, angle_rounds, fixed_angle, log_sine, difference, log_side, width_of, layout, limit_or_tolerance_item, rounds_in, fixed_in, sine_entries_in, sides_in, sort, number_of_item, same, position_of, held}
+use Rattle.sheet_layout.proofs.{EachKind.each}
+use Rattle.sheet_rules.specs.Sheet.{values_read}
 use Rattle.sheet_reader.specs.declared.columns.Column.{Column}
-use Rattle.sheet_reader.specs.Columns.{angle_column, rounds_column, fixed_column, log_sine_column, difference_column, log_side_column, ColumnFits, column_values, signed_column_values}
+use Rattle.sheet_reader.specs.Columns.{angle_column, rounds_column, fixed_column, log_sine_column, difference_column, log_side_column, values_held, column_values, signed_column_values}
 use Rattle.sheet_reader.proofs.Taking.{first_values_lem}
 
 -- ---- items in columns
@@ -78,7 +79,7 @@ held_in_column kind f s p c i h = ap₂ (field_at s) h.position h.width
 -- the items of a column, read in their order
 column_read : (kind : Kind) (f : Figure) (s : List ℕ) (item : ℕ → Item) (c : Column) (count : ℕ) → ((i : ℕ) → i < count → InColumn kind f (item (suc i)) c i)
     → listed count (λ i. held (layout kind f) s (item (suc i))) ≡ column_values s c count
-unfolding column_values
+unfolding values_held
 column_read kind f s item c count stands =
     listed_ext count (λ i. held (layout kind f) s (item (suc i))) (λ i. field_at s (c.start + c.step * i) c.width)
     (λ i h. held_in_column kind f s (item (suc i)) c i (stands i h))
@@ -112,7 +113,7 @@ module _ (kind : Kind) (f : Figure) (s : List ℕ) where
   log_sines_read = column_read kind f s log_sine (log_sine_column (carries_rounds kind) f) (sine_entries_in kind f) (log_sine_in_column kind f)
 
   pub differences_read : (values_read kind f s).differences ≡ signed_column_values s (difference_column (carries_rounds kind) f) (sine_entries_in kind f)
-  unfolding values_read signed_column_values
+  unfolding values_read values_held
   differences_read =
       listed_ext (sine_entries_in kind f) (λ i. signed_of 15 (held (layout kind f) s (difference (suc i))))
       (λ i. signed_of 15 (field_at s ((difference_column (carries_rounds kind) f).start + (difference_column (carries_rounds kind) f).step * i) (difference_column (carries_rounds kind) f).width))
@@ -132,97 +133,36 @@ limit_or_tolerance_read kind f s =
 
 -- ---- columns of a kind and a figure
 
--- they begin early
-pub angles_early : (kind : Kind) (f : Figure) {c : Column} → c ≡ angle_column (pass_of kind) (carries_rounds kind) f → c.start ≤ most_bits
-angles_early kind f e = rw e (go (pass_of kind))
-  where
-    go : (pass : Pass) → (angle_column pass (carries_rounds kind) f).start ≤ most_bits
-    go Pass.First = omega arith
-    go Pass.Second = omega (arith, side_bound f)
-
 -- as many ones as angles
 pub ones_many : (f : Figure) {ones : List ℕ} → ones ≡ take (angle_count f) (replicate 24 1) → length ones ≡ angle_count f
 ones_many f e = ap length e ∙ length-take-le (angle_count f) (replicate 24 1) (omega (arith, length-replicate {A = ℕ} 24 1, angle_bound f))
+
+-- a byte's bits hold a byte
+pub bytes_held : (s : List ℕ) (c : Column) (count : ℕ) → c.width ≡ 8 → values_held (λ width field. field % 256) s c count ≡ column_values s c count
+unfolding values_held
+bytes_held s c count wide =
+    listed_ext count (λ i. field_at s (c.start + c.step * i) c.width % 256) (λ i. field_at s (c.start + c.step * i) c.width)
+    (λ i h. byte (c.start + c.step * i))
+  where
+    byte : (at : ℕ) → field_at s at c.width % 256 ≡ field_at s at c.width
+    byte at = let least : field_at s at c.width < 2 ^ 8 = subst (λ (w : ℕ). field_at s at c.width < 2 ^ w) wide (field_at_lt s at c.width) in omega arith
 
 -- rounds are a byte wide
 pub rounds_wide : (kind : Kind) (f : Figure) {c : Column} → c ≡ rounds_column (pass_of kind) (carries_rounds kind) f → c.width ≡ 8
 rounds_wide kind f e = ap (λ (column : Column). column.width) e
 
--- so many values of each sort there are at most
-pub few_of_each : (kind : Kind) (f : Figure)
-    → let own = lengths_of kind f in
-    (own.angles ≤ 24) × (own.rounds ≤ 24) × (own.fixed ≤ 4) × (own.log_sines ≤ 24) × (own.differences ≤ 24) × (own.log_sides ≤ 2)
-few_of_each kind f = go (pass_of kind)
-  where
-    go : (pass : Pass)
-        → (angle_count f ≤ 24) × (angle_count f ≤ 24) × (of_pass pass (fixed_count f) 0 ≤ 4) × (of_pass pass 0 (angle_count f) ≤ 24) × (of_pass pass 0 (angle_count f) ≤ 24)
-        × (of_pass pass 0 (side_count f) ≤ 2)
-    go Pass.First = omega (arith, angle_bound f, fixed_bound f)
-    go Pass.Second = omega (arith, angle_bound f, side_bound f)
-
 module _ (kind : Kind) (f : Figure) {c : Column} {count : ℕ} where
-  -- they are short and end early
-  pub angles_fit : count ≡ angle_count f → c ≡ angle_column (pass_of kind) (carries_rounds kind) f → ColumnFits c count
-  angles_fit n e = rw (n, e) (go (pass_of kind) (carries_rounds kind))
-    where
-      go : (pass : Pass) (rounds : Bool) → ColumnFits (angle_column pass rounds f) (angle_count f)
-      go Pass.First true = (angle_bound f, omega (arith, angle_bound f))
-      go Pass.First false = (angle_bound f, omega (arith, angle_bound f))
-      go Pass.Second true = (angle_bound f, omega (arith, angle_bound f, side_bound f))
-      go Pass.Second false = (angle_bound f, omega (arith, angle_bound f, side_bound f))
-
-  pub rounds_fit : count ≡ angle_count f → c ≡ rounds_column (pass_of kind) (carries_rounds kind) f → ColumnFits c count
-  rounds_fit n e = rw (n, e) (go (pass_of kind) (carries_rounds kind))
-    where
-      go : (pass : Pass) (rounds : Bool) → ColumnFits (rounds_column pass rounds f) (angle_count f)
-      go Pass.First true = (angle_bound f, omega (arith, angle_bound f))
-      go Pass.First false = (angle_bound f, omega (arith, angle_bound f))
-      go Pass.Second true = (angle_bound f, omega (arith, angle_bound f, side_bound f))
-      go Pass.Second false = (angle_bound f, omega (arith, angle_bound f, side_bound f))
-
-  pub fixed_fit : count ≡ fixed_in kind f → c ≡ fixed_column (carries_rounds kind) f → ColumnFits c count
-  fixed_fit n e = rw (n, e) (go (pass_of kind) (carries_rounds kind))
-    where
-      go : (pass : Pass) (rounds : Bool) → ColumnFits (fixed_column rounds f) (of_pass pass (fixed_count f) 0)
-      go Pass.First true = (omega (arith, fixed_bound f), omega (arith, angle_bound f, fixed_bound f))
-      go Pass.First false = (omega (arith, fixed_bound f), omega (arith, angle_bound f, fixed_bound f))
-      go Pass.Second true = (omega arith, omega (arith, angle_bound f))
-      go Pass.Second false = (omega arith, omega (arith, angle_bound f))
-
-  pub log_sines_fit : count ≡ sine_entries_in kind f → c ≡ log_sine_column (carries_rounds kind) f → ColumnFits c count
-  log_sines_fit n e = rw (n, e) (go (pass_of kind) (carries_rounds kind))
-    where
-      go : (pass : Pass) (rounds : Bool) → ColumnFits (log_sine_column rounds f) (of_pass pass 0 (angle_count f))
-      go Pass.First true = (omega arith, omega (arith, side_bound f))
-      go Pass.First false = (omega arith, omega (arith, side_bound f))
-      go Pass.Second true = (angle_bound f, omega (arith, angle_bound f, side_bound f))
-      go Pass.Second false = (angle_bound f, omega (arith, angle_bound f, side_bound f))
-
-  pub differences_fit : count ≡ sine_entries_in kind f → c ≡ difference_column (carries_rounds kind) f → ColumnFits c count
-  differences_fit n e = rw (n, e) (go (pass_of kind) (carries_rounds kind))
-    where
-      go : (pass : Pass) (rounds : Bool) → ColumnFits (difference_column rounds f) (of_pass pass 0 (angle_count f))
-      go Pass.First true = (omega arith, omega (arith, side_bound f))
-      go Pass.First false = (omega arith, omega (arith, side_bound f))
-      go Pass.Second true = (angle_bound f, omega (arith, angle_bound f, side_bound f))
-      go Pass.Second false = (angle_bound f, omega (arith, angle_bound f, side_bound f))
-
-  pub log_sides_fit : count ≡ sides_in kind f → c ≡ log_side_column → ColumnFits c count
-  log_sides_fit n e = rw (n, e) (go (pass_of kind))
-    where
-      go : (pass : Pass) → ColumnFits log_side_column (of_pass pass 0 (side_count f))
-      go Pass.First = (omega arith, omega arith)
-      go Pass.Second = (omega (arith, side_bound f), omega (arith, side_bound f))
-
-  -- and hold the values of the sheet
+  -- they hold the values of the sheet
   module _ (s values : List ℕ) where
     pub angles_held : count ≡ angle_count f → c ≡ angle_column (pass_of kind) (carries_rounds kind) f → values ≡ column_values s c count
         → values ≡ (values_read kind f s).angles
     angles_held n e is = (rw (n, e) at is) ∙ sym (angles_read kind f s)
 
     pub rounds_held_lem : count ≡ angle_count f → carries_rounds kind ≡ true → c ≡ rounds_column (pass_of kind) (carries_rounds kind) f
-        → values ≡ column_values s c count → values ≡ (values_read kind f s).rounds
-    rounds_held_lem n carried e is = (rw (n, e) at is) ∙ sym (rounds_read kind f s carried)
+        → values ≡ values_held (λ width field. field % 256) s c count → values ≡ (values_read kind f s).rounds
+    rounds_held_lem n carried e is =
+        let as_bytes : values ≡ column_values s c count = is ∙ bytes_held s _ count (rounds_wide kind f e) in
+        (rw (n, e) at as_bytes) ∙ sym (rounds_read kind f s carried)
 
     pub fixed_held : count ≡ fixed_in kind f → c ≡ fixed_column (carries_rounds kind) f → values ≡ column_values s c count
         → values ≡ (values_read kind f s).fixed

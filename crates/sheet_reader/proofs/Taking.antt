@@ -1,10 +1,9 @@
 -- The steps of a loop that takes the values of a column, for values of any sort. Assumes nothing.
-use Rattle.std.specs.Prelude.{ℕ, zero, suc, ◌+◌, ◌*◌, ◌≤◌, ◌<◌, List, [], ◌∷◌, ◌≡◌, refl, ℤ, length, get_or, take, set}
-use Rattle.vocabulary.specs.{sym, ap, ◌∙◌, le_of_suc-le-suc, not-suc-le-zero, add_assoc, mul-suc, mul-zero, add-zero, mul-le-mul_left}
-use Rattle.vocabulary.specs.{add-one, arith}
+use Rattle.std.specs.Prelude.{ℕ, zero, suc, ◌+◌, ◌*◌, ◌≤◌, ◌<◌, List, ◌∷◌, ◌≡◌, refl, length, get_or, take, set}
+use Rattle.vocabulary.specs.{sym, ap, ◌∙◌, le_of_suc-le-suc, not-suc-le-zero, add_assoc, mul-suc}
+use Rattle.vocabulary.specs.{add-one}
 use Rattle.whole.specs.Lists.{listed}
-use Rattle.whole.proofs.Lists.{Filled, filled_none, filled_more, filled_all, listed_get_or}
-use Rattle.sheet_rules.specs.Promises.{slices}
+use Rattle.whole.proofs.Lists.{Filled, filled_more, filled_all, listed_get_or}
 use Rattle.sheet_reader.specs.declared.columns.Column.{Column}
 
 take_listed : {A : Type 0} (k n : ℕ) (value : ℕ → A) → k ≤ n → take k (listed n value) ≡ listed k value
@@ -26,19 +25,7 @@ next : (c : Column) (taken : ℕ) → c.start + c.step * (taken + 1) ≡ c.start
 next c taken = rw (add-one taken, mul-suc c.step taken) (sym (add_assoc c.start (c.step * taken) c.step))
 
 module _ {A : Type 0} (n : ℕ) (value : ℕ → A) (c : Column) where
-  pub taken_none : (values : List A) → length values ≡ n → TakenSoFar n value c 0 c.start values
-  taken_none values e = record {
-    filled = filled_none n value values e;
-    reached = sym (ap (λ (k : ℕ). c.start + k) (mul-zero c.step) ∙ add-zero c.start);
-  }
-
   module _ {taken at : ℕ} {values : List A} (h : TakenSoFar n value c taken at values) where
-    -- the next position is no further than the column's end
-    pub room : (count most : ℕ) → c.start + c.step * count ≤ most → taken < count → at + c.step ≤ most
-    room count most fits l =
-        let more : taken + 1 ≤ count = omega arith in
-        omega (arith, next c taken, h.reached, mul-le-mul_left c.step more)
-
     pub taken_more : {v : A} → taken < n → v ≡ value taken → TakenSoFar n value c (taken + 1) (at + c.step) (set values taken v)
     taken_more l e = record {
       filled = filled_more h.filled l e;
@@ -47,12 +34,3 @@ module _ {A : Type 0} (n : ℕ) (value : ℕ → A) (c : Column) where
 
     pub taken_all : n ≤ taken → values ≡ listed n value
     taken_all past = filled_all h.filled past
-
--- slices that are the same of each sort
-pub same_slices : {a b c d e f g h i j : List ℕ} {x y : List ℤ} → a ≡ b → i ≡ j → c ≡ d → e ≡ f → x ≡ y → g ≡ h → slices a i c e x g ≡ slices b j d f y h
-same_slices p n q r s t = rw (p, n, q, r, s, t)
-
--- lengths that are the same of each sort
-pub same_counts : {a b c d e f g h i j k l : ℕ} → a ≡ b → c ≡ d → e ≡ f → g ≡ h → i ≡ j → k ≡ l
-    → a ∷ c ∷ e ∷ g ∷ i ∷ k ∷ [] ≡ b ∷ d ∷ f ∷ h ∷ j ∷ l ∷ []
-same_counts p q r s t u = rw (p, q, r, s, t, u)

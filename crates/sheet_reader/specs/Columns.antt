@@ -39,9 +39,13 @@ log_side_column = column_from 18 27 27
 abbrev pub ColumnFits : Column → (count : ℕ) → Type 0
 ColumnFits c count = (count ≤ most_angles) × (c.start + c.step * count ≤ most_bits)
 
--- the values of a column
-unfoldable pub column_values : List ℕ → Column → (count : ℕ) → List ℕ
-column_values sheet c count = listed count (λ i. field_at sheet (c.start + c.step * i) c.width)
+-- what its fields hold, each as a value of one sort
+unfoldable pub values_held : {A : Type 0} → (held : (width field : ℕ) → A) → List ℕ → Column → (count : ℕ) → List A
+values_held held sheet c count = listed count (λ i. held c.width (field_at sheet (c.start + c.step * i) c.width))
 
-unfoldable pub signed_column_values : List ℕ → Column → (count : ℕ) → List ℤ
-signed_column_values sheet c count = listed count (λ i. signed_of c.width (field_at sheet (c.start + c.step * i) c.width))
+-- the values of a column
+abbrev pub column_values : List ℕ → Column → (count : ℕ) → List ℕ
+column_values sheet c count = values_held (λ width field. field) sheet c count
+
+abbrev pub signed_column_values : List ℕ → Column → (count : ℕ) → List ℤ
+signed_column_values sheet c count = values_held signed_of sheet c count

@@ -1,8 +1,11 @@
 // Columns of a sheet: the values of one sort, as they stand in it.
-ghost use Rattle.std.specs.Prelude.{◌≡◌, length};
+// A cast by `as` stands where the library has no `From`, to a narrower type or to and from usize; each is proved to keep its value.
+// That a column fits the sheet stays a premise of each function that takes one: it speaks of the slice that the caller lends for the values.
+ghost use Rattle.std.specs.Prelude.{◌≡◌, ◌%◌, ℕ, length};
+ghost use Rattle.bits.specs.Complement.{signed_of};
 ghost use Rattle.sheet_layout.specs.Kinds.{pass_of, carries_rounds};
 ghost use Rattle.sheet_reader.specs.Columns.{rows_start, angle_column, rounds_column, fixed_column, log_sine_column, difference_column};
-ghost use Rattle.sheet_reader.specs.Columns.{log_side_column, ColumnFits, column_values, signed_column_values};
+ghost use Rattle.sheet_reader.specs.Columns.{log_side_column, ColumnFits, values_held};
 
 use bits::{field, signed};
 use figure_tables::counts_of;
@@ -78,6 +81,8 @@ pub(crate) fn fixed_column(kind: Kind, figure: Figure) -> Column
     }
 }
 
+// This column and the next are each the definition of its name, which tells apart two offsets and two widths: one function over both would
+// take those two as arguments and say no more.
 pub(crate) fn log_sine_column(kind: Kind, figure: Figure) -> Column
     ensures { result ≡ log_sine_column (carries_rounds kind) figure }
 {
@@ -111,45 +116,48 @@ pub(crate) fn log_side_column() -> Column
     }
 }
 
+// A value as a field holds it.
+pub(crate) trait FieldValue: Copy {
+    ghost held: { ℕ → ℕ → Self };
+
+    fn from_field(field: u32, width: u32) -> Self
+        ensures { result ≡ held width field };
+}
+
+impl FieldValue for u32 {
+    ghost held = { λ width field. field };
+
+    fn from_field(field: u32, _width: u32) -> u32 {
+        field
+    }
+}
+
+impl FieldValue for u8 {
+    ghost held = { λ width field. field % 256 };
+
+    fn from_field(field: u32, _width: u32) -> u8 {
+        (field % 256) as u8
+    }
+}
+
+// In two's complement.
+impl FieldValue for i32 {
+    ghost held = { signed_of };
+
+    fn from_field(field: u32, width: u32) -> i32 {
+        signed(field, width)
+    }
+}
+
 // The first values of a column, each taken once, as many as have room.
-pub(crate) fn take_column(sheet: &[u8], column: Column, values: &mut [u32])
+pub(crate) fn take_column<T: FieldValue>(sheet: &[u8], column: Column, values: &mut [T])
     requires { ColumnFits column (length values.old) }
-    ensures { values.new ≡ column_values sheet.now column (length values.old) }
+    ensures { values.new ≡ values_held T.held sheet.now column (length values.old) }
 {
+    // The place goes on by a step of bits beside the values: `step_by` over the sheet would have to be told an end that nothing needs.
     let mut at = column.start;
-    let mut taken = 0;
-    while taken < values.len() {
-        values[taken] = field(sheet, at, column.width);
+    for value in values.iter_mut() {
+        *value = T::from_field(field(sheet, at, column.width), column.width);
         at += column.step;
-        taken += 1;
-    }
-}
-
-// The same of values of a byte.
-pub(crate) fn take_byte_column(sheet: &[u8], column: Column, values: &mut [u8])
-    requires column_fits { ColumnFits column (length values.old) }
-    requires width_value { column.width ≡ 8 }
-    ensures { values.new ≡ column_values sheet.now column (length values.old) }
-{
-    let mut at = column.start;
-    let mut taken = 0;
-    while taken < values.len() {
-        values[taken] = field(sheet, at, column.width) as u8;
-        at += column.step;
-        taken += 1;
-    }
-}
-
-// The same of values in two's complement.
-pub(crate) fn take_signed_column(sheet: &[u8], column: Column, values: &mut [i32])
-    requires { ColumnFits column (length values.old) }
-    ensures { values.new ≡ signed_column_values sheet.now column (length values.old) }
-{
-    let mut at = column.start;
-    let mut taken = 0;
-    while taken < values.len() {
-        values[taken] = signed(field(sheet, at, column.width), column.width);
-        at += column.step;
-        taken += 1;
     }
 }

@@ -1,44 +1,31 @@
 // The reader of packed sheets: it judges a sheet first, and stores only what it has accepted.
+// A cast by `as` stands where the library has no `From`, to a narrower type or to and from usize; each is proved to keep its value.
 ghost use Rattle.std.specs.Prelude.{◌≡◌, length};
 ghost use Rattle.refusals.specs.Order.{verdict_of, judged};
-ghost use Rattle.refusals.specs.Table.{filling_row};
+ghost use Rattle.refusals.specs.Promise.{stored};
+ghost use Rattle.refusals.specs.Table.{lengths_row, filling_row};
 ghost use Rattle.sheet_layout.specs.Layout.{sheet_size};
 ghost use Rattle.sheet_rules.specs.Sheet.{values_read};
-ghost use Rattle.sheet_rules.specs.Judging.{own_lengths, filling_bits};
-ghost use Rattle.sheet_rules.specs.Promises.{slices, slices_of, lengths_lent, ReaderPromise};
+ghost use Rattle.sheet_rules.specs.Judging.{own_lengths, filling_bits, value_rows};
+ghost use Rattle.sheet_rules.specs.Promises.{ReaderPromise};
+ghost use Rattle.sheet_rules.specs.Lent.{SameSlices, held_by, lengths_lent, slices_of, values_given};
 ghost use Rattle.sheet_reader.specs.Parts.{shape_rows, answered, ValuesPromise, BodyPromise};
 
 use crate::values::{limit_or_tolerance_in, store, take_values};
 use bits::field;
 use figures::{Figure, MOST_ANGLES, MOST_FIXED, MOST_SIDES};
-use judging::lengths_verdict;
-use refusals::{Refusal, Verdict};
-use sheet_layout::{Kind, Look, bit_count, lengths_of, look_at, sheet_size};
-use sheet_rules::{Reading, values_verdict};
+use judging::check_lengths;
+use refusals::Refusal;
+use sheet_layout::{Kind, SheetHead, bit_count, lengths_of, look_at, sheet_size};
+use sheet_rules::{ReadHead, SheetRoom, SheetValues, check_values};
 
-// Number 13, of a sheet that has its size: the bits after the last field.
-fn filling_verdict(sheet: &[u8], kind: Kind, figure: Figure) -> Verdict
-    requires { length sheet.now ≡ sheet_size kind figure }
-    ensures { result ≡ verdict_of (filling_row (filling_bits kind figure sheet.now)) }
+// Number 2, of the lengths of what is lent.
+fn check_lent(room: &SheetRoom<'_>, kind: Kind, figure: Figure) -> Result<(), Refusal>
+    ensures { result ≡ verdict_of (lengths_row (lengths_lent (held_by room.now)) (own_lengths kind figure)) }
 {
-    let end = bit_count(kind, figure);
-    let left = 8 * sheet.len() - end;
-    if field(sheet, end, left as u32) != 0 {
-        return Verdict::Failed(Refusal::FillingBitSet);
-    }
-    Verdict::Passed
-}
-
-// The tests before those of the values: 12, 2, 13.
-fn shape_verdict(sheet: &[u8], kind: Kind, figure: Figure, lent: &[usize]) -> Verdict
-    ensures { result ≡ judged (shape_rows kind figure sheet.now lent.now) }
-{
-    if sheet.len() != sheet_size(kind, figure) {
-        return Verdict::Failed(Refusal::WrongSheetLength);
-    }
     let own = lengths_of(kind, figure);
-    let lengths = lengths_verdict(
-        lent,
+    check_lengths(
+        &room.lengths(),
         &[
             own.angles,
             own.rounds,
@@ -47,215 +34,115 @@ fn shape_verdict(sheet: &[u8], kind: Kind, figure: Figure, lent: &[usize]) -> Ve
             own.differences,
             own.log_sides,
         ],
-    );
-    let filling = filling_verdict(sheet, kind, figure);
-    if let Verdict::Failed(_) = lengths {
-        return lengths;
-    }
-    filling
+    )
 }
 
-fn reading_after(verdict: Verdict, kind: Kind, figure: Figure, limit_or_tolerance: u32) -> Reading
-    ensures { result ≡ answered verdict kind figure limit_or_tolerance }
+// Number 13, of a sheet that has its size: the bits after the last field.
+fn check_filling(sheet: &[u8], kind: Kind, figure: Figure) -> Result<(), Refusal>
+    requires { length sheet.now ≡ sheet_size kind figure }
+    ensures { result ≡ verdict_of (filling_row (filling_bits kind figure sheet.now)) }
 {
-    match verdict {
-        Verdict::Failed(refusal) => Reading::Refused(refusal),
-        Verdict::Passed => Reading::Read {
-            kind,
-            figure,
-            limit_or_tolerance,
-        },
+    let end = bit_count(kind, figure);
+    let left = 8 * sheet.len() - end;
+    if field(sheet, end, left as u32) != 0 {
+        return Err(Refusal::FillingBitSet);
     }
+    Ok(())
+}
+
+// The tests before those of the values: 12, 2, 13.
+#[tactic(auto, unfolding(refusals::specs::Order::answer_of))]
+fn check_shape(sheet: &[u8], head: SheetHead, room: &SheetRoom<'_>) -> Result<(), Refusal>
+    ensures { result ≡ judged (shape_rows head.kind head.figure sheet.now (lengths_lent (held_by room.now))) }
+{
+    let SheetHead { kind, figure } = head;
+    if sheet.len() != sheet_size(kind, figure) {
+        return Err(Refusal::WrongSheetLength);
+    }
+    check_lent(room, kind, figure)?;
+    check_filling(sheet, kind, figure)
 }
 
 // What was taken is judged, and stored once it is accepted.
 fn judge_and_store(
-    kind: Kind,
-    figure: Figure,
+    head: SheetHead,
     bound: u32,
-    taken_angles: &[u32],
-    taken_rounds: &[u8],
-    taken_fixed: &[u32],
-    taken_log_sines: &[u32],
-    taken_differences: &[i32],
-    taken_log_sides: &[u32],
-    angles: &mut [u32],
-    rounds: &mut [u8],
-    fixed: &mut [u32],
-    log_sines: &mut [u32],
-    differences: &mut [i32],
-    log_sides: &mut [u32],
-) -> Reading
-    requires { lengths_lent (slices angles.old rounds.old fixed.old log_sines.old differences.old log_sides.old)
-        ≡ lengths_lent (slices taken_angles.now taken_rounds.now taken_fixed.now taken_log_sines.now
-        taken_differences.now taken_log_sides.now) }
-    ensures { ValuesPromise kind figure bound
-        (slices taken_angles.now taken_rounds.now taken_fixed.now
-        taken_log_sines.now taken_differences.now taken_log_sides.now)
-        (slices angles.old rounds.old fixed.old log_sines.old
-        differences.old log_sides.old) result
-        (slices angles.new rounds.new fixed.new log_sines.new
-        differences.new log_sides.new) }
+    taken: SheetValues<'_>,
+    room: &mut SheetRoom<'_>,
+) -> Result<ReadHead, Refusal>
+    requires { lengths_lent (held_by room.old) ≡ lengths_lent (slices_of (values_given bound taken)) }
+    ensures answer { result ≡ answered (judged (value_rows head.kind (values_given bound taken.entry))) head.kind head.figure bound }
+    ensures left { held_by room.new
+        ≡ stored (judged (value_rows head.kind (values_given bound taken.entry))) (slices_of (values_given bound taken.entry)) (held_by room.old) }
+    ensures same { SameSlices room.new room.old }
 {
-    let verdict = values_verdict(
-        kind,
-        bound,
-        taken_angles,
-        taken_rounds,
-        taken_fixed,
-        taken_log_sines,
-        taken_differences,
-        taken_log_sides,
-    );
-    let reading = reading_after(verdict, kind, figure, bound);
-    if let Verdict::Passed = verdict {
-        store(
-            taken_angles,
-            taken_rounds,
-            taken_fixed,
-            taken_log_sines,
-            taken_differences,
-            taken_log_sides,
-            angles,
-            rounds,
-            fixed,
-            log_sines,
-            differences,
-            log_sides,
-        );
-    }
-    reading
+    check_values(head.kind, bound, taken)?;
+    store(taken, room);
+    Ok(ReadHead {
+        kind: head.kind,
+        figure: head.figure,
+        limit_or_tolerance: bound,
+    })
 }
 
 // The values of a sheet that has its shape.
-fn read_values(
-    sheet: &[u8],
-    kind: Kind,
-    figure: Figure,
-    angles: &mut [u32],
-    rounds: &mut [u8],
-    fixed: &mut [u32],
-    log_sines: &mut [u32],
-    differences: &mut [i32],
-    log_sides: &mut [u32],
-) -> Reading
-    requires { lengths_lent (slices angles.old rounds.old fixed.old log_sines.old differences.old log_sides.old)
-        ≡ own_lengths kind figure }
-    ensures { ValuesPromise kind figure (values_read kind figure sheet.now).limit_or_tolerance
-        (slices_of (values_read kind figure sheet.now))
-        (slices angles.old rounds.old fixed.old log_sines.old
-        differences.old log_sides.old) result
-        (slices angles.new rounds.new fixed.new log_sines.new
-        differences.new log_sides.new) }
+fn read_values(sheet: &[u8], head: SheetHead, room: &mut SheetRoom<'_>) -> Result<ReadHead, Refusal>
+    requires { lengths_lent (held_by room.old) ≡ own_lengths head.kind head.figure }
+    ensures promise { ValuesPromise head.kind head.figure (values_read head.kind head.figure sheet.now).limit_or_tolerance
+        (slices_of (values_read head.kind head.figure sheet.now)) (held_by room.old) result (held_by room.new) }
+    ensures same { SameSlices room.new room.old }
 {
-    let bound = limit_or_tolerance_in(sheet, kind);
-    let mut a = [0u32; MOST_ANGLES];
-    let mut r = [1u8; MOST_ANGLES];
-    let mut f = [0u32; MOST_FIXED];
-    let mut l = [0u32; MOST_ANGLES];
-    let mut d = [0i32; MOST_ANGLES];
-    let mut s = [0u32; MOST_SIDES];
-    take_values(
-        sheet,
-        kind,
-        figure,
-        &mut a[..angles.len()],
-        &mut r[..rounds.len()],
-        &mut f[..fixed.len()],
-        &mut l[..log_sines.len()],
-        &mut d[..differences.len()],
-        &mut s[..log_sides.len()],
-    );
-    judge_and_store(
-        kind,
-        figure,
-        bound,
-        &a[..angles.len()],
-        &r[..rounds.len()],
-        &f[..fixed.len()],
-        &l[..log_sines.len()],
-        &d[..differences.len()],
-        &s[..log_sides.len()],
+    let bound = limit_or_tolerance_in(sheet, head.kind);
+    let mut angles = [0u32; MOST_ANGLES];
+    let mut rounds = [1u8; MOST_ANGLES];
+    let mut fixed = [0u32; MOST_FIXED];
+    let mut log_sines = [0u32; MOST_ANGLES];
+    let mut differences = [0i32; MOST_ANGLES];
+    let mut log_sides = [0u32; MOST_SIDES];
+    let angles = &mut angles[..room.angles.len()];
+    let rounds = &mut rounds[..room.rounds.len()];
+    let fixed = &mut fixed[..room.fixed.len()];
+    let log_sines = &mut log_sines[..room.log_sines.len()];
+    let differences = &mut differences[..room.differences.len()];
+    let log_sides = &mut log_sides[..room.log_sides.len()];
+    let mut taken = SheetRoom {
         angles,
         rounds,
         fixed,
         log_sines,
         differences,
         log_sides,
-    )
+    };
+    take_values(sheet, head, &mut taken);
+    let values = SheetValues {
+        angles,
+        rounds,
+        fixed,
+        log_sines,
+        differences,
+        log_sides,
+    };
+    judge_and_store(head, bound, values, room)
 }
 
 // Reads the sheet of a kind and a figure that are known: what follows the head.
 pub fn read_body(
     sheet: &[u8],
-    kind: Kind,
-    figure: Figure,
-    angles: &mut [u32],
-    rounds: &mut [u8],
-    fixed: &mut [u32],
-    log_sines: &mut [u32],
-    differences: &mut [i32],
-    log_sides: &mut [u32],
-) -> Reading
-    ensures { BodyPromise kind figure sheet.now
-        (slices angles.old rounds.old fixed.old log_sines.old
-        differences.old log_sides.old) result
-        (slices angles.new rounds.new fixed.new log_sines.new
-        differences.new log_sides.new) }
+    head: SheetHead,
+    room: &mut SheetRoom<'_>,
+) -> Result<ReadHead, Refusal>
+    ensures promise { BodyPromise head.kind head.figure sheet.now (held_by room.old) result (held_by room.new) }
+    ensures same { SameSlices room.new room.old }
 {
-    let lent = [
-        angles.len(),
-        rounds.len(),
-        fixed.len(),
-        log_sines.len(),
-        differences.len(),
-        log_sides.len(),
-    ];
-    let shape = shape_verdict(sheet, kind, figure, &lent);
-    if let Verdict::Failed(refusal) = shape {
-        return Reading::Refused(refusal);
-    }
-    read_values(
-        sheet,
-        kind,
-        figure,
-        angles,
-        rounds,
-        fixed,
-        log_sines,
-        differences,
-        log_sides,
-    )
+    check_shape(sheet, head, room)?;
+    read_values(sheet, head, room)
 }
 
 // Reads a sheet into slices that have exactly the lengths of its kind and figure. On a refusal nothing lent changes.
-pub fn read_sheet(
-    sheet: &[u8],
-    angles: &mut [u32],
-    rounds: &mut [u8],
-    fixed: &mut [u32],
-    log_sines: &mut [u32],
-    differences: &mut [i32],
-    log_sides: &mut [u32],
-) -> Reading
-    ensures { ReaderPromise sheet.now
-        (slices angles.old rounds.old fixed.old log_sines.old
-        differences.old log_sides.old) result
-        (slices angles.new rounds.new fixed.new log_sines.new
-        differences.new log_sides.new) }
+pub fn read_sheet(sheet: &[u8], room: &mut SheetRoom<'_>) -> Result<ReadHead, Refusal>
+    ensures promise { ReaderPromise sheet.now (held_by room.old) result (held_by room.new) }
+    ensures same { SameSlices room.new room.old }
 {
-    match look_at(sheet) {
-        Look::Refused(refusal) => Reading::Refused(refusal),
-        Look::Head(kind, figure) => read_body(
-            sheet,
-            kind,
-            figure,
-            angles,
-            rounds,
-            fixed,
-            log_sines,
-            differences,
-            log_sides,
-        ),
-    }
+    let head = look_at(sheet)?;
+    read_body(sheet, head, room)
 }

@@ -1,7 +1,10 @@
 -- The definitions at work: sheets that are read, and sheets that are turned back, each computed.
+use Rattle.std.specs.Prelude.{Err}
+use Rattle.sheet_rules.specs.Sheet.{Reading, read_as}
+use Rattle.std.specs.Prelude.{Err}
 use Rattle.std.specs.Prelude.{ℕ, List, [], ◌∷◌, ◌++◌, ◌≡◌, refl, pos, neg_ℤ, replicate}
 use Rattle.whole.specs.Lists.{listed}
-use Rattle.refusals.specs.{declared.Refusal.Refusal, declared.Verdict.TheVariants.Failed, Order.answer_of, Order.lowest_place}
+use Rattle.refusals.specs.{declared.Refusal.Refusal, Order.answer_of, Order.lowest_place}
 use Rattle.bits.specs.Bits.{odd, bits, digit, value, bits_of, first_byte, bytes_from, byte_count, bytes_of, inside, field_at, packed_bits, total_width}
 use Rattle.bits.specs.Complement.{half_range, signed_of, fits_signed, twos_complement}
 use Rattle.figures.specs.{declared.Figure.Figure, Figure.figure_of}
@@ -9,7 +12,6 @@ use Rattle.figures.specs.declared.Figure.TheVariants.{Quadrilateral, PointInTria
 use Rattle.sheet_layout.specs.{declared.Kind.Kind, Head.head_of, Head.head_rows, Head.look_of}
 use Rattle.sheet_layout.specs.declared.Kind.TheVariants.{One, Two, Four, Five}
 use Rattle.sheet_layout.specs.Layout.{layout, bit_count, sheet_size, sort, number_of_item, same, position_of, held}
-use Rattle.sheet_rules.specs.{declared.Reading.Reading, declared.Reading.TheVariants.Read}
 use Rattle.sheet_rules.specs.Sheet.{Values, values_read, packed_sheet, values_from}
 use Rattle.sheet_rules.specs.Judging.{own_lengths, body_rows, reader_rows, reading_of, given_rows, writer_rows, writing_of}
 
@@ -123,7 +125,7 @@ polygon_rounds = record {
 abbrev AllRead : List Sample → Type 0
 AllRead [] = Unit {0}
 AllRead (s ∷ others) =
-    (reading_of s.bytes (own_lengths s.kind s.figure) ≡ Read s.kind s.figure s.values.limit_or_tolerance)
+    (reading_of s.bytes (own_lengths s.kind s.figure) ≡ read_as s.kind s.figure s.values.limit_or_tolerance)
     × (values_read s.kind s.figure s.bytes ≡ s.values) × (packed_sheet s.kind s.figure s.values ≡ s.bytes) × AllRead others
 
 samples_read : AllRead (printed ∷ point_first ∷ point_second ∷ polygon_first ∷ polygon_second ∷ point_rounds ∷ polygon_rounds ∷ [])
@@ -132,22 +134,22 @@ samples_read = (refl, refl, refl, (refl, refl, refl, (refl, refl, refl, (refl, r
 
 -- ---- sheets that are turned back
 
-empty_sheet : (lent : List ℕ) → reading_of [] lent ≡ Reading.Refused Refusal.WrongSheetLength
+empty_sheet : (lent : List ℕ) → reading_of [] lent ≡ Err Refusal.WrongSheetLength
 unfolding reading_of reader_rows look_of head_of head_rows answer_of
 empty_sheet lent = refl
 
 -- kind 1, code 1, n = 0, with a byte too many
-one_byte_too_many : (lent : List ℕ) → reading_of (0x11 ∷ replicate 26 0) lent ≡ Reading.Refused Refusal.WrongSheetLength
+one_byte_too_many : (lent : List ℕ) → reading_of (0x11 ∷ replicate 26 0) lent ≡ Err Refusal.WrongSheetLength
 unfolding reading_of reader_rows look_of head_of head_rows body_rows answer_of held position_of same sort number_of_item field_at inside value digit bits_of bits odd figure_of sheet_size bit_count layout total_width byte_count
 one_byte_too_many lent = refl
 
 -- the last bit is a filling bit; L is 1,023 and every angle is 0, but 13 comes before 3 and 4
-filling_bit : reading_of (0x11 ∷ 0x0f ∷ 0xfc ∷ (replicate 22 0 ++ (1 ∷ []))) (own_lengths One Quadrilateral) ≡ Reading.Refused Refusal.FillingBitSet
+filling_bit : reading_of (0x11 ∷ 0x0f ∷ 0xfc ∷ (replicate 22 0 ++ (1 ∷ []))) (own_lengths One Quadrilateral) ≡ Err Refusal.FillingBitSet
 unfolding reading_of reader_rows look_of head_of head_rows body_rows answer_of held position_of same sort number_of_item field_at inside value digit bits_of bits odd figure_of sheet_size bit_count layout total_width byte_count
 filling_bit = refl
 
 limit-601 : reading_of (packed_sheet One Quadrilateral (values_from 601 (replicate 8 1620000) (replicate 8 1) [] [] [] [])) (own_lengths One Quadrilateral)
-    ≡ Reading.Refused Refusal.LimitOrToleranceOutOfRange
+    ≡ Err Refusal.LimitOrToleranceOutOfRange
 unfolding reading_of reader_rows look_of head_of head_rows body_rows answer_of held position_of same sort number_of_item field_at inside value digit bits_of bits odd figure_of sheet_size bit_count layout total_width byte_count packed_sheet packed_bits bytes_of bytes_from first_byte values_read
 limit-601 = refl
 
@@ -156,7 +158,7 @@ difference-below-range :
     reading_of (packed_sheet Two Quadrilateral
     (values_from 0 (replicate 8 1620000) (replicate 8 1) [] (replicate 8 98494850) (pos 300 ∷ pos 169 ∷ neg_ℤ (pos 10000) ∷ replicate 5 (pos 100)) []))
     (own_lengths Two Quadrilateral)
-    ≡ Reading.Refused (Refusal.SineEntryOutOfRange 3)
+    ≡ Err (Refusal.SineEntryOutOfRange 3)
 unfolding reading_of reader_rows look_of head_of head_rows body_rows answer_of lowest_place held position_of same sort number_of_item field_at inside value digit bits_of bits odd figure_of sheet_size bit_count layout total_width byte_count packed_sheet packed_bits bytes_of bytes_from first_byte values_read listed signed_of twos_complement fits_signed half_range
 difference-below-range = refl
 
@@ -167,20 +169,20 @@ eight_angles angles rounds = values_from 0 angles rounds [] [] [] []
 abbrev answer_to : (angles rounds : List ℕ) → Reading
 answer_to angles rounds = reading_of (packed_sheet Four Quadrilateral (eight_angles angles rounds)) (own_lengths Four Quadrilateral)
 
-first_rounds-0 : answer_to (replicate 8 1620000) (0 ∷ replicate 7 4) ≡ Reading.Refused (Refusal.RoundsOutOfRange 1)
+first_rounds-0 : answer_to (replicate 8 1620000) (0 ∷ replicate 7 4) ≡ Err (Refusal.RoundsOutOfRange 1)
 unfolding reading_of reader_rows look_of head_of head_rows body_rows answer_of lowest_place held position_of same sort number_of_item field_at inside value digit bits_of bits odd figure_of sheet_size bit_count layout total_width byte_count packed_sheet packed_bits bytes_of bytes_from first_byte values_read listed signed_of twos_complement fits_signed half_range
 first_rounds-0 = refl
 
-last_rounds-0 : answer_to (replicate 8 1620000) (replicate 7 255 ++ (0 ∷ [])) ≡ Reading.Refused (Refusal.RoundsOutOfRange 8)
+last_rounds-0 : answer_to (replicate 8 1620000) (replicate 7 255 ++ (0 ∷ [])) ≡ Err (Refusal.RoundsOutOfRange 8)
 unfolding reading_of reader_rows look_of head_of head_rows body_rows answer_of lowest_place held position_of same sort number_of_item field_at inside value digit bits_of bits odd figure_of sheet_size bit_count layout total_width byte_count packed_sheet packed_bits bytes_of bytes_from first_byte values_read listed signed_of twos_complement fits_signed half_range
 last_rounds-0 = refl
 
 -- 4 comes before 16, whatever their places
-angle_before_rounds : answer_to (replicate 7 1620000 ++ (0 ∷ [])) (0 ∷ replicate 7 4) ≡ Reading.Refused (Refusal.AngleOutOfRange 8)
+angle_before_rounds : answer_to (replicate 7 1620000 ++ (0 ∷ [])) (0 ∷ replicate 7 4) ≡ Err (Refusal.AngleOutOfRange 8)
 unfolding reading_of reader_rows look_of head_of head_rows body_rows answer_of lowest_place held position_of same sort number_of_item field_at inside value digit bits_of bits odd figure_of sheet_size bit_count layout total_width byte_count packed_sheet packed_bits bytes_of bytes_from first_byte values_read listed signed_of twos_complement fits_signed half_range
 angle_before_rounds = refl
 
 -- an older kind is written with one round for each angle alone, and 16 names the lowest that has another count
-older_with-2 : writing_of 3 1 0 (eight_angles (replicate 8 1620000) (1 ∷ 2 ∷ 1 ∷ 3 ∷ replicate 4 1)) 26 ≡ Failed (Refusal.RoundsOutOfRange 2)
+older_with-2 : writing_of 3 1 0 (eight_angles (replicate 8 1620000) (1 ∷ 2 ∷ 1 ∷ 3 ∷ replicate 4 1)) 26 ≡ Err (Refusal.RoundsOutOfRange 2)
 unfolding writing_of writer_rows given_rows head_of answer_of lowest_place figure_of sheet_size bit_count layout total_width byte_count
 older_with-2 = refl

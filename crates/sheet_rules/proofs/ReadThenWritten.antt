@@ -1,12 +1,14 @@
 -- An accepted sheet, written again from the values that are read off it, has the same bytes: for every kind and figure, and sheets of
 -- every length.
+use Rattle.sheet_rules.specs.Sheet.{read_as}
+use Rattle.std.specs.Prelude.{Ok}
 use Rattle.std.specs.Prelude.{ℕ, zero, suc, ◌*◌, ◌≤◌, ◌<◌, Bool, true, false, cond, ◌&&◌, List, [], ◌∷◌, map, ◌≡◌, refl, T, leb, pos}
 use Rattle.std.specs.Prelude.{length, get_or, take, drop}
 use Rattle.vocabulary.specs.{sym, ap, ap₂, subst, ◌∙◌, le_of_suc-le-suc, not-suc-le-zero, arith, leb→le, lit≤, length-map, list-get_or_map}
 use Rattle.vocabulary.specs.{ext_get_or}
 use Rattle.whole.specs.Lists.{listed}
 use Rattle.whole.proofs.{Computed.and_right, Lists.get_or_listed, Lists.get_d_any}
-use Rattle.refusals.specs.{Numbers.numbered, declared.Verdict.TheVariants.Passed}
+use Rattle.refusals.specs.Numbers.{numbered}
 use Rattle.bits.specs.Bits.{Field, bits_of, bytes_of, field_at, total_width, packed_bits, read_fields}
 use Rattle.bits.specs.Complement.{signed_of, twos_complement}
 use Rattle.bits.proofs.{Bytes.AreBytes, Fields.field_at_lt, Packed.field_at_offset, Packed.written_back, Complement.twos_complement_signed_of}
@@ -15,7 +17,7 @@ use Rattle.figures.proofs.Naming.{named_exactly}
 use Rattle.sheet_layout.specs.{declared.Kind.Kind, Kinds.number_of_kind, Kinds.carries_rounds, Head.kind_number_in, Head.code_in, Head.n_in}
 use Rattle.sheet_layout.specs.Layout.{Item, the_kind, the_code, the_n, limit, tolerance, angle, angle_rounds, fixed_angle, log_sine, difference, log_side, width_of, limit_or_tolerance_item, layout, fixed_in, sine_entries_in, sides_in, bit_count, sheet_size, position_of, held}
 use Rattle.sheet_layout.proofs.{Sizes.bits_within, Naming.kind_exactly, Naming.own_head}
-use Rattle.sheet_rules.specs.{declared.Reading.TheVariants.Read, Judging.reading_of, Judging.writing_of, Judging.written_of}
+use Rattle.sheet_rules.specs.{Judging.reading_of, Judging.writing_of, Judging.written_of}
 use Rattle.sheet_rules.specs.Sheet.{Values, number_at, field_of, packed_sheet, values_read}
 use Rattle.sheet_rules.proofs.Positions.{same_item, position_by_index, stands_once, none_among, counted, each_counted, narrow, kind_in_head, code_in_head, n_in_head}
 use Rattle.sheet_rules.proofs.Accepted.{Accepted, accepted, writer_found, sheet_written, given_back, as_many_read}
@@ -110,26 +112,26 @@ module _ (s lent : List ℕ) (kind : Kind) (f : Figure) (limit_or_tolerance : �
 
 -- demand 2: "An accepted packed sheet, read and written again, has the same bits"
 pub read_then_written : (s lent : List ℕ) (kind : Kind) (f : Figure) (limit_or_tolerance : ℕ) → AreBytes s
-    → reading_of s lent ≡ Read kind f limit_or_tolerance
+    → reading_of s lent ≡ read_as kind f limit_or_tolerance
     → packed_sheet kind f (values_read kind f s) ≡ s
 read_then_written s lent kind f l bytes e = same_bytes s lent kind f l bytes (accepted s lent kind f l e)
 
 -- what the writer answers to the values that are read off a sheet, and writes into any slice of its length
 pub record WrittenAgain (kind : Kind) (f : Figure) (s : List ℕ) : Type 0 where
-  pub accepts : writing_of (number_of_kind kind) (description f).code (description f).n (values_read kind f s) (length s) ≡ Passed
+  pub accepts : writing_of (number_of_kind kind) (description f).code (description f).n (values_read kind f s) (length s) ≡ Ok tt
   pub writes : (before : List ℕ) → length before ≡ length s
       → written_of (number_of_kind kind) (description f).code (description f).n (values_read kind f s) before ≡ s
 
 -- the writer accepts what the reader has accepted
 pub read_then_accepted : (s lent : List ℕ) (kind : Kind) (f : Figure) (limit_or_tolerance : ℕ) → AreBytes s
-    → reading_of s lent ≡ Read kind f limit_or_tolerance
+    → reading_of s lent ≡ read_as kind f limit_or_tolerance
     → WrittenAgain kind f s
 read_then_accepted s lent kind f l bytes e =
     let h : Accepted s lent kind f l = accepted s lent kind f l e in
     let code : ℕ = (description f).code in
     let n : ℕ = (description f).n in
     let v : Values = values_read kind f s in
-    let passes : writing_of (number_of_kind kind) code n v (length s) ≡ Passed =
+    let passes : writing_of (number_of_kind kind) code n v (length s) ≡ Ok tt =
     writer_found (number_of_kind kind) code n v (length s) kind f (own_head kind f)
     ∙ given_back kind f v (length s) (record { lengths = as_many_read kind f s; sized = h.size; values = h.values }) in
     record {

@@ -1,12 +1,15 @@
 -- The orders of a look, of the reader and of the writer, for demand 1: every row is in the table, what is answered tells what the rows
 -- are judged to be, and a refusal leaves what was lent. Assumes nothing.
+use Rattle.std.specs.Prelude.{Err, Ok}
+use Rattle.sheet_layout.specs.Head.{Look, headed}
+use Rattle.std.specs.Prelude.{Err, Ok}
+use Rattle.refusals.specs.Numbers.{Verdict}
 use Rattle.std.specs.Prelude.{ℕ, List, [], ◌++◌, ◌≡◌, refl, length, T}
 use Rattle.vocabulary.specs.{ap, ◌∙◌}
-use Rattle.refusals.specs.{declared.Refusal.Refusal, declared.Verdict.Verdict, Numbers.verdict_told}
-use Rattle.refusals.specs.declared.Verdict.TheVariants.{Passed, Failed}
+use Rattle.refusals.specs.{declared.Refusal.Refusal, Numbers.verdict_told}
 use Rattle.refusals.specs.Order.{Row, all_in_table, judged}
 use Rattle.figures.specs.declared.Figure.{Figure}
-use Rattle.sheet_layout.specs.{declared.Kind.Kind, declared.head.Look.Look, declared.head.Look.TheVariants.Head}
+use Rattle.sheet_layout.specs.declared.Kind.{Kind}
 use Rattle.sheet_layout.specs.Head.{name_rows, head_of, of_head, head_rows, look_of, look_told}
 use Rattle.sheet_layout.proofs.Naming.{look_told_lem, look_judged}
 use Rattle.sheet_rules.specs.Sheet.{Values}
@@ -34,31 +37,31 @@ module _ (s lent : List ℕ) where
   reader_in_table = go (look_of s)
     where
       go : (found : Look) → T (all_in_table (rows_after found))
-      go (Head kind f) = tt
-      go (Look.Refused refusal) = tt
+      go (Ok head) = tt
+      go (Err refusal) = tt
 
   pub reader_tells : reading_told (reading_of s lent) ≡ verdict_told (judged (reader_rows s lent))
   unfolding reading_of reader_rows head_rows
   reader_tells = go (look_of s) (head_tells s)
     where
       after : (kind : Kind) (f : Figure) (v : Verdict) → reading_told (reading_after v kind f s) ≡ verdict_told v
-      after kind f Passed = refl
-      after kind f (Failed refusal) = refl
+      after kind f (Ok tt) = refl
+      after kind f (Err refusal) = refl
 
       go : (found : Look) → look_told found ≡ verdict_told (judged (head_rows s))
           → reading_told (reading_found found (judged (rows_after found)) s) ≡ verdict_told (judged (rows_after found))
-      go (Head kind f) e = after kind f (judged (rows_after (Head kind f)))
-      go (Look.Refused refusal) e = e
+      go (Ok head) e = after head.kind head.figure (judged (rows_after (headed head.kind head.figure)))
+      go (Err refusal) e = e
 
   -- a refusal leaves what was lent
-  pub kept_reading : {A : Type 0} {refusal : Refusal} → judged (reader_rows s lent) ≡ Failed refusal → (values : Kind → Figure → A) (before : A)
+  pub kept_reading : {A : Type 0} {refusal : Refusal} → judged (reader_rows s lent) ≡ Err refusal → (values : Kind → Figure → A) (before : A)
       → after_reading (reading_of s lent) values before ≡ before
   unfolding reading_of
   kept_reading e values before = go (look_of s)
     where
       go : (found : Look) → after_reading (reading_found found (judged (reader_rows s lent)) s) values before ≡ before
-      go (Head kind f) = ap (λ (v : Verdict). after_reading (reading_after v kind f s) values before) e
-      go (Look.Refused other) = refl
+      go (Ok head) = ap (λ (v : Verdict). after_reading (reading_after v head.kind head.figure s) values before) e
+      go (Err other) = refl
 
 -- ---- the writer
 
@@ -68,11 +71,11 @@ module _ (kind code n : ℕ) (v : Values) (size : ℕ) where
   writer_in_table = go (head_of kind code n)
     where
       go : (found : Look) → T (all_in_table (name_rows kind code n ++ of_head found [] (λ k f. given_rows k f v size)))
-      go (Head k f) = tt
-      go (Look.Refused refusal) = tt
+      go (Ok head) = tt
+      go (Err refusal) = tt
 
   -- a refusal leaves what was lent
-  pub kept_written : {refusal : Refusal} (before : List ℕ) → length before ≡ size → judged (writer_rows kind code n v size) ≡ Failed refusal
+  pub kept_written : {refusal : Refusal} (before : List ℕ) → length before ≡ size → judged (writer_rows kind code n v size) ≡ Err refusal
       → written_of kind code n v before ≡ before
   unfolding writing_of
   kept_written {refusal} before same e = sheet_kept kind code n v before refusal (ap (writing_of kind code n v) same ∙ e)

@@ -1,11 +1,14 @@
 -- A sheet that the writer has accepted reads back as the same kind, figure, L or e and values: for every kind and figure.
+use Rattle.sheet_layout.specs.Head.{headed}
+use Rattle.sheet_rules.specs.Sheet.{Reading, read_as}
+use Rattle.std.specs.Prelude.{Ok}
 use Rattle.std.specs.Prelude.{ℕ, zero, suc, ◌≤◌, ◌<◌, ◌^◌, Bool, true, false, cond, ◌&&◌, List, [], ◌∷◌, map, ◌≡◌, refl, T, leb, ltb, pos}
 use Rattle.std.specs.Prelude.{length, get_or, take, replicate}
 use Rattle.vocabulary.specs.{zero-le, suc-le-suc, sym, ap, ap₂, subst, ◌∙◌, lt_of_le_of_lt, arith, leb→le, ltb→lt, lit<, lit≤, length-map}
 use Rattle.vocabulary.specs.{list-get_or_map}
 use Rattle.whole.specs.Lists.{listed}
 use Rattle.whole.proofs.{Computed.and_right, Lists.listed_ext, Lists.listed_get_or}
-use Rattle.refusals.specs.{declared.Verdict.TheVariants.Passed, Numbers.numbered, Order.NoneHolds}
+use Rattle.refusals.specs.{Numbers.numbered, Order.NoneHolds}
 use Rattle.refusals.specs.Ranges.{most_limit, most_tolerance, least_rounds, most_rounds}
 use Rattle.bits.specs.Bits.{Field, bytes_of, byte_count, filling_width, field_at, total_width, widths, packed_bits, AllFit}
 use Rattle.bits.specs.Complement.{signed_of}
@@ -15,12 +18,12 @@ use Rattle.figures.specs.{declared.Figure.Figure, Figure.description, Figure.ang
 use Rattle.figures.proofs.{Figures.each_figure, Naming.named_exactly}
 use Rattle.sheet_layout.specs.{declared.Kind.Kind, declared.Pass.Pass, Kinds.number_of_kind, Kinds.pass_of, Kinds.carries_rounds, Kinds.of_pass}
 use Rattle.sheet_layout.specs.Layout.{Item, the_kind, the_code, the_n, limit, tolerance, angle, angle_rounds, fixed_angle, log_sine, difference, log_side, width_of, limit_or_tolerance_item, layout, fixed_in, sine_entries_in, sides_in, bit_count, sheet_size, position_of, held}
-use Rattle.sheet_layout.specs.{declared.head.Look.TheVariants.Head, Head.kind_number_in, Head.code_in, Head.n_in, Head.head_of}
+use Rattle.sheet_layout.specs.{Head.kind_number_in, Head.code_in, Head.n_in, Head.head_of}
 use Rattle.sheet_layout.proofs.{EachKind.each_kind, EachKind.each, Naming.kind_exactly}
-use Rattle.sheet_rules.specs.{declared.Reading.Reading, declared.Reading.TheVariants.Read}
 use Rattle.sheet_rules.specs.Sheet.{Values, number_at, field_of, packed_sheet, values_read}
 use Rattle.sheet_rules.specs.Judging.{most_rounds_of, value_rows, own_lengths, lengths_given, reading_of, after_reading, writing_of, written_of}
-use Rattle.sheet_rules.specs.Promises.{Slices, slices_of, lengths_lent, read_answer, read_left}
+use Rattle.sheet_rules.specs.Promises.{read_answer, read_left}
+use Rattle.sheet_rules.specs.Lent.{Slices, slices_of, lengths_lent}
 use Rattle.sheet_rules.proofs.Positions.{same_item, index_of, position_by_index, item_at_index, none_among, counted, each_counted, narrow, kind_stands, code_stands, n_stands, limit_stands, angle_stands, rounds_stand, fixed_stands, log_sine_stands, difference_stands, log_side_stands, kind_in_head, code_in_head, n_in_head}
 use Rattle.sheet_rules.proofs.Accepted.{Accepted, AsMany, own_lengths_lem, accepted_back, writer_accepted, sheet_written}
 use Rattle.sheet_rules.proofs.{Filling.no_filling_bit, InRange.InRange, InRange.in_range, InRange.difference_fits}
@@ -206,12 +209,12 @@ long_enough kind f = leb→le 2 (sheet_size kind f) (each (λ k g. leb 2 (sheet_
 pub record ReadsBack (kind code n : ℕ) (v : Values) (sheet : List ℕ) (lent : Slices) : Type 0 where
   pub kind_read : Kind
   pub figure_read : Figure
-  pub named : head_of kind code n ≡ Head kind_read figure_read
-  pub answers : read_answer sheet lent ≡ Read kind_read figure_read v.limit_or_tolerance
+  pub named : head_of kind code n ≡ headed kind_read figure_read
+  pub answers : read_answer sheet lent ≡ read_as kind_read figure_read v.limit_or_tolerance
   pub leaves : read_left sheet lent ≡ slices_of v
 
 -- demand 2: "a written sheet reads back as the same values"
-pub written_then_read : (kind code n : ℕ) (v : Values) (before : List ℕ) → writing_of kind code n v (length before) ≡ Passed
+pub written_then_read : (kind code n : ℕ) (v : Values) (before : List ℕ) → writing_of kind code n v (length before) ≡ Ok tt
     → (lent : Slices) → lengths_lent lent ≡ lengths_given v
     → ReadsBack kind code n v (written_of kind code n v before) lent
 written_then_read kind code n v before e lent same =
@@ -222,7 +225,7 @@ written_then_read kind code n v before e lent same =
     let many : AsMany k f v = given.given.lengths in
     let written : written_of kind code n v before ≡ packed_sheet k f v = sheet_written kind code n v before k f given.names e in
     let is : Accepted (packed_sheet k f v) (own_lengths k f) k f v.limit_or_tolerance = written_accepted k f v many range given.given.values in
-    let answered : read_answer (packed_sheet k f v) lent ≡ Read k f v.limit_or_tolerance =
+    let answered : read_answer (packed_sheet k f v) lent ≡ read_as k f v.limit_or_tolerance =
     ap (reading_of (packed_sheet k f v)) (same ∙ own_lengths_lem k f v many)
     ∙ accepted_back (packed_sheet k f v) (own_lengths k f) k f v.limit_or_tolerance (omega (arith, long_enough k f, is.size)) is in
     record {

@@ -1,17 +1,20 @@
 -- How sheets are turned back: document 01, "Numbers given when a sheet is turned back", and document 02, M-101 for number 14 and M-106 for
 -- number 16. The reader's order and the writer's, each as one list of rows. Both begin with the rows of the head (specs/Head.antt of
 -- `sheet_layout`).
+use Rattle.std.specs.Prelude.{Err, Ok}
+use Rattle.sheet_layout.specs.Head.{Look}
+use Rattle.sheet_rules.specs.Sheet.{Reading, read_as}
+use Rattle.std.specs.Prelude.{Err, Ok}
+use Rattle.refusals.specs.Numbers.{Verdict}
 use Rattle.std.specs.Prelude.{ℕ, Bool, cond, List, [], ◌∷◌, ◌++◌, length, drop}
-use Rattle.refusals.specs.{declared.Verdict.Verdict, declared.Verdict.TheVariants.Passed, declared.Verdict.TheVariants.Failed}
 use Rattle.refusals.specs.{Numbers.Told, Numbers.told, Numbers.refusal_told, Order.Row, Order.judged}
 use Rattle.refusals.specs.Ranges.{most_limit, most_tolerance, most_rounds}
 use Rattle.refusals.specs.Table.{lengths_row, limit_or_tolerance_row, angles_row, rounds_row, fixed_row, fixed_sum_row, sine_entries_row, sheet_size_row, filling_row}
 use Rattle.figures.specs.declared.Figure.{Figure}
 use Rattle.bits.specs.Bits.{bits_of}
-use Rattle.sheet_layout.specs.{declared.Kind.Kind, Kinds.pass_of, Kinds.carries_rounds, Kinds.of_pass, declared.head.Look.Look}
-use Rattle.sheet_layout.specs.{Layout.lengths_of, Layout.bit_count, Layout.sheet_size, declared.head.Look.TheVariants.Head}
+use Rattle.sheet_layout.specs.{declared.Kind.Kind, Kinds.pass_of, Kinds.carries_rounds, Kinds.of_pass}
+use Rattle.sheet_layout.specs.{Layout.lengths_of, Layout.bit_count, Layout.sheet_size}
 use Rattle.sheet_layout.specs.Head.{name_rows, head_of, of_head, head_rows, look_of}
-use Rattle.sheet_rules.specs.{declared.Reading.Reading, declared.Reading.TheVariants.Read}
 use Rattle.sheet_rules.specs.Sheet.{Values, values_read, packed_sheet}
 
 -- ---- the values: 3, 4, 16, 5, 14, 8
@@ -66,25 +69,25 @@ reader_rows sheet lent = head_rows sheet ++ of_head (look_of sheet) [] (λ kind 
 
 -- what the reader answers; L or e as packed, so that 0 stays 0
 abbrev pub reading_after : Verdict → Kind → Figure → (sheet : List ℕ) → Reading
-reading_after Passed kind f sheet = Read kind f (values_read kind f sheet).limit_or_tolerance
-reading_after (Failed refusal) kind f sheet = Reading.Refused refusal
+reading_after (Ok tt) kind f sheet = read_as kind f (values_read kind f sheet).limit_or_tolerance
+reading_after (Err refusal) kind f sheet = Err refusal
 
 abbrev pub reading_found : Look → Verdict → (sheet : List ℕ) → Reading
-reading_found (Head kind f) verdict sheet = reading_after verdict kind f sheet
-reading_found (Look.Refused refusal) verdict sheet = Reading.Refused refusal
+reading_found (Ok head) verdict sheet = reading_after verdict head.kind head.figure sheet
+reading_found (Err refusal) verdict sheet = Err refusal
 
 unfoldable pub reading_of : (sheet lent : List ℕ) → Reading
 reading_of sheet lent = reading_found (look_of sheet) (judged (reader_rows sheet lent)) sheet
 
 -- its number and place
 abbrev pub reading_told : Reading → Told
-reading_told (Read kind f limit_or_tolerance) = told 0 0
-reading_told (Reading.Refused refusal) = refusal_told refusal
+reading_told (Ok read) = told 0 0
+reading_told (Err refusal) = refusal_told refusal
 
 -- what is lent to the reader holds after it has answered: what the kind and the figure that it read say, or what it held
 abbrev pub after_reading : {A : Type 0} → Reading → (values : Kind → Figure → A) → (before : A) → A
-after_reading (Read kind f limit_or_tolerance) values before = values kind f
-after_reading (Reading.Refused refusal) values before = before
+after_reading (Ok read) values before = values read.kind read.figure
+after_reading (Err refusal) values before = before
 
 -- ---- the writer: 11, 1, 2, 3, 4, 16, 5, 14, 8
 
@@ -101,8 +104,8 @@ writing_of kind code n v size = judged (writer_rows kind code n v size)
 
 -- what the byte slice holds after the writer has answered: the sheet, or what it held
 abbrev pub after_writing : Verdict → (sheet before : List ℕ) → List ℕ
-after_writing Passed sheet before = sheet
-after_writing (Failed refusal) sheet before = before
+after_writing (Ok tt) sheet before = sheet
+after_writing (Err refusal) sheet before = before
 
 unfoldable pub written_of : (kind code n : ℕ) → Values → (before : List ℕ) → List ℕ
 written_of kind code n v before =

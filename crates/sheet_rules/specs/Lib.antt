@@ -1,3 +1,4 @@
 pub mod Judging
+pub mod Lent
 pub mod Promises
 pub mod Sheet

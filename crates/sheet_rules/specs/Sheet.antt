@@ -1,8 +1,9 @@
 -- The values of a packed sheet and its bytes: document 01, "Packed sheets", and document 02, M-106, for the rounds. Both follow from the
 -- layout of its kind and figure.
-use Rattle.std.specs.Prelude.{ℕ, suc, cond, List, map, ℤ, pos}
+use Rattle.std.specs.Prelude.{ℕ, suc, cond, List, map, ℤ, pos, Result, Ok}
 use Rattle.whole.specs.Lists.{listed}
-use Rattle.refusals.specs.Numbers.{numbered}
+use Rattle.refusals.specs.{declared.Refusal.Refusal, Numbers.numbered}
+use Rattle.sheet_rules.specs.declared.ReadHead.{ReadHead}
 use Rattle.figures.specs.{declared.Figure.Figure, Figure.description, Figure.angle_count}
 use Rattle.bits.specs.{Bits.Field, Bits.bytes_of, Bits.packed_bits, Complement.signed_of, Complement.twos_complement}
 use Rattle.sheet_layout.specs.{declared.Kind.Kind, Kinds.number_of_kind, Kinds.carries_rounds}
@@ -63,6 +64,14 @@ values_read kind f sheet = values_from
     (one_of_each (sine_entries_in kind f) (λ i. held (layout kind f) sheet (log_sine i)))
     (one_of_each (sine_entries_in kind f) (λ i. signed_of (width_of (difference i)) (held (layout kind f) sheet (difference i))))
     (one_of_each (sides_in kind f) (λ i. held (layout kind f) sheet (log_side i)))
+
+-- ---- what the reader answers: the kind, the figure and L or e, or the refusal
+
+abbrev pub Reading : Type 0
+Reading = Result ReadHead Refusal
+
+abbrev pub read_as : Kind → Figure → (limit_or_tolerance : ℕ) → Reading
+read_as kind f limit_or_tolerance = Ok (record { kind = kind; figure = f; limit_or_tolerance = limit_or_tolerance })
 
 -- a bound on the positions of reader and writer: no sheet is so long
 abbrev pub most_bits : ℕ

@@ -1,6 +1,7 @@
 -- What the parts of the writer compute, in the words of the whole (specs/Sheet.antt of `sheet_rules`).
+use Rattle.refusals.specs.Numbers.{Verdict}
 use Rattle.std.specs.Prelude.{ℕ, ◌+◌, ◌*◌, Bool, cond, List, [], ◌∷◌, ◌++◌, ◌≡◌, ℤ, pos, length}
-use Rattle.refusals.specs.{declared.Verdict.Verdict, Numbers.numbered, Order.judged, Promise.Promised}
+use Rattle.refusals.specs.{Numbers.numbered, Order.judged, Promise.Promised}
 use Rattle.bits.specs.{Bits.Field, Complement.twos_complement}
 use Rattle.figures.specs.{declared.Figure.Figure, Rows.each_of}
 use Rattle.sheet_layout.specs.{declared.Kind.Kind, declared.Pass.Pass}

@@ -1,10 +1,10 @@
 -- Laws of laying text in a buffer: where it has room and where not, and several texts laid one after the other. Assumes nothing.
 use Rattle.std.specs.Prelude.{◌≡◌, refl, Bool, true, false, cond, List, [], ◌∷◌, ◌++◌, ℕ, ◌+◌, ◌-◌, ◌≤◌, ◌<◌, leb, length, take, drop, set}
 use Rattle.vocabulary.specs.{sym, ap, ap₂, ◌∙◌, append_assoc, append-nil, zero-add, add-one, arith, le-leb, lt-leb, leb-true, leb-false}
-use Rattle.vocabulary.specs.{length-append, length-take, length-drop, length-set, drop_of_length-le, take_all, take-append_seam}
-use Rattle.vocabulary.specs.{take-append-le, take-append-add, take_at, drop_at, drop-drop, length-take-le, paste, take-length, append_snoc}
-use Rattle.vocabulary.specs.{set_split, take-set-le}
-use Rattle.text.specs.{Text.laid, Text.after, Holds.Holds}
+use Rattle.vocabulary.specs.{length-append, length-take, length-drop, drop_of_length-le, take_all, take-append_seam}
+use Rattle.vocabulary.specs.{take-append-le, take-append-add, take_at, drop_at, drop-drop, length-take-le, append_snoc}
+use Rattle.vocabulary.specs.{set_split}
+use Rattle.text.specs.{Text.laid, Text.after, Holds.Holds, Page.Place, Page.place, Page.laid_on}
 
 room_or_none : (P : Type 0) (m n : ℕ) → (m ≤ n → P) → (n < m → P) → P
 room_or_none P m n room none = go (leb m n) refl
@@ -41,17 +41,6 @@ module _ (buffer : List ℕ) (at : ℕ) (t : List ℕ) where
   unfolding laid
   laid_room h = ap (λ (l : List ℕ). take at buffer ++ l ++ drop (at + length t) buffer) (take_all (length buffer - at) t (omega arith))
 
-  -- as a copy of t leaves it, when all of its bytes are done
-  pub laid_whole : at + length t ≤ length buffer → laid buffer at t ≡ paste buffer at t (length t)
-  laid_whole h = laid_room h ∙ ap (λ (l : List ℕ). take at buffer ++ l ++ drop (at + length t) buffer) (sym (take-length t))
-
-  -- and when as many are done as the buffer has room for
-  pub laid_cut : at ≤ length buffer → length buffer ≤ at + length t → laid buffer at t ≡ paste buffer at t (length buffer - at)
-  unfolding laid
-  laid_cut h cut =
-      ap (λ (l : List ℕ). take at buffer ++ take (length buffer - at) t ++ l)
-      (drop_past buffer (at + length t) (at + (length buffer - at)) (omega arith) (omega arith))
-
   -- past the end nothing is laid
   pub laid_past : length buffer ≤ at → laid buffer at t ≡ buffer
   unfolding laid
@@ -66,21 +55,6 @@ module _ (buffer : List ℕ) (at b : ℕ) (h : at < length buffer) where
 
   pub laid_byte : laid buffer at (b ∷ []) ≡ set buffer at b
   laid_byte = laid_room buffer at (b ∷ []) (omega arith) ∙ append_snoc (take at buffer) b (drop (at + 1) buffer) ∙ sym stored
-
-  drop_stored : drop at (set buffer at b) ≡ b ∷ drop (at + 1) buffer
-  drop_stored = ap (drop at) stored ∙ drop_at (take at buffer) (b ∷ drop (at + 1) buffer) at (length-take-le at buffer (omega arith))
-
--- the last byte of a text may be stored before the others are laid
-pub laid_last : (buffer : List ℕ) (at : ℕ) (t : List ℕ) (b : ℕ) → at + length t < length buffer
-    → laid buffer at (t ++ (b ∷ [])) ≡ laid (set buffer (at + length t) b) at t
-laid_last buffer at t b h =
-    let place = at + length t in
-    let next : at + length (t ++ (b ∷ [])) ≡ at + length t + 1 = omega (arith, length-append t (b ∷ [])) in
-    laid_room buffer at (t ++ (b ∷ [])) (omega arith)
-    ∙ ap₂ (λ (l : List ℕ) (k : ℕ). l ++ drop k buffer) (sym (append_assoc (take at buffer) t (b ∷ []))) next
-    ∙ append_snoc (take at buffer ++ t) b (drop (place + 1) buffer)
-    ∙ ap₂ (λ (l m : List ℕ). l ++ t ++ m) (sym (take-set-le at buffer place b (omega arith))) (sym (drop_stored buffer place b h))
-    ∙ sym (laid_room (set buffer place b) at t (omega (arith, length-set buffer place b)))
 
 -- ---- One after the other
 
@@ -159,10 +133,6 @@ module _ {start t buffer : List ℕ} {at : ℕ} (held : Holds start t buffer at)
   pub holds_size : length buffer ≡ length start
   holds_size = ap length held.bytes ∙ length_laid start 0 t
 
-  -- the next text is laid at the position that the last one gave
-  pub holds_more : (s : List ℕ) {buffer' : List ℕ} {at' : ℕ} → buffer' ≡ laid buffer at s → at' ≡ after (length buffer) at s → Holds start (t ++ s) buffer' at'
-  holds_more s e p = let more = laid_more start 0 t s held.bytes held.position e p in record { bytes = more.0; position = more.1 }
-
   -- where all of it has room
   module _ (room : length t ≤ length start) where
     pub holds_length : at ≡ length t
@@ -170,3 +140,15 @@ module _ {start t buffer : List ℕ} {at : ℕ} (held : Holds start t buffer at)
 
     pub holds_taken : take at buffer ≡ t
     holds_taken = ap₂ take holds_length held.bytes ∙ laid_taken start t room
+
+-- ---- On a page
+
+-- two texts one after the other are one
+pub laid_on_append : (p : Place) (t s : List ℕ) → laid_on (laid_on p t) s ≡ laid_on p (t ++ s)
+unfolding laid_on
+laid_on_append p t s = let both = laid_more p.bytes p.at t s refl refl refl refl in ap₂ place both.0 both.1
+
+-- on a page that began so
+pub holds_page : (start t : List ℕ) {buffer : List ℕ} {at : ℕ} → place buffer at ≡ laid_on (place start 0) t → Holds start t buffer at
+unfolding laid_on
+holds_page start t e = record { bytes = ap (λ (p : Place). p.bytes) e; position = ap (λ (p : Place). p.at) e }

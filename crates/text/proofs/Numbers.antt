@@ -3,7 +3,7 @@
 use Rattle.std.specs.Prelude.{◌≡◌, refl, Bool, true, false, ◌||◌, List, [], ◌∷◌, ◌++◌, map, ℕ, zero, suc, ◌+◌, ◌*◌, ◌-◌, ◌/◌, ◌%◌, ◌^◌, ◌≤◌}
 use Rattle.std.specs.Prelude.{◌<◌, T, leb, ltb, eqb, ℤ, pos, negsuc, neg_ℤ, nat_abs, length, get_or}
 use Rattle.vocabulary.specs.{sym, ap, ap₂, ◌∙◌, subst⁻¹, not-suc-le-zero, pow-suc, div-lt_iff_lt-mul, div-eq_of_lt, mod-eq_of_lt, arith}
-use Rattle.vocabulary.specs.{ne_eqb, ltb-true, ltb-false, leb→le, le→leb, eqb→eq, lit<, length-append, list-get_or_append, mag}
+use Rattle.vocabulary.specs.{ne_eqb, ltb-true, ltb-false, leb→le, le→leb, eqb→eq, lit<, length-append, list-get_or_append}
 use Rattle.whole.specs.Lists.{every}
 use Rattle.whole.proofs.Computed.{and_left}
 use Rattle.text.proofs.Tests.{and_both, or_left, or_cases, every_append, every_also}
@@ -60,15 +60,6 @@ module _ (Q : List ℕ → Type 0) (one : (n : ℕ) → n < 10 → Q (digit n �
   by_text =
       by_digits (λ n. Q (natural n)) (λ n h. subst⁻¹ Q (natural_last n h) (one n h))
       (λ n h q. subst⁻¹ Q (natural_before n h) (more (natural (n / 10)) (n % 10) (omega arith) q))
-
--- the text of a number below zero, and of any other
-pub decimal_negative : (z : ℤ) → z ≡ negsuc (mag z) → decimal z ≡ minus ∷ natural (nat_abs z)
-unfolding decimal
-decimal_negative z e = ap decimal e ∙ ap (λ (k : ℕ). minus ∷ natural k) (sym (ap nat_abs e))
-
-pub decimal_other : (z : ℤ) → z ≡ pos (nat_abs z) → decimal z ≡ natural (nat_abs z)
-unfolding decimal
-decimal_other z e = ap decimal e
 
 -- ---- Reading back
 
@@ -192,6 +183,10 @@ length_natural (suc (suc k)) n b h =
     ten_or_more (length (natural n) ≤ suc (suc k)) n (λ one. rw (natural_last n one) (omega arith))
     (λ ten. rw (natural_before n ten, length-append (natural (n / 10)) (digit (n % 10) ∷ []))
     (omega (arith, length_natural (suc k) (n / 10) (omega arith) ((div-lt_iff_lt-mul (lit< tt)).1 (rw (pow-suc 10 (suc k)) at h)))))
+
+-- a number of 64 bits has at most 20 digits
+pub length_word : (n : ℕ) → n < 2 ^ 64 → length (natural n) ≤ 20
+length_word n h = length_natural 20 n (lit< tt) (omega arith)
 
 pub length_decimal : (k : ℕ) (z : ℤ) → 0 < k → nat_abs z < 10 ^ k → length (decimal z) ≤ k + 1
 unfolding decimal

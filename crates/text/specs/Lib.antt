@@ -1,2 +1,3 @@
 pub mod Holds
+pub mod Page
 pub mod Text

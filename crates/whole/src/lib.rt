@@ -1,28 +1,28 @@
 // Whole numbers: the magnitude of a signed number, the rounded quotient, and a hundredfold compared.
+// A cast by `as` stands where the library has no `From`, to a narrower type or to and from usize; each is proved to keep its value.
 #![tactic(auto)]
 
 ghost use Rattle.std.specs.Prelude.{◌≡◌, ◌≤◌, ◌*◌, ltb, nat_abs};
 ghost use Rattle.whole.specs.Quotient.{with_sign, rounded_quotient};
 ghost use Rattle.whole.specs.Quotient.{nearest as Quotient·nearest};
 
-// The largest number that 64 bits can hold a hundredfold.
-const MOST_HUNDREDFOLD: u64 = 184467440737095516;
-
-// How far z is from zero. An i64 cannot hold the negation of its smallest number; −1 − z it holds for every z.
+// How far z is from zero.
 pub fn magnitude(z: i64) -> u64
     ensures { result ≡ nat_abs z }
 {
-    if z < 0 { (-1 - z) as u64 + 1 } else { z as u64 }
+    z.unsigned_abs()
 }
 
 // The whole number nearest to numerator / denominator, halves to the even one; 0 where the denominator is 0.
+#[tactic(auto, using(crate::proofs::Quotient::nearest_within), unfolding(crate::specs::Quotient::rounded_quotient))]
 pub fn rounded_quotient(numerator: i64, denominator: u64) -> i64
     ensures { result ≡ rounded_quotient numerator denominator }
 {
-    with_sign(numerator, nearest(magnitude(numerator), denominator))
+    with_sign(numerator, nearest(numerator.unsigned_abs(), denominator))
 }
 
 // Twice the remainder may pass 64 bits, so it is compared with what it lacks of d; after an odd quotient a half counts as more.
+#[tactic(auto, using(crate::proofs::Quotient::nearest_none, crate::proofs::Quotient::nearest_down, crate::proofs::Quotient::nearest_up))]
 fn nearest(n: u64, d: u64) -> u64
     ensures { result ≡ Quotient·nearest n d }
 {
@@ -43,20 +43,17 @@ fn with_sign(number: i64, size: u64) -> i64
     requires { size ≤ nat_abs number }
     ensures { result ≡ with_sign number size }
 {
+    let size = i128::from(size);
     if number < 0 {
-        if size == 0 { 0 } else { -1 - (size - 1) as i64 }
+        (-size) as i64
     } else {
         size as i64
     }
 }
 
-// 100·a is more than most. Where 100·a passes 64 bits, it is more than any such number.
+// 100·a is more than most, also where 100·a passes 64 bits.
 pub fn hundredfold_exceeds(a: u64, most: u64) -> bool
     ensures { result ≡ ltb most (100 * a) }
 {
-    if MOST_HUNDREDFOLD < a {
-        true
-    } else {
-        most < 100 * a
-    }
+    u128::from(most) < 100 * u128::from(a)
 }

@@ -1,13 +1,13 @@
--- How a caller knows that two words hold a result, so that its promise is the exact value: the bounds of the numbers that it is made of are
+-- How a caller knows that 128 bits hold a result, so that its promise is the exact value: the bounds of the numbers that it is made of are
 -- multiplied out by antt, as `ring` of `whole` multiplies out an identity. `stays n (λ x y .. . result) x bound within y bound within ..
--- tt` says `held result ≡ result` of the n numbers named after it, each with its bound and a proof of it. A result that could pass two
--- words is refused at `tt`.
+-- tt` says `held result ≡ result` of the n numbers named after it, each with its bound and a proof of it. A result that could pass 128
+-- bits is refused at `tt`.
 use Rattle.std.specs.Prelude.{◌≡◌, List, [], ◌∷◌, ℕ, zero, suc, ◌+◌, ◌*◌, ◌^◌, ◌≤◌, ◌<◌, T, ltb, ℤ, pos, negsuc, neg_ℤ, nat_abs, ◌-ℤ◌, ◌*ℤ◌}
 use Rattle.std.specs.Prelude.{get_or}
 use Rattle.vocabulary.specs.{ap, le_refl, le_trans, add-le-add, mul-le-mul, lt_of_le_of_lt, ltb→lt}
 use Rattle.whole.proofs.Magnitudes.{nat_abs_neg, nat_abs_add, nat_abs_mul}
 use Rattle.whole.proofs.Ring.{Expression, variable, constant, ⊝◌, ◌⊕◌, ◌⊖◌, ◌⊗◌, meaning}
-use Rattle.wide.specs.{Wide.limit, Wide.size_of, Wide.value_of, Wide.held, declared.Wide.Wide}
+use Rattle.wide.specs.{Wide.limit, Wide.value_of, Wide.held, declared.Wide.Wide}
 use Rattle.wide.proofs.{Signs.signed_size, Sizes.held_size_lem}
 
 -- ---- What is held, and what a wide number's size is
@@ -17,9 +17,9 @@ unfolding held limit
 held_within (pos n) h = ap pos (held_size_lem n h)
 held_within (negsuc n) h = ap (λ (m : ℕ). neg_ℤ (pos m)) (held_size_lem (suc n) h)
 
-pub value_size : (a : Wide) → nat_abs (value_of a) ≡ size_of a.size
+pub value_size : (a : Wide) → nat_abs (value_of a) ≡ a.size
 unfolding value_of
-value_size a = signed_size a.negative (size_of a.size)
+value_size a = signed_size a.negative a.size
 
 -- ---- How far a result reaches from 0 where its numbers reach no farther than their bounds
 

@@ -1,8 +1,11 @@
 -- Laws of narrowing to one word with a sign. A caller whose number has a magnitude below 2 ^ 63 gets the number.
-use Rattle.std.specs.Prelude.{◌≡◌, refl, true, false, ℕ, zero, suc, ◌-◌, ◌^◌, ◌≤◌, ◌<◌, ℤ, pos, negsuc, neg_ℤ, nat_abs}
-use Rattle.vocabulary.specs.{ap, ◌∙◌, lt_of_le_of_lt, le_refl, le-suc, arith, lt-ltb, le-ltb, mag}
-use Rattle.wide.specs.{Wide.radix, Wide.size_of, Wide.value_of, Wide.narrowed, declared.Size.Size, declared.Wide.Wide}
-use Rattle.wide.proofs.{Signs.signed_size, Signs.signed_above, Signs.signed_below, Sizes.low_word}
+use Rattle.std.specs.Prelude.{◌≡◌, refl, Bool, true, false, ℕ, suc, ◌^◌, ◌≤◌, ◌<◌, ltb, ℤ, pos, negsuc, neg_ℤ, nat_abs, ◌+ℤ◌, ◌-ℤ◌}
+use Rattle.std.specs.Prelude.{Option, None, Some, unwrap_or}
+use Rattle.std.specs.Option.{SomeIff}
+use Rattle.vocabulary.specs.{sym, ap, subst, ◌∙◌, lt_of_le_of_lt, le_refl, le-suc, arith, lt-ltb, le-ltb, ltb-true, ltb-false, mag, +ℤ_idl, SFits, w64}
+use Rattle.wide.specs.Wide.{signed, value_of, narrowed}
+use Rattle.wide.specs.declared.Wide.{Wide}
+use Rattle.wide.proofs.Signs.{signed_size, signed_above, signed_below}
 
 narrowed_fits : (z : ℤ) → mag z < 2 ^ 63 → narrowed z ≡ z
 unfolding narrowed
@@ -23,36 +26,36 @@ mag_near (negsuc n) = le_refl (suc n)
 pub narrowed_within : (z : ℤ) → nat_abs z < 2 ^ 63 → narrowed z ≡ z
 narrowed_within z h = narrowed_fits z (lt_of_le_of_lt (mag_within z) h)
 
--- from 0 up, and from −1 down
-pub above_within : (n : ℕ) → n < 2 ^ 63 → narrowed (pos n) ≡ pos n
-above_within n h = narrowed_fits (pos n) h
+-- what a number that is answered with None past one word gives, with 0 for None
+narrowed_by : (z : ℤ) (r : Option ℤ) → SomeIff r (SFits w64 z) z → narrowed z ≡ unwrap_or r (pos 0)
+narrowed_by z None h = go (ltb (mag z) (2 ^ 63)) refl
+  where
+    go : (t : Bool) → ltb (mag z) (2 ^ 63) ≡ t → narrowed z ≡ pos 0
+    go true e = absurd (h (record { sfits = ltb-true (mag z) (2 ^ 63) e }))
+    go false e = narrowed_none z (ltb-false (mag z) (2 ^ 63) e)
+narrowed_by z (Some k) h = narrowed_fits z h.0.sfits ∙ sym h.1
 
-pub below_within : (n : ℕ) → (n ≡ 0 → ⊥) → n - 1 < 2 ^ 63 → narrowed (neg_ℤ (pos n)) ≡ negsuc (n - 1)
-below_within zero some h = absurd (some refl)
-below_within (suc n) some h =
-    let less : n ≡ suc n - 1 = omega arith in
-    narrowed_fits (negsuc n) (omega arith) ∙ ap negsuc less
+pub above_by : (s : Bool) (n : ℕ) (r : Option ℤ) → s ≡ false → SomeIff r (SFits w64 (pos 0 +ℤ pos n)) (pos 0 +ℤ pos n)
+    → narrowed (signed s n) ≡ unwrap_or r (pos 0)
+above_by s n r e h =
+    ap narrowed (ap (λ (t : Bool). signed t n) e ∙ signed_above n)
+    ∙ narrowed_by (pos n) r (subst (λ (z : ℤ). SomeIff r (SFits w64 z) z) (+ℤ_idl (pos n)) h)
 
-pub below_none : (n : ℕ) → 2 ^ 63 ≤ n - 1 → narrowed (neg_ℤ (pos n)) ≡ pos 0
-below_none zero h = narrowed_fits (pos 0) (omega arith)
-below_none (suc n) h = narrowed_none (negsuc n) (omega arith)
+pub below_by : (s : Bool) (n : ℕ) (r : Option ℤ) → s ≡ true → SomeIff r (SFits w64 (pos 0 -ℤ pos n)) (pos 0 -ℤ pos n)
+    → narrowed (signed s n) ≡ unwrap_or r (pos 0)
+below_by s n r e h =
+    ap narrowed (ap (λ (t : Bool). signed t n) e ∙ signed_below n)
+    ∙ narrowed_by (neg_ℤ (pos n)) r (subst (λ (z : ℤ). SomeIff r (SFits w64 z) z) (+ℤ_idl (neg_ℤ (pos n))) h)
 
--- a size with a high word
-pub narrowed_high : (z : ℤ) (s : Size) → nat_abs z ≡ size_of s → (s.high ≡ 0 → ⊥) → narrowed z ≡ pos 0
-unfolding size_of radix
-narrowed_high z s e some =
-    let high : 0 < s.high = omega (arith, some) in
-    narrowed_none z (omega (arith, mag_near z))
+-- a size that passes one word
+pub narrowed_wide : (s : Bool) (n : ℕ) → (n < 2 ^ 64 → ⊥) → narrowed (signed s n) ≡ pos 0
+narrowed_wide s n h = narrowed_none (signed s n) (omega (arith, mag_near (signed s n), signed_size s n))
 
--- a number by its size: one without a high word is its low word with the sign, and one with a high word passes one word
-pub narrowed_above : (a : Wide) → a.size.high ≡ 0 → a.negative ≡ false → narrowed (value_of a) ≡ narrowed (pos a.size.low)
+-- a number by its size and sign
+pub narrowed_above : (a : Wide) → a.negative ≡ false → narrowed (value_of a) ≡ narrowed (pos a.size)
 unfolding value_of
-narrowed_above a low above = rw (above, low_word a.size low) (ap narrowed (signed_above a.size.low))
+narrowed_above a above = rw above (ap narrowed (signed_above a.size))
 
-pub narrowed_below : (a : Wide) → a.size.high ≡ 0 → a.negative ≡ true → narrowed (value_of a) ≡ narrowed (neg_ℤ (pos a.size.low))
+pub narrowed_below : (a : Wide) → a.negative ≡ true → narrowed (value_of a) ≡ narrowed (neg_ℤ (pos a.size))
 unfolding value_of
-narrowed_below a low below = rw (below, low_word a.size low) (ap narrowed (signed_below a.size.low))
-
-pub narrowed_wide : (a : Wide) → (a.size.high ≡ 0 → ⊥) → narrowed (value_of a) ≡ pos 0
-unfolding value_of
-narrowed_wide a some = narrowed_high (value_of a) a.size (signed_size a.negative (size_of a.size)) some
+narrowed_below a below = rw below (ap narrowed (signed_below a.size))

@@ -1,7 +1,7 @@
 -- Laws of signed sizes: what their sums, products, order, rounded quotients and what is held of them are, by the two signs.
 use Rattle.std.specs.Prelude.{◌≡◌, refl, Bool, true, false, not, ℕ, zero, suc, ◌+◌, ◌-◌, ◌*◌, ◌≤◌, ◌<◌, eqb, ltb, ℤ, pos, negsuc, neg_ℤ}
-use Rattle.std.specs.Prelude.{nat_abs, ◌+ℤ◌, ◌-ℤ◌, ◌*ℤ◌}
-use Rattle.vocabulary.specs.{sym, ap, ◌∙◌, bool-beq, sub-add_cancel, sub-le, lt_of_le_of_lt, arith, lt-ltb, le-ltb, leb-suc-suc, lit<}
+use Rattle.std.specs.Prelude.{◌^◌, nat_abs, ◌+ℤ◌, ◌-ℤ◌, ◌*ℤ◌}
+use Rattle.vocabulary.specs.{sym, ap, ap₂, ◌∙◌, +ℤ_comm, bool-beq, sub-add_cancel, sub-le, lt_of_le_of_lt, arith, lt-ltb, le-ltb, leb-suc-suc, lit<}
 use Rattle.vocabulary.specs.{eqb-suc-zero, neg_ℤ-neg_ℤ, neg_ℤ-+ℤ, +ℤ-neg_ℤ_cancel, *ℤ_comm, lt_z}
 use Rattle.whole.specs.Quotient.{nearest, rounded_quotient}
 use Rattle.whole.proofs.{Integers.negℤ-*ℤ, Magnitudes.nat_abs_neg, Quotient.rounded_odd}
@@ -59,6 +59,14 @@ signed_product true true m n =
     (negℤ-*ℤ (pos m) (neg_ℤ (pos n)) ∙ ap neg_ℤ (*ℤ_comm (pos m) (neg_ℤ (pos n)) ∙ negℤ-*ℤ (pos n) (pos m) ∙ ap neg_ℤ (*ℤ_comm (pos n) (pos m)))
     ∙ neg_ℤ-neg_ℤ (pos (m * n)))
 
+pub signed_product_own : (a b : ℤ) → signed (not (bool-beq (lt_z a (pos 0)) (lt_z b (pos 0)))) (nat_abs a * nat_abs b) ≡ a *ℤ b
+signed_product_own a b = signed_product (lt_z a (pos 0)) (lt_z b (pos 0)) (nat_abs a) (nat_abs b) ∙ ap₂ ◌*ℤ◌ (signed_own a) (signed_own b)
+
+pub held_product : (s : Bool) (n : ℕ) (k : ℤ) → held (signed s n *ℤ k) ≡ signed (not (bool-beq s (lt_z k (pos 0)))) (held_size (n * nat_abs k))
+held_product s n k =
+    ap (λ (z : ℤ). held (signed s n *ℤ z)) (sym (signed_own k)) ∙ ap held (sym (signed_product s (lt_z k (pos 0)) n (nat_abs k)))
+    ∙ held_signed (not (bool-beq s (lt_z k (pos 0)))) (n * nat_abs k)
+
 -- ---- Sums
 
 pub signed_sum_lem : (s : Bool) (m n : ℕ) → signed s (m + n) ≡ signed s m +ℤ signed s n
@@ -87,66 +95,81 @@ same_sign false true e = sym e
 same_sign true false e = e
 same_sign true true e = refl
 
-pub turned : (s t : Bool) → bool-beq s t ≡ false → bool-beq t s ≡ false
-turned false false e = e
-turned false true e = refl
-turned true false e = refl
-turned true true e = e
-
 -- ---- Order
 
-pub less_plain : (m n : ℕ) → ltb m n ≡ lt_z (signed false m) (signed false n)
+pub less_plain : (s t : Bool) (m n : ℕ) → s ≡ false → t ≡ false → lt_z (signed s m) (signed t n) ≡ ltb m n
 unfolding signed
-less_plain m n = refl
+less_plain s t m n d e = rw (d, e) refl
 
-pub less_turned : (m n : ℕ) → ltb n m ≡ lt_z (signed true m) (signed true n)
+below : (m n : ℕ) → lt_z (signed true m) (signed true n) ≡ ltb n m
 unfolding signed
-less_turned zero zero = refl
-less_turned zero (suc n) = le-ltb (suc n) 0 (omega arith)
-less_turned (suc m) zero = lt-ltb 0 (suc m) (omega arith)
-less_turned (suc m) (suc n) = leb-suc-suc (suc n) m
+below zero zero = refl
+below zero (suc n) = sym (le-ltb (suc n) 0 (omega arith))
+below (suc m) zero = sym (lt-ltb 0 (suc m) (omega arith))
+below (suc m) (suc n) = sym (leb-suc-suc (suc n) m)
+
+pub less_turned : (s t : Bool) (m n : ℕ) → s ≡ true → t ≡ true → lt_z (signed s m) (signed t n) ≡ ltb n m
+less_turned s t m n d e = rw (d, e) (below m n)
 
 -- below zero and not: less, unless both are 0
-pub less_none : (n : ℕ) → not (eqb n 0) ≡ lt_z (signed true 0) (signed false n)
+pub less_none : (s t : Bool) (m n : ℕ) → s ≡ true → t ≡ false → m ≡ 0 → lt_z (signed s m) (signed t n) ≡ not (eqb n 0)
 unfolding signed
-less_none zero = refl
-less_none (suc n) = ap not (eqb-suc-zero n) ∙ sym (lt-ltb 0 (suc n) (omega arith))
+less_none s t m n d e f = rw (d, e, f) (none n)
+  where
+    none : (n : ℕ) → lt_z (signed true 0) (signed false n) ≡ not (eqb n 0)
+    none zero = refl
+    none (suc n) = lt-ltb 0 (suc n) (omega arith) ∙ sym (ap not (eqb-suc-zero n))
 
-pub less_across : (m n : ℕ) → (m ≡ 0 → ⊥) → true ≡ lt_z (signed true m) (signed false n)
+pub less_across : (s t : Bool) (m n : ℕ) → s ≡ true → t ≡ false → (m ≡ 0 → ⊥) → lt_z (signed s m) (signed t n) ≡ true
 unfolding signed
-less_across zero n some = absurd (some refl)
-less_across (suc m) n some = refl
+less_across s t m n d e some = rw (d, e) (across m some)
+  where
+    across : (m : ℕ) → (m ≡ 0 → ⊥) → lt_z (signed true m) (signed false n) ≡ true
+    across zero some = absurd (some refl)
+    across (suc m) some = refl
 
-pub less_never : (m n : ℕ) → false ≡ lt_z (signed false m) (signed true n)
+pub less_never : (s t : Bool) (m n : ℕ) → s ≡ false → t ≡ true → lt_z (signed s m) (signed t n) ≡ false
 unfolding signed
-less_never m zero = sym (le-ltb m 0 (omega arith))
-less_never m (suc n) = refl
+less_never s t m n d e = rw (d, e) (never n)
+  where
+    never : (n : ℕ) → lt_z (signed false m) (signed true n) ≡ false
+    never zero = le-ltb m 0 (omega arith)
+    never (suc n) = refl
+
+pub negative_marked : (s : Bool) (n : ℕ) → s ≡ true → lt_z (signed s n) (pos 0) ≡ not (eqb n 0)
+unfolding signed
+negative_marked s n e = rw e (marked n)
+  where
+    marked : (n : ℕ) → lt_z (signed true n) (pos 0) ≡ not (eqb n 0)
+    marked zero = refl
+    marked (suc n) = sym (ap not (eqb-suc-zero n))
+
+pub negative_unmarked : (s : Bool) (n : ℕ) → s ≡ false → lt_z (signed s n) (pos 0) ≡ false
+unfolding signed
+negative_unmarked s n e = rw e (unmarked n)
+  where
+    unmarked : (n : ℕ) → lt_z (signed false n) (pos 0) ≡ false
+    unmarked n = le-ltb n 0 (omega arith)
 
 -- ---- The rounded quotient
 
-pub signed_rounded : (s : Bool) (n d : ℕ) → signed s (nearest n d) ≡ rounded_quotient (signed s n) d
+pub signed_rounded : (s : Bool) (n d : ℕ) → rounded_quotient (signed s n) d ≡ signed s (nearest n d)
 unfolding signed rounded_quotient
 signed_rounded false n d = refl
-signed_rounded true n d = sym (rounded_odd (pos n) d)
-
-pub marked_negative : (n : ℕ) → not (eqb n 0) ≡ lt_z (signed true n) (pos 0)
-unfolding signed
-marked_negative zero = refl
-marked_negative (suc n) = ap not (eqb-suc-zero n)
-
-pub unmarked_negative : (n : ℕ) → false ≡ lt_z (signed false n) (pos 0)
-unfolding signed
-unmarked_negative n = sym (le-ltb n 0 (omega arith))
+signed_rounded true n d = rounded_odd (pos n) d
 
 -- ---- What is held of a sum
 
-pub sum_along : (s t : Bool) (m n : ℕ) → bool-beq s t ≡ true → signed s (held_size (m + n)) ≡ held (signed s m +ℤ signed t n)
+pub sum_along : (s t : Bool) (m n : ℕ) → bool-beq s t ≡ true → held (signed s m +ℤ signed t n) ≡ signed s (held_size (m + n))
 sum_along s t m n e =
-    sym (ap held (ap (λ (u : Bool). signed s m +ℤ signed u n) (same_sign s t e) ∙ sym (signed_sum_lem s m n)) ∙ held_signed s (m + n))
+    ap held (ap (λ (u : Bool). signed s m +ℤ signed u n) (same_sign s t e) ∙ sym (signed_sum_lem s m n)) ∙ held_signed s (m + n)
 
 -- what is left of two signs is held, as the larger size is
-pub sum_across : (s t : Bool) (m n : ℕ) → bool-beq s t ≡ false → n ≤ m → m < limit → signed s (m - n) ≡ held (signed s m +ℤ signed t n)
-sum_across s t m n e h within =
-    sym
-    (ap held (ap (λ (u : Bool). signed s m +ℤ signed u n) (other_sign s t e) ∙ sym (signed_left s m n h)) ∙ held_signed s (m - n)
-    ∙ ap (signed s) (held_size_lem (m - n) (lt_of_le_of_lt (sub-le m n) within)))
+pub sum_across : (s : Bool) (m n : ℕ) → n ≤ m → m < 2 ^ 128 → held (signed s m +ℤ signed (not s) n) ≡ signed s (m - n)
+unfolding limit
+sum_across s m n h within =
+    ap held (sym (signed_left s m n h)) ∙ held_signed s (m - n)
+    ∙ ap (signed s) (held_size_lem (m - n) (lt_of_le_of_lt (sub-le m n) within))
+
+pub sum_across_turned : (s : Bool) (m n : ℕ) → n ≤ m → m < 2 ^ 128 → held (signed (not s) n +ℤ signed s m) ≡ signed s (m - n)
+sum_across_turned s m n h within = ap held (+ℤ_comm (signed (not s) n) (signed s m)) ∙ sum_across s m n h within

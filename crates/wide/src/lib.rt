@@ -1,102 +1,103 @@
-// Whole numbers wider than 64 bits, as a sign and a size of two words. Every function answers every input, and its promise speaks of the
-// numbers that the words are worth; where a result has no room in two words, it is 0, as `held` of specs/Wide.antt says.
+// Whole numbers wider than 64 bits, as a sign and a size of 128 bits. Every function answers every input, and its promise speaks of the
+// numbers that the pairs are worth; where the size of a result has no room in 128 bits, it is 0, as `held` of specs/Wide.antt says.
 #![tactic(auto)]
 
-ghost use Rattle.std.specs.Prelude.{◌≡◌, eqb, pos, neg_ℤ, nat_abs, ◌+ℤ◌, ◌-ℤ◌, ◌*ℤ◌};
+ghost use Rattle.std.specs.Prelude.{◌≡◌, ◌≤◌, ◌+◌, ◌*◌, not, eqb, pos, neg_ℤ, nat_abs, ◌+ℤ◌, ◌-ℤ◌, ◌*ℤ◌};
 ghost use Rattle.std.specs.Int.Signed.{lt_z};
 ghost use Rattle.whole.specs.Quotient.{rounded_quotient};
-ghost use Rattle.wide.specs.Wide.{size_of, value_of, held, narrowed};
+ghost use Rattle.whole.specs.Quotient.{nearest as Quotient·nearest};
+ghost use Rattle.wide.specs.Wide.{signed, value_of, held, held_size, narrowed};
 
-mod division;
-mod words;
-
-use division::nearest;
-use words::{is_nothing, size_scaled, sizes_difference, sizes_less, sizes_sum, words_product};
-
-// What a word with a sign counts up to, from 0 or from −1 down.
-const SIGNED_REACH: u64 = 9223372036854775808;
-
-// A number from 0 up, high·2^64 + low.
-#[derive(Clone, Copy)]
-pub struct Size {
-    pub high: u64,
-    pub low: u64,
-}
-
-// A number below zero, or not, of this size. Of the two ways to write 0 neither is wrong.
+// A number below zero, or not, of this size. Of the two ways to write 0 neither is wrong. A signed number of 128 bits would not do: `held`
+// of specs/Wide.antt has room for sizes up to 2^128.
 #[derive(Clone, Copy)]
 pub struct Wide {
     pub negative: bool,
-    pub size: Size,
+    pub size: u128,
 }
 
 // A number of 64 bits.
+#[tactic(auto, using(crate::proofs::Signs::signed_own), unfolding(crate::specs::Wide::value_of))]
 pub fn wide_of(a: i64) -> Wide
     ensures { value_of result ≡ a }
 {
-    let size = Size {
-        high: 0,
-        low: whole::magnitude(a),
-    };
     Wide {
         negative: a < 0,
-        size,
+        size: u128::from(a.unsigned_abs()),
     }
 }
 
-// The product of two numbers of 64 bits, which two words always hold.
+// The product of two numbers of 64 bits, which 128 bits always hold.
+#[tactic(auto, using(crate::proofs::Signs::signed_product_own), unfolding(crate::specs::Wide::value_of))]
 pub fn product(a: i64, b: i64) -> Wide
     ensures { value_of result ≡ a *ℤ b }
 {
-    let size = words_product(whole::magnitude(a), whole::magnitude(b));
     Wide {
         negative: (a < 0) != (b < 0),
-        size,
+        size: u128::from(a.unsigned_abs()) * u128::from(b.unsigned_abs()),
     }
 }
 
+#[tactic(auto, using(crate::proofs::Signs::held_product), unfolding(crate::specs::Wide::value_of))]
 pub fn scaled(a: Wide, factor: i64) -> Wide
     ensures { value_of result ≡ held (value_of a *ℤ factor) }
 {
-    let size = size_scaled(a.size, whole::magnitude(factor));
     Wide {
         negative: a.negative != (factor < 0),
-        size,
+        size: size_scaled(a.size, factor.unsigned_abs()),
     }
 }
 
+#[tactic(auto, using(crate::proofs::Sizes::held_by))]
+fn size_scaled(size: u128, factor: u64) -> u128
+    ensures { result ≡ held_size (size * factor) }
+{
+    size.checked_mul(u128::from(factor)).unwrap_or(0)
+}
+
+#[tactic(auto, using(crate::proofs::Signs::signed_not), unfolding(crate::specs::Wide::value_of))]
 pub fn negated(a: Wide) -> Wide
     ensures { value_of result ≡ neg_ℤ (value_of a) }
 {
-    let size = a.size;
     Wide {
         negative: !a.negative,
-        size,
+        size: a.size,
     }
 }
 
+#[tactic(auto, using(crate::proofs::Signs::sum_along, crate::proofs::Signs::other_sign), unfolding(crate::specs::Wide::value_of))]
 pub fn sum(a: Wide, b: Wide) -> Wide
     ensures { value_of result ≡ held (value_of a +ℤ value_of b) }
 {
     if a.negative == b.negative {
-        let size = sizes_sum(a.size, b.size);
-        return Wide {
-            negative: a.negative,
-            size,
-        };
-    }
-    if sizes_less(a.size, b.size) {
-        let size = sizes_difference(b.size, a.size);
         Wide {
-            negative: b.negative,
-            size,
+            negative: a.negative,
+            size: sizes_sum(a.size, b.size),
         }
+    } else if a.size < b.size {
+        left(b.negative, b.size, a.size)
     } else {
-        let size = sizes_difference(a.size, b.size);
-        Wide {
-            negative: a.negative,
-            size,
-        }
+        left(a.negative, a.size, b.size)
+    }
+}
+
+#[tactic(auto, using(crate::proofs::Sizes::held_by))]
+fn sizes_sum(a: u128, b: u128) -> u128
+    ensures { result ≡ held_size (a + b) }
+{
+    a.checked_add(b).unwrap_or(0)
+}
+
+// Of two signs the larger size keeps its own, and loses the other.
+#[tactic(auto, using(crate::proofs::Signs::sum_across, crate::proofs::Signs::sum_across_turned), unfolding(crate::specs::Wide::value_of))]
+fn left(negative: bool, larger: u128, smaller: u128) -> Wide
+    requires { smaller ≤ larger }
+    ensures value { value_of result ≡ held (signed negative larger +ℤ signed (not negative) smaller) }
+    ensures turned { value_of result ≡ held (signed (not negative) smaller +ℤ signed negative larger) }
+{
+    Wide {
+        negative,
+        size: larger - smaller,
     }
 }
 
@@ -106,86 +107,81 @@ pub fn difference(a: Wide, b: Wide) -> Wide
     sum(a, negated(b))
 }
 
+#[tactic(auto, using(crate::proofs::Signs::signed_size), unfolding(crate::specs::Wide::value_of))]
 pub fn is_zero(a: Wide) -> bool
     ensures { result ≡ eqb (nat_abs (value_of a)) 0 }
 {
-    is_nothing(a.size)
+    a.size == 0
 }
 
 // Below zero: a 0 that is marked so is not.
+#[tactic(auto, using(crate::proofs::Signs::negative_marked, crate::proofs::Signs::negative_unmarked), unfolding(crate::specs::Wide::value_of))]
 pub fn is_negative(a: Wide) -> bool
     ensures { result ≡ lt_z (value_of a) (pos 0) }
 {
-    if a.negative {
-        !is_nothing(a.size)
-    } else {
-        false
-    }
+    a.negative && a.size != 0
 }
 
+#[tactic(auto, using(crate::proofs::Signs::less_plain, crate::proofs::Signs::less_turned, crate::proofs::Signs::less_none, crate::proofs::Signs::less_across, crate::proofs::Signs::less_never), unfolding(crate::specs::Wide::value_of))]
 pub fn less(a: Wide, b: Wide) -> bool
     ensures { result ≡ lt_z (value_of a) (value_of b) }
 {
-    if a.negative {
-        if b.negative {
-            sizes_less(b.size, a.size)
-        } else if is_nothing(a.size) {
-            !is_nothing(b.size)
-        } else {
-            true
-        }
-    } else if b.negative {
-        false
-    } else {
-        sizes_less(a.size, b.size)
+    match (a.negative, b.negative) {
+        (false, false) => a.size < b.size,
+        (false, true) => false,
+        (true, false) => a.size != 0 || b.size != 0,
+        (true, true) => b.size < a.size,
     }
 }
 
 // The whole number nearest to numerator / denominator, halves to the even one; 0 where the denominator is 0.
-pub fn rounded_quotient(numerator: Wide, denominator: Size) -> Wide
-    ensures { value_of result ≡ rounded_quotient (value_of numerator) (size_of denominator) }
+#[tactic(auto, using(crate::proofs::Signs::signed_rounded), unfolding(crate::specs::Wide::value_of))]
+pub fn rounded_quotient(numerator: Wide, denominator: u128) -> Wide
+    ensures { value_of result ≡ rounded_quotient (value_of numerator) denominator }
 {
-    let size = nearest(numerator.size, denominator);
     Wide {
         negative: numerator.negative,
-        size,
+        size: nearest(numerator.size, denominator),
+    }
+}
+
+// Beside the `nearest` of `whole`, since a trait with the operations of both widths is longer than this; 64 bits there are for speed. Twice
+// the remainder may pass 128 bits, so it is compared with what it lacks of d; after an odd quotient a half counts as more.
+#[tactic(auto, using(whole::proofs::Quotient::nearest_none, whole::proofs::Quotient::nearest_down, whole::proofs::Quotient::nearest_up))]
+fn nearest(n: u128, d: u128) -> u128
+    ensures { result ≡ Quotient·nearest n d }
+{
+    if d == 0 {
+        return 0;
+    }
+    let quotient = n / d;
+    let remainder = n % d;
+    if d - remainder < remainder + quotient % 2 {
+        quotient + 1
+    } else {
+        quotient
     }
 }
 
 // The number as one word with a sign; 0 where that cannot hold it.
-#[tactic(auto, using(crate::proofs::Narrowing::narrowed_above, crate::proofs::Narrowing::narrowed_below, crate::proofs::Narrowing::narrowed_wide))]
+#[tactic(auto, using(crate::proofs::Narrowing::narrowed_wide), unfolding(crate::specs::Wide::value_of))]
 pub fn narrow(a: Wide) -> i64
     ensures { result ≡ narrowed (value_of a) }
 {
-    let size = a.size;
-    if size.high == 0 {
-        if a.negative {
-            narrow_below(size.low)
-        } else {
-            narrow_above(size.low)
-        }
-    } else {
-        0
+    match u64::try_from(a.size) {
+        Ok(size) => narrow_word(a.negative, size),
+        Err(_) => 0,
     }
 }
 
-fn narrow_above(size: u64) -> i64
-    ensures { result ≡ narrowed (pos size) }
+// As `signed_size` of `wide_words` does with 128 bits: a trait for the two methods of the language would be longer than both.
+#[tactic(auto, using(crate::proofs::Narrowing::above_by, crate::proofs::Narrowing::below_by))]
+fn narrow_word(negative: bool, size: u64) -> i64
+    ensures { result ≡ narrowed (signed negative size) }
 {
-    if size < SIGNED_REACH { size as i64 } else { 0 }
-}
-
-// The largest size has no word with a sign to be turned from, so one less is turned, as −1 − (size − 1).
-fn narrow_below(size: u64) -> i64
-    ensures { result ≡ narrowed (neg_ℤ (pos size)) }
-{
-    if size == 0 {
-        return 0;
-    }
-    let less = size - 1;
-    if less < SIGNED_REACH {
-        -1 - less as i64
+    if negative {
+        0i64.checked_sub_unsigned(size).unwrap_or(0)
     } else {
-        0
+        0i64.checked_add_unsigned(size).unwrap_or(0)
     }
 }

@@ -1,5 +1,2 @@
--- The digits of a size, taken off from the last one backwards: `Decades` on tens of two words, `Decimals` on digits, `Spelling` on the
--- loop.
-mod Decades
+-- The decimal text of a wide number, by its sign and size.
 mod Decimals
-mod Spelling

@@ -1,11 +1,16 @@
 -- Two words and the number that they are worth: the words of a number, joined, are the number, and two words are those of what they
 -- join to. Assumes nothing.
-use Rattle.std.specs.Prelude.{◌≡◌, refl, ℕ, suc, ◌+◌, ◌-◌, ◌*◌, ◌/◌, ◌%◌, ◌^◌, ◌<◌, ℤ, pos, negsuc, neg_ℤ, ◌+ℤ◌}
-use Rattle.vocabulary.specs.{sym, ap, ◌∙◌, div-add-mod', mod-lt, arith, digits_div, digits_mod, lit<}
+use Rattle.std.specs.Prelude.{◌≡◌, refl, ℕ, suc, ◌+◌, ◌-◌, ◌*◌, ◌/◌, ◌%◌, ◌^◌, ◌<◌, ℤ, pos, negsuc, neg_ℤ, ◌+ℤ◌, nat_abs}
+use Rattle.std.specs.Int.{int_div_euclid, int_rem_euclid}
+use Rattle.vocabulary.specs.{sym, ap, ◌∙◌, div-add-mod', mod-lt, arith, digits_div, digits_mod, lit<, lt_z}
 use Rattle.whole.proofs.Ring.{ring, ◌≐◌, ◌⊕◌, ⊝◌}
-use Rattle.wide.specs.{Wide.radix, Wide.size_of, declared.Size.Size}
-use Rattle.wide.proofs.Sizes.{word, radix_is}
+use Rattle.wide.specs.{Wide.radix, Wide.value_of, declared.Wide.Wide}
+use Rattle.wide.proofs.Signs.{signed_own}
 use Rattle.wide_words.specs.Words.{joined, high_word, low_word}
+
+word : (n : ℕ) → n < 2 ^ 64 → n < radix
+unfolding radix
+word n h = h
 
 radix_some : 0 < radix
 unfolding radix
@@ -17,8 +22,8 @@ taken_back n k = ring 2 (λ n k. ⊝ (n ⊕ k) ⊕ k ≐ ⊝ n) tt (pos n) (pos 
 
 -- ---- From 0 up, and below zero
 
-pub joined_above : (high low : ℕ) → pos (size_of (record { high = high; low = low })) ≡ joined (pos high) low
-unfolding joined size_of
+pub joined_above : (high low : ℕ) → pos (high * radix + low) ≡ joined (pos high) low
+unfolding joined
 joined_above high low = refl
 
 -- a size that lacks the low word of the high word's own size, moved up by a word
@@ -55,42 +60,19 @@ low_joined (negsuc a) low h =
     let within : low < radix = word low h in
     ap low_word (joined_below a low within) ∙ ap (λ (n : ℕ). radix - 1 - n) (digits_mod a (rest_within low within)) ∙ omega arith
 
--- ---- The words of a size
+-- ---- As the machine finds them
 
-module _ (s : Size) (h : s.low < 2 ^ 64) where
-  pub size_high : size_of s / radix ≡ s.high
-  unfolding size_of
-  size_high = digits_div s.high (word s.low h)
+pub high_word_is : (z : ℤ) → int_div_euclid z (pos (2 ^ 64)) ≡ high_word z
+unfolding high_word radix
+high_word_is (pos n) = refl
+high_word_is (negsuc n) = refl
 
-  pub size_low : size_of s % radix ≡ s.low
-  unfolding size_of
-  size_low = digits_mod s.high (word s.low h)
+pub low_word_is : (z : ℤ) → int_rem_euclid z (pos (2 ^ 64)) ≡ pos (low_word z)
+unfolding low_word radix
+low_word_is (pos n) = refl
+low_word_is (negsuc n) = refl
 
--- ---- One less than a size
-
-pub high_some : (s : Size) → 0 < size_of s → s.low ≡ 0 → 0 < s.high
-unfolding size_of radix
-high_some s some e = omega arith
-
-pub less_borrowed : (s : Size) → 0 < size_of s → s.low ≡ 0 → size_of (record { high = s.high - 1; low = 2 ^ 64 - 1 }) ≡ size_of s - 1
-unfolding size_of
-less_borrowed s some e =
-    let high : s.high - 1 + 1 ≡ s.high = omega (arith, high_some s some e) in
-    omega (arith, ap (λ (k : ℕ). k * radix) high, radix_is)
-
-pub less_plain : (s : Size) → (s.low ≡ 0 → ⊥) → size_of (record { high = s.high; low = s.low - 1 }) ≡ size_of s - 1
-unfolding size_of
-less_plain s some = omega (arith, some)
-
--- ---- A high word moved up, less a low word
-
-pub raised_plain : (high low : ℕ) → low ≡ 0 → size_of (record { high = high; low = 0 }) + low ≡ high * radix
-unfolding size_of
-raised_plain high low e = omega arith
-
-pub raised_borrowed : (high low left : ℕ) → 0 < high → left + low ≡ 2 ^ 64
-    → size_of (record { high = high - 1; low = left }) + low ≡ high * radix
-unfolding size_of
-raised_borrowed high low left some e =
-    let back : high - 1 + 1 ≡ high = omega arith in
-    omega (arith, ap (λ (k : ℕ). k * radix) back, radix_is)
+-- a number by its own sign and size
+pub value_own : (z : ℤ) → value_of (record { negative = lt_z z (pos 0); size = nat_abs z }) ≡ z
+unfolding value_of
+value_own z = signed_own z

@@ -13,6 +13,7 @@ use pass_first::first_pass;
 use pass_rules::{FirstInput, FirstRoom, SecondInput, SecondRoom};
 use pass_second::second_pass;
 use refusals::Refusal;
+use whole::copy_over;
 
 // The high word of S or the determinant, and the low one.
 const DIVISOR_LENGTH: usize = 2;
@@ -87,7 +88,7 @@ fn store_misclosures(misclosure: i64, side_misclosure: i64, lent: &mut [i64])
     requires { length lent.old ≤ 2 }
     ensures { lent.new ≡ take (length lent.old) (misclosure ∷ side_misclosure ∷ []) }
 {
-    lent.copy_from_slice(&[misclosure, side_misclosure][..lent.len()]);
+    copy_over(&[misclosure, side_misclosure][..lent.len()], lent);
 }
 
 pub fn bienguloc_second_pass(

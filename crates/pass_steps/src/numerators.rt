@@ -75,7 +75,7 @@ fn rows_applied(rows: Rows, angles: usize, conditions: usize, w: &[i32], numerat
     ensures { numerators.new ≡ listed angles (applied conditions (table rows) (vector w.now)) }
 {
     let mut own = [0i32; MOST_CONDITIONS];
-    own[..conditions].copy_from_slice(&w[..conditions]);
+    whole::copy_over(&w[..conditions], &mut own[..conditions]);
     let taken = &own[..conditions];
     nine_applied(rows, 0, angles, conditions, taken, numerators);
     nine_applied(rows, 9, angles, conditions, taken, numerators);

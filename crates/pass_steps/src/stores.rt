@@ -9,9 +9,7 @@ use refusals::Refusal;
 pub fn store<T: Copy>(values: &[T], lent: &mut [T])
     ensures { lent.new ≡ same_length values.now lent.old }
 {
-    if values.len() == lent.len() {
-        lent.copy_from_slice(values);
-    }
+    whole::copy_over(values, lent);
 }
 
 // The rounds that were given, where every test has passed and the lengths are the same: document 02, M-106.

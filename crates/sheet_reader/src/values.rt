@@ -20,6 +20,7 @@ use sheet_layout::{
     pass_of,
 };
 use sheet_rules::{SheetRoom, SheetValues};
+use whole::copy_over;
 
 // L or e as packed, which stands after the head whatever the figure.
 pub(crate) fn limit_or_tolerance_in(sheet: &[u8], kind: Kind) -> u32
@@ -98,10 +99,10 @@ pub(crate) fn store(values: SheetValues<'_>, room: &mut SheetRoom<'_>)
     ensures stored { held_by room.new ≡ slices_of (values_given 0 values.entry) }
     ensures same { SameSlices room.new room.old }
 {
-    room.angles.copy_from_slice(values.angles);
-    room.rounds.copy_from_slice(values.rounds);
-    room.fixed.copy_from_slice(values.fixed);
-    room.log_sines.copy_from_slice(values.log_sines);
-    room.differences.copy_from_slice(values.differences);
-    room.log_sides.copy_from_slice(values.log_sides);
+    copy_over(values.angles, room.angles);
+    copy_over(values.rounds, room.rounds);
+    copy_over(values.fixed, room.fixed);
+    copy_over(values.log_sines, room.log_sines);
+    copy_over(values.differences, room.differences);
+    copy_over(values.log_sides, room.log_sides);
 }

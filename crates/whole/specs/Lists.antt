@@ -1,5 +1,6 @@
--- Lists made by a rule, lists brought to a fixed length as the arrays of the code have it, and tests of every entry.
-use Rattle.std.specs.Prelude.{ℕ, zero, suc, Bool, true, ◌&&◌, List, [], ◌∷◌}
+-- Lists made by a rule, lists brought to a fixed length as the arrays of the code have it, values copied over others, and tests of every
+-- entry.
+use Rattle.std.specs.Prelude.{ℕ, zero, suc, Bool, true, ◌&&◌, cond, eqb, List, [], ◌∷◌, length}
 
 module _ {A : Type 0} where
   -- f 0, f 1, .., f (n − 1)
@@ -12,6 +13,10 @@ module _ {A : Type 0} where
   padded zero d xs = []
   padded (suc n) d [] = d ∷ padded n d []
   padded (suc n) d (x ∷ xs) = x ∷ padded n d xs
+
+  -- values copied over others, where they are as many
+  abbrev pub copied_over : (values others : List A) → List A
+  copied_over values others = cond (eqb (length values) (length others)) values others
 
   -- every entry passes the test
   abbrev pub every : (A → Bool) → List A → Bool

@@ -1,8 +1,9 @@
-// Whole numbers: the magnitude of a signed number, the rounded quotient, and a hundredfold compared.
+// Whole numbers: the magnitude of a signed number, the rounded quotient, and a hundredfold compared; and values copied over others.
 // A cast by `as` stands where the library has no `From`, to a narrower type or to and from usize; each is proved to keep its value.
 #![tactic(auto)]
 
-ghost use Rattle.std.specs.Prelude.{◌≡◌, ◌≤◌, ◌*◌, ltb, nat_abs};
+ghost use Rattle.std.specs.Prelude.{◌≡◌, ◌≤◌, ◌*◌, length, ltb, nat_abs};
+ghost use Rattle.whole.specs.Lists.{copied_over};
 ghost use Rattle.whole.specs.Quotient.{with_sign, rounded_quotient};
 ghost use Rattle.whole.specs.Quotient.{nearest as Quotient·nearest};
 
@@ -56,4 +57,23 @@ pub fn hundredfold_exceeds(a: u64, most: u64) -> bool
     ensures { result ≡ ltb most (100 * a) }
 {
     u128::from(most) < 100 * u128::from(a)
+}
+
+// Copies as many values as are lent, where the lengths are the same.
+pub fn copy_over<T: Copy>(values: &[T], lent: &mut [T])
+    ensures { lent.new ≡ copied_over values.now lent.old }
+{
+    if values.len() == lent.len() {
+        copy_all(values, lent);
+    }
+}
+
+// By a loop, since the library's copy_from_slice wants `memmove` from whoever links the archive.
+fn copy_all<T: Copy>(values: &[T], lent: &mut [T])
+    requires { length lent.old ≡ length values.now }
+    ensures { lent.new ≡ values.now }
+{
+    for (i, value) in values.iter().enumerate() {
+        lent[i] = *value;
+    }
 }

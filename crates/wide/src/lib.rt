@@ -5,8 +5,11 @@
 ghost use Rattle.std.specs.Prelude.{◌≡◌, ◌≤◌, ◌+◌, ◌*◌, not, eqb, pos, neg_ℤ, nat_abs, ◌+ℤ◌, ◌-ℤ◌, ◌*ℤ◌};
 ghost use Rattle.std.specs.Int.Signed.{lt_z};
 ghost use Rattle.whole.specs.Quotient.{rounded_quotient};
-ghost use Rattle.whole.specs.Quotient.{nearest as Quotient·nearest};
 ghost use Rattle.wide.specs.Wide.{signed, value_of, held, held_size, narrowed};
+
+mod division;
+
+use division::nearest;
 
 // A number below zero, or not, of this size. Of the two ways to write 0 neither is wrong. A signed number of 128 bits would not do: `held`
 // of specs/Wide.antt has room for sizes up to 2^128.
@@ -142,24 +145,6 @@ pub fn rounded_quotient(numerator: Wide, denominator: u128) -> Wide
     Wide {
         negative: numerator.negative,
         size: nearest(numerator.size, denominator),
-    }
-}
-
-// Beside the `nearest` of `whole`, since a trait with the operations of both widths is longer than this; 64 bits there are for speed. Twice
-// the remainder may pass 128 bits, so it is compared with what it lacks of d; after an odd quotient a half counts as more.
-#[tactic(auto, using(whole::proofs::Quotient::nearest_none, whole::proofs::Quotient::nearest_down, whole::proofs::Quotient::nearest_up))]
-fn nearest(n: u128, d: u128) -> u128
-    ensures { result ≡ Quotient·nearest n d }
-{
-    if d == 0 {
-        return 0;
-    }
-    let quotient = n / d;
-    let remainder = n % d;
-    if d - remainder < remainder + quotient % 2 {
-        quotient + 1
-    } else {
-        quotient
     }
 }
 

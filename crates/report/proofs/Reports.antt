@@ -1,29 +1,26 @@
--- Whether a text that was laid by itself has room in what is lent, told by the position after it; and that 2048 bytes are room for every
--- text. Assumes nothing.
-use Rattle.std.specs.Prelude.{Some, None, ◌≡◌, refl, Bool, true, false, List, ◌++◌, ℕ, ◌≤◌, ◌<◌, leb, length, take, drop, replicate}
-use Rattle.vocabulary.specs.{sym, ap, ap₂, ◌∙◌, le_trans, arith, le-leb, lt-leb, leb-true}
+-- What a report of a sheet's text promises, by whether it has room in what is lent; and that 2048 bytes are room for every text. Assumes
+-- nothing.
+use Rattle.std.specs.Prelude.{Some, None, ◌≡◌, refl, Bool, true, false, List, ◌++◌, ℕ, ◌≤◌, ◌<◌, length, take, drop, replicate}
+use Rattle.vocabulary.specs.{sym, ap, ◌∙◌, le_trans, arith, le-leb, leb-true}
 use Rattle.text.specs.Holds.{Holds}
-use Rattle.text.proofs.Laying.{holds_size, holds_length, holds_taken}
 use Rattle.report.specs.Report.{report_text, has_room, reported_of, after_report, ReportedPromise}
 use Rattle.lines.specs.Lines.{longest_text}
 use Rattle.report.proofs.Longest.{text_fits}
+use Rattle.report.proofs.Room as room
 
 module _ (sheet lent : List ℕ) {buffer : List ℕ} {end : ℕ} (held : Holds (replicate longest_text 0) (report_text sheet) buffer end) where
   abbrev t : List ℕ
   t = report_text sheet
 
-  length_told : end ≡ length t
-  length_told = holds_length held (text_fits sheet)
+  pub length_told : end ≡ length t
+  length_told = room.length_told t buffer end held (text_fits sheet)
 
   pub end_within : end ≤ length buffer
-  end_within = rw (holds_size held) (omega (arith, length_told, text_fits sheet))
-
-  decided : has_room t lent ≡ leb end (length lent)
-  decided = ap (λ (k : ℕ). leb k (length lent)) (sym length_told)
+  end_within = room.end_within t buffer end held (text_fits sheet)
 
   pub none_written : length lent < end → ReportedPromise sheet lent None lent
   none_written h =
-      let none : has_room t lent ≡ false = decided ∙ lt-leb end (length lent) h in
+      let none : has_room t lent ≡ false = room.past_lent t buffer end held (text_fits sheet) lent h in
       record {
         answered = sym (ap (λ (b : Bool). reported_of b t) none);
         leaves = sym (ap (λ (b : Bool). after_report b t lent) none);
@@ -31,12 +28,10 @@ module _ (sheet lent : List ℕ) {buffer : List ℕ} {end : ℕ} (held : Holds (
 
   pub all_written : end ≤ length lent → ReportedPromise sheet lent (Some end) (take end buffer ++ drop end lent)
   all_written h =
-      let room : has_room t lent ≡ true = decided ∙ le-leb end (length lent) h in
+      let there : has_room t lent ≡ true = room.room_there t buffer end held (text_fits sheet) lent h in
       record {
-        answered = ap Some length_told ∙ sym (ap (λ (b : Bool). reported_of b t) room);
-        leaves =
-            ap₂ (λ (l : List ℕ) (k : ℕ). l ++ drop k lent) (holds_taken held (text_fits sheet)) length_told
-            ∙ sym (ap (λ (b : Bool). after_report b t lent) room);
+        answered = ap Some length_told ∙ sym (ap (λ (b : Bool). reported_of b t) there);
+        leaves = room.written_there t buffer end held (text_fits sheet) lent ∙ sym (ap (λ (b : Bool). after_report b t lent) there);
       }
 
 -- what was written lies within what was lent

@@ -1,7 +1,7 @@
 -- Laws of laying text in a buffer: where it has room and where not, and several texts laid one after the other. Assumes nothing.
 use Rattle.std.specs.Prelude.{◌≡◌, refl, Bool, true, false, cond, List, [], ◌∷◌, ◌++◌, ℕ, ◌+◌, ◌-◌, ◌≤◌, ◌<◌, leb, length, take, drop, set}
 use Rattle.vocabulary.specs.{sym, ap, ap₂, ◌∙◌, append_assoc, append-nil, zero-add, add-one, arith, le-leb, lt-leb, leb-true, leb-false}
-use Rattle.vocabulary.specs.{length-append, length-take, length-drop, drop_of_length-le, take_all, take-append_seam}
+use Rattle.vocabulary.specs.{length-append, length-take, length-drop, drop_of_length-le, take_all, take-append_seam, take-append-drop}
 use Rattle.vocabulary.specs.{take-append-le, take-append-add, take_at, drop_at, drop-drop, length-take-le, append_snoc}
 use Rattle.vocabulary.specs.{set_split}
 use Rattle.text.specs.{Text.laid, Text.after, Holds.Holds, Page.Place, Page.place, Page.laid_on}
@@ -47,6 +47,20 @@ module _ (buffer : List ℕ) (at : ℕ) (t : List ℕ) where
   laid_past h =
       let none : length buffer - at ≡ 0 = omega arith in
       rw (take_all at buffer h, none, drop_of_length-le buffer {i = at + length t} (omega arith)) (append-nil (buffer ++ []) ∙ append-nil buffer)
+
+-- spelled from the last byte backwards, so that the text ends where it has to
+pub laid_spelled : (buffer spelled : List ℕ) (at count from : ℕ) {s t : List ℕ} → s ≡ t → count ≡ length t → at + count ≤ length buffer
+    → from + length s ≡ at + count → drop from spelled ≡ s ++ drop (at + count) buffer → take from spelled ≡ take from buffer
+    → place spelled (at + count) ≡ place (laid buffer at t) (after (length buffer) at t)
+laid_spelled buffer spelled at count from {s} {t} same counted room starts written before =
+    let size : length s ≡ length t = ap length same in
+    let here : from ≡ at = omega arith in
+    let ends : at + count ≡ at + length t = omega arith in
+    let kept : take from spelled ≡ take at buffer = before ∙ ap (λ (k : ℕ). take k buffer) here in
+    let more : drop from spelled ≡ t ++ drop (at + length t) buffer = written ∙ ap₂ (λ (l : List ℕ) (k : ℕ). l ++ drop k buffer) same ends in
+    ap₂ place (sym (take-append-drop from spelled) ∙ ap₂ (λ (l m : List ℕ). l ++ m) kept more
+    ∙ sym (append_assoc (take at buffer) t (drop (at + length t) buffer)) ∙ sym (laid_room buffer at t (omega arith)))
+    (ends ∙ sym (after_room (length buffer) at t (omega arith)))
 
 -- one byte
 module _ (buffer : List ℕ) (at b : ℕ) (h : at < length buffer) where

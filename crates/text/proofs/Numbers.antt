@@ -2,7 +2,7 @@
 -- Each goes by the number without its last digit. Assumes nothing.
 use Rattle.std.specs.Prelude.{◌≡◌, refl, Bool, true, false, ◌||◌, List, [], ◌∷◌, ◌++◌, map, ℕ, zero, suc, ◌+◌, ◌*◌, ◌-◌, ◌/◌, ◌%◌, ◌^◌, ◌≤◌}
 use Rattle.std.specs.Prelude.{◌<◌, T, leb, ltb, eqb, ℤ, pos, negsuc, neg_ℤ, nat_abs, length, get_or}
-use Rattle.vocabulary.specs.{sym, ap, ap₂, ◌∙◌, subst⁻¹, not-suc-le-zero, pow-suc, div-lt_iff_lt-mul, div-eq_of_lt, mod-eq_of_lt, arith}
+use Rattle.vocabulary.specs.{sym, ap, ap₂, ◌∙◌, subst, subst⁻¹, lt_z, not-suc-le-zero, pow-suc, div-lt_iff_lt-mul, div-eq_of_lt, mod-eq_of_lt, arith}
 use Rattle.vocabulary.specs.{ne_eqb, ltb-true, ltb-false, leb→le, le→leb, eqb→eq, lit<, length-append, list-get_or_append}
 use Rattle.whole.specs.Lists.{every}
 use Rattle.whole.proofs.Computed.{and_left}
@@ -46,6 +46,21 @@ natural_before (suc m) h = ap (λ (l : List ℕ). l ++ (digit (suc m % 10) ∷ [
     one_more zero b c = absurd (not-suc-le-zero b)
     one_more (suc k) b c = digits_enough m (suc k) (suc k) c (omega arith)
 
+pub length_last : (n : ℕ) → n < 10 → length (natural n) ≡ 1
+length_last n h = ap length (natural_last n h)
+
+pub length_before : (n : ℕ) → 10 ≤ n → length (natural n) ≡ length (natural (n / 10)) + 1
+length_before n h = ap length (natural_before n h) ∙ length-append (natural (n / 10)) (digit (n % 10) ∷ [])
+
+tens_together : (n : ℕ) → n / 10 / 10 / 10 / 10 ≡ n / 10000
+tens_together n = omega arith
+
+pub length_four_more : (n : ℕ) → 10000 ≤ n → length (natural n) ≡ length (natural (n / 10000)) + 4
+length_four_more n h =
+    let e : length (natural n) ≡ length (natural (n / 10 / 10 / 10 / 10)) + 4 =
+    omega (arith, length_before n (omega arith), length_before (n / 10) (omega arith), length_before (n / 10 / 10) (omega arith), length_before (n / 10 / 10 / 10) (omega arith)) in
+    e ∙ ap (λ (k : ℕ). length (natural k) + 4) (tens_together n)
+
 module _ (P : ℕ → Type 0) (one : (n : ℕ) → n < 10 → P n) (more : (n : ℕ) → 10 ≤ n → P (n / 10) → P n) where
   up_to : (k n : ℕ) → n < k → P n
   up_to zero n h = absurd (not-suc-le-zero h)
@@ -60,6 +75,17 @@ module _ (Q : List ℕ → Type 0) (one : (n : ℕ) → n < 10 → Q (digit n �
   by_text =
       by_digits (λ n. Q (natural n)) (λ n h. subst⁻¹ Q (natural_last n h) (one n h))
       (λ n h q. subst⁻¹ Q (natural_before n h) (more (natural (n / 10)) (n % 10) (omega arith) q))
+
+-- the text of a number below zero, and of any other
+pub decimal_below : (z : ℤ) → lt_z z (pos 0) ≡ true → decimal z ≡ minus ∷ natural (nat_abs z)
+unfolding decimal
+decimal_below (pos n) e = absurd (not-suc-le-zero (ltb-true n 0 e))
+decimal_below (negsuc n) e = refl
+
+pub decimal_other : (z : ℤ) → lt_z z (pos 0) ≡ false → decimal z ≡ natural (nat_abs z)
+unfolding decimal
+decimal_other (pos n) e = refl
+decimal_other (negsuc n) e = absurd (subst T e tt)
 
 -- ---- Reading back
 

@@ -1,9 +1,9 @@
 -- A number's decimal text, as the library spells it. Assumes nothing.
-use Rattle.std.specs.Prelude.{◌≡◌, [], ◌∷◌, ◌++◌, List, ℕ, suc, ◌%◌, ◌^◌, ◌<◌, ℤ, pos, negsuc}
-use Rattle.vocabulary.specs.{sym, ap, ◌∙◌, lt_trans, lit<, arith, mag}
-use Rattle.std.specs.Fmt.{decimal as std_decimal, signed_decimal}
+use Rattle.std.specs.Prelude.{◌≡◌, [], ◌∷◌, ◌++◌, List, ℕ, ◌%◌, ◌^◌, ◌<◌}
+use Rattle.vocabulary.specs.{sym, ap, ◌∙◌, lt_trans, lit<}
+use Rattle.std.specs.Fmt.{decimal as std_decimal}
 use Rattle.std.proofs.lemmas.Fmt.{decimal_by_steps_wide}
-use Rattle.text.specs.Text.{minus, digit, natural, decimal}
+use Rattle.text.specs.Text.{digit, natural}
 use Rattle.text.proofs.Numbers.{natural_last, natural_before}
 
 pub spelled_wide : (n : ℕ) → n < 2 ^ 128 → std_decimal n ≡ natural n
@@ -13,8 +13,3 @@ spelled_wide n h =
 
 pub spelled : (n : ℕ) → n < 2 ^ 64 → std_decimal n ≡ natural n
 spelled n h = spelled_wide n (lt_trans h (lit< tt))
-
-pub spelled_signed : (z : ℤ) → mag z < 2 ^ 63 → signed_decimal z ≡ decimal z
-unfolding decimal
-spelled_signed (pos n) h = spelled n (omega arith)
-spelled_signed (negsuc n) h = ap (λ (l : List ℕ). minus ∷ l) (spelled (suc n) (omega arith))

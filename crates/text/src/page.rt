@@ -1,9 +1,9 @@
 // A page: a lent byte slice, and the position after what was laid on it.
-ghost use Rattle.std.specs.Prelude.{◌≡◌, [], ◌∷◌, pos};
-ghost use Rattle.text.specs.Text.{decimal as Text·decimal};
+ghost use Rattle.std.specs.Prelude.{◌≡◌, ◌+◌, ◌≤◌, ◌<◌, [], ◌∷◌, pos, length};
+ghost use Rattle.text.specs.Text.{natural, decimal as Text·decimal};
 ghost use Rattle.text.specs.Page.{place, place_of, Lays};
 
-use itoa::{Buffer, Integer};
+use itoa::Buffer;
 
 // Where a text has no room, it is laid as far as the slice reaches, and the position is past the end, so that nothing is laid after it.
 #[derive(Drop)]
@@ -41,7 +41,7 @@ impl<'a> Page<'a> {
         }
         let room = size - self.at;
         let count = word.len().min(room);
-        self.buffer[self.at..self.at + count].copy_from_slice(&word[..count]);
+        whole::copy_over(&word[..count], &mut self.buffer[self.at..self.at + count]);
         if count < word.len() {
             self.at = size + 1;
         } else {
@@ -64,24 +64,45 @@ impl<'a> Page<'a> {
     }
 
     // Lays a number in decimal.
-    #[tactic(auto, using(crate::proofs::Spelling::spelled_signed))]
+    #[tactic(auto, using(crate::proofs::Laying::laid_on_append, crate::proofs::Numbers::decimal_below, crate::proofs::Numbers::decimal_other), unfolding(crate::specs::Text::decimal))]
     pub fn put_number(&mut self, number: i64)
         ensures { Lays (Text·decimal number) self.old self.new }
     {
-        self.put_integer(number);
+        if number < 0 {
+            self.put_byte(b'-');
+        }
+        self.put_natural(number.unsigned_abs());
     }
 
     // Lays a number from 0 up, of the whole unsigned range.
-    #[tactic(auto, using(crate::proofs::Spelling::spelled), unfolding(crate::specs::Text::decimal))]
+    #[tactic(auto, unfolding(crate::specs::Text::decimal))]
     pub fn put_natural(&mut self, value: u64)
         ensures { Lays (Text·decimal (pos value)) self.old self.new }
     {
-        self.put_integer(value);
+        let count = digit_count(value);
+        let size = self.buffer.len();
+        if self.at <= size && count <= size - self.at {
+            self.put_digits(count, value);
+        } else {
+            self.put_cut(value);
+        }
     }
 
-    // As the library spells it.
-    fn put_integer<I: Integer>(&mut self, value: I)
-        ensures { Lays (I.text value) self.old self.new }
+    // In place, where all of them have room.
+    fn put_digits(&mut self, count: usize, value: u64)
+        requires count { count ≡ length (natural value) }
+        requires room { self.old.at + count ≤ length self.old.buffer.now }
+        ensures { Lays (natural value) self.old self.new }
+    {
+        let end = self.at + count;
+        itoa::write_digits(value, self.buffer, end);
+        self.at = end;
+    }
+
+    // A text that the end of the slice cuts short lacks its last digits, which are found first: so it is spelled apart.
+    #[tactic(auto, using(crate::proofs::Spelling::spelled))]
+    fn put_cut(&mut self, value: u64)
+        ensures { Lays (natural value) self.old self.new }
     {
         let mut digits = Buffer::new();
         self.put_word(digits.format(value).as_bytes());
@@ -92,6 +113,37 @@ impl<'a> Page<'a> {
         ensures value { result ≡ self.entry.at }
         ensures kept { self.exit.0.now ≡ self.entry.buffer.now }
     {
-        self.at
+        let position = self.at;
+        position
+    }
+}
+
+// Four at a time, and then what is left of them.
+#[tactic(auto, using(crate::proofs::Numbers::length_four_more, crate::proofs::Numbers::length_word))]
+fn digit_count(value: u64) -> usize
+    ensures { result ≡ length (natural value) }
+{
+    let mut uncounted = value;
+    let mut count = 0;
+    while uncounted >= 10_000 {
+        uncounted /= 10_000;
+        count += 4;
+    }
+    count + short_count(uncounted)
+}
+
+#[tactic(auto, using(crate::proofs::Numbers::length_last, crate::proofs::Numbers::length_before))]
+fn short_count(value: u64) -> usize
+    requires { value < 10000 }
+    ensures { result ≡ length (natural value) }
+{
+    if value < 10 {
+        1
+    } else if value < 100 {
+        2
+    } else if value < 1000 {
+        3
+    } else {
+        4
     }
 }

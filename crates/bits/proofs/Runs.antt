@@ -99,7 +99,7 @@ around s i n =
     ∙ ap (λ (l : List Bool). bits_of (take i s) ++ l) (ap bits_of (sym (take-append-drop n (drop i s))) ∙ bits_of_append (take n (drop i s)) (drop n (drop i s)))
 
 -- bits from a place within n bytes on
-within_run : (s : List ℕ) (i n p w : ℕ) → i + n ≤ length s → p + w ≤ 8 * n
+pub within_run : (s : List ℕ) (i n p w : ℕ) → i + n ≤ length s → p + w ≤ 8 * n
     → take w (drop (8 * i + p) (bits_of s)) ≡ take w (drop p (bits_of (take n (drop i s))))
 within_run s i n p w within fits =
     let these : List Bool = bits_of (take n (drop i s)) in

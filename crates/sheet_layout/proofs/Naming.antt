@@ -3,9 +3,10 @@ use Rattle.std.specs.Prelude.{Err, Ok}
 use Rattle.sheet_layout.specs.Head.{Look, headed, of_head}
 use Rattle.std.specs.Prelude.{Err, None, Ok, Option, Some}
 use Rattle.refusals.specs.Numbers.{Verdict}
-use Rattle.std.specs.Prelude.{ℕ, ◌<◌, ◌≤◌, Bool, true, false, cond, not, ◌&&◌, ◌||◌, List, [], ◌∷◌, map, ◌↔◌, ◌≡◌, refl, length, T, eqb}
-use Rattle.vocabulary.specs.{sym, ap, ap₂, ◌∙◌, dec_lt, arith, lt-ltb, le-ltb, eqb→eq}
+use Rattle.std.specs.Prelude.{ℕ, ◌<◌, ◌≤◌, Bool, true, false, cond, not, ◌&&◌, ◌||◌, List, [], ◌∷◌, map, take, ◌↔◌, ◌≡◌, refl, length, T, eqb}
+use Rattle.vocabulary.specs.{sym, ap, ap₂, ◌∙◌, dec_lt, arith, lt-ltb, le-ltb, lit≤, eqb→eq}
 use Rattle.bits.specs.Bits.{field_at}
+use Rattle.bits.proofs.Front.{field_in_front}
 use Rattle.refusals.specs.{declared.Refusal.Refusal, Numbers.verdict_told}
 use Rattle.refusals.specs.{Order.answer_of, Order.fails_if, Order.judged, Questions.none_of, Questions.among, Questions.asked}
 use Rattle.figures.specs.declared.Figure.{Figure}
@@ -162,3 +163,9 @@ module _ (s : List ℕ) where
   pub fields_decide : {kind code n : ℕ} → kind ≡ field_at s 0 4 → code ≡ field_at s 4 4 → n ≡ field_at s 8 4 → head_of kind code n ≡ head_in
   unfolding held position_of same sort number_of_item
   fields_decide k c m = rw (k, c, m)
+
+  -- and of its two bytes alone
+  pub front_decides : 2 ≤ length s → {kind code n : ℕ} → kind ≡ field_at (take 2 s) 0 4 → code ≡ field_at (take 2 s) 4 4 → n ≡ field_at (take 2 s) 8 4
+      → head_of kind code n ≡ head_in
+  front_decides long k c m =
+      fields_decide (k ∙ field_in_front s 2 0 4 long (lit≤ tt) (lit≤ tt)) (c ∙ field_in_front s 2 4 4 long (lit≤ tt) (lit≤ tt)) (m ∙ field_in_front s 2 8 4 long (lit≤ tt) (lit≤ tt))

@@ -8,6 +8,9 @@ use bits::field;
 use figures::{Figure, figure_of};
 use refusals::Refusal;
 
+// The bytes that kind, code and n lie in.
+const HEAD_BYTES: usize = 2;
+
 // What the head of a sheet names.
 #[derive(Clone, Copy, Debug, PartialEq, Eq)]
 pub struct SheetHead {
@@ -40,16 +43,18 @@ pub fn named_head(kind: u32, code: u32, n: u32) -> Result<SheetHead, Refusal>
 
 // The kind and the figure of a sheet, so that slices of the right lengths can be lent for its values; or why the reader turns it back
 // already.
-#[tactic(auto, using(crate::proofs::Naming::short, crate::proofs::Naming::long_enough, crate::proofs::Naming::fields_decide))]
+#[tactic(auto, using(crate::proofs::Naming::short, crate::proofs::Naming::long_enough, crate::proofs::Naming::front_decides))]
 pub fn look_at(sheet: &[u8]) -> Result<SheetHead, Refusal>
     ensures { result ≡ look_of sheet.now }
 {
-    if sheet.len() < 2 {
+    if sheet.len() < HEAD_BYTES {
         return Err(Refusal::WrongSheetLength);
     }
+    // Of the bytes of the head alone: of a longer run eight are read for each field.
+    let head = &sheet[..HEAD_BYTES];
     named_head(
-        field(sheet, 0, KIND_WIDTH),
-        field(sheet, CODE_AT, CODE_WIDTH),
-        field(sheet, N_AT, N_WIDTH),
+        field(head, 0, KIND_WIDTH),
+        field(head, CODE_AT, CODE_WIDTH),
+        field(head, N_AT, N_WIDTH),
     )
 }

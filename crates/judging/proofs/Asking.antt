@@ -9,8 +9,6 @@ use Rattle.refusals.specs.Order.{lowest_place}
 use Rattle.refusals.proofs.Places.{lowest_is, lowest_is_nowhere}
 use Rattle.std.specs.List.{enumerate_from}
 use Rattle.std.proofs.lemmas.List.FromFn.{length-enumerate_from, get_or-enumerate_from}
-use Rattle.std.specs.Prelude.{[], ◌∷◌, sum}
-use Rattle.refusals.specs.Table.{sum_of_all}
 use Rattle.whole.proofs.Lists.{length_listed, get_or_listed}
 use Rattle.refusals.specs.Numbers.{numbered}
 use Rattle.refusals.specs.Questions.{asked, outside, outside_signed}
@@ -49,10 +47,6 @@ outside_searched values least most = searched (λ value. asked (outside least mo
 
 pub signed_searched : (values : List ℤ) (least most : ℤ) → placed (position (λ value. asked (outside_signed least most value)) values) ≡ lowest_signed_outside values least most
 signed_searched values least most = searched (λ value. asked (outside_signed least most value)) (pos 0) _ values (λ i l. refl)
-
-pub sum_is : (xs : List ℕ) → sum xs ≡ sum_of_all xs
-sum_is [] = refl
-sum_is (x ∷ xs) = grind (arith, common_steps, sum_is xs)
 
 -- an angle with its correction, by the angle's index
 result_at : (angles : List ℕ) (corrections : List ℤ) (i : ℕ) → i < length angles

@@ -1,7 +1,7 @@
 // The tests of the table, each once: what a row says of the values that are given. refusals/specs/Table.antt has the
 // rows. Six search and name a refusal of their own, a row of the table in two arms: one function over a closure that names the refusal is no
 // shorter at its calls, and no plainer.
-ghost use Rattle.std.specs.Prelude.{◌≡◌, ◌++◌, ◌+◌, ◌*◌, ◌^◌, eqb, pos, sum};
+ghost use Rattle.std.specs.Prelude.{◌≡◌, ◌++◌, ◌+◌, ◌*◌, ◌^◌, eqb, pos};
 ghost use Rattle.refusals.specs.Order.{verdict_of};
 ghost use Rattle.refusals.specs.Table.{lengths_row, limit_or_tolerance_row, angles_row, fixed_row, misclosures_row};
 ghost use Rattle.refusals.specs.Table.{results_row, sine_entries_row, sum_of_squares_row, fixed_sum, sum_of_all, fixed_sum_row, rounds_row};
@@ -115,17 +115,18 @@ fn fixed_sum(count: usize) -> u32
     }
 }
 
-fn total(values: &[u32]) -> u128
-    ensures { result ≡ sum values.now }
-{
-    values.iter().map(|value| u128::from(*value)).sum()
-}
-
-#[tactic(auto, using(crate::proofs::Asking::sum_is))]
+// Each value is taken off the sum, since the sum of any values whatever might not fit; what is more than is left of it ends the work.
 fn sums_to(values: &[u32], sum: u32) -> bool
     ensures { result ≡ eqb (sum_of_all values.now) sum }
 {
-    total(values) == u128::from(sum)
+    let mut left = sum;
+    for value in values {
+        if left < *value {
+            return false;
+        }
+        left -= *value;
+    }
+    left == 0
 }
 
 // Number 14.

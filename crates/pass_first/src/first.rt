@@ -7,7 +7,7 @@ use crate::misclosures::misclosures_into;
 use figures::{Figure, MOST_CONDITIONS, figure_of};
 use judging::check_misclosures;
 use pass_rules::{FirstInput, FirstRoom, check_first_given, limit_in_force};
-use pass_steps::store;
+use pass_steps::store_rounds;
 use refusals::Refusal;
 
 // The first pass of the figure that code and n name. Done, everything lent is as defined; refused, everything lent is as it was.
@@ -39,7 +39,7 @@ pub fn first_pass_of(
     let w = &mut w[..room.misclosures.len()];
     misclosures_into(figure, given.angles, given.fixed, w);
     check_misclosures(w, limit_in_force(given.limit))?;
-    first_corrected(figure, given.angles, w, room)?;
-    store(given.rounds, room.corrected_rounds);
-    Ok(())
+    let outside = first_corrected(figure, given.angles, w, room);
+    store_rounds(outside, given.rounds, room.corrected_rounds);
+    outside
 }

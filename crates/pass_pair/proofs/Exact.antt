@@ -12,7 +12,7 @@ use Rattle.pass_pair.specs.Pair.{first_factor, second_factor, pair_numerator, he
 use Rattle.pass_pair.specs.declared.PairCorrection.{PairCorrection}
 
 -- the difference of two products of 64-bit numbers
-products_stay : (a b c d : ℤ) → nat_abs a ≤ 2 ^ 63 → nat_abs b ≤ 2 ^ 63 → nat_abs c ≤ 2 ^ 63 → nat_abs d ≤ 2 ^ 63
+pub products_stay : (a b c d : ℤ) → nat_abs a ≤ 2 ^ 63 → nat_abs b ≤ 2 ^ 63 → nat_abs c ≤ 2 ^ 63 → nat_abs d ≤ 2 ^ 63
     → held (a *ℤ b -ℤ c *ℤ d) ≡ a *ℤ b -ℤ c *ℤ d
 products_stay a b c d h k l m = stays 4 (λ a b c d. a ⊗ b ⊖ c ⊗ d) a (2 ^ 63) h b (2 ^ 63) k c (2 ^ 63) l d (2 ^ 63) m tt
 

@@ -8,7 +8,7 @@ pub record Exact (w : Width) (most : ℕ) (made exact : ℤ) : Type 0 where
   pub read : to_z w (of_z w made) ≡ exact
   pub small : nat_abs exact ≤ most
 
-is_exact : (w : Width) (most : ℕ) (made exact : ℤ) → most < 2 ^ hbits w → made ≡ exact → nat_abs exact ≤ most → Exact w most made exact
+pub is_exact : (w : Width) (most : ℕ) (made exact : ℤ) → most < 2 ^ hbits w → made ≡ exact → nat_abs exact ≤ most → Exact w most made exact
 is_exact w most made exact room same small = record { fits = fits; read = to_z_of_z_at w made fits ∙ same; small = small }
   where
     fits : SFits w made

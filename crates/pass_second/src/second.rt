@@ -10,7 +10,7 @@ use crate::sums::{divisor_of, sums_into};
 use figures::{Figure, MOST_ANGLES, figure_of};
 use pass_pair::Pair;
 use pass_rules::{SecondInput, SecondRoom, SineAnswer, check_second_given};
-use pass_steps::store;
+use pass_steps::store_rounds;
 use refusals::Refusal;
 
 // The most angles of a figure with known sides: code 2 with four triangles.
@@ -57,8 +57,9 @@ pub fn second_pass_of(
         a,
         b,
     };
-    second_corrected(figure, given.angles, conditions, room)?;
-    store(given.rounds, room.adjusted_rounds);
+    let outside = second_corrected(figure, given.angles, conditions, room);
+    store_rounds(outside, given.rounds, room.adjusted_rounds);
+    outside?;
     Ok(answer_of(pair, divisor))
 }
 

@@ -17,7 +17,7 @@ use figure_tables::Signs;
 use figures::{Figure, MOST_ANGLES, MOST_CONDITIONS};
 use pass_rules::tolerance_in_force;
 use pass_steps::{condition_sums, numerators_into};
-use refusals::Refusal;
+use refusals::{Refusal, first_to_fail};
 
 // Of a sine condition, by the signs of its angles: its W without known sides, the sum of its squared reduced coefficients, and that of d².
 #[derive(Clone, Copy)]
@@ -183,8 +183,9 @@ pub(crate) fn check_sines(sums: Sums, divisor: u128, tolerance: u32) -> Result<(
         sums.pair.wa sums.difference_squares sums.pair.wb sums.side_difference_squares) }
 {
     check_divisor(divisor)?;
-    check_tolerance(sums.pair.wa, tolerance, sums.difference_squares)?;
-    check_tolerance(sums.pair.wb, tolerance, sums.side_difference_squares)
+    let pole = check_tolerance(sums.pair.wa, tolerance, sums.difference_squares);
+    let side = check_tolerance(sums.pair.wb, tolerance, sums.side_difference_squares);
+    first_to_fail(pole, side)
 }
 
 // Number 10.

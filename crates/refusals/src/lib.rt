@@ -101,7 +101,7 @@ impl Refusal {
     }
 }
 
-// The answer of two tests in their order, for whoever has both.
+// The answer of two tests in their order.
 #[tactic(auto, unfolding(crate::specs::Order::answer_of))]
 pub fn first_to_fail(
     earlier: Result<(), Refusal>,

@@ -11,7 +11,7 @@ use Rattle.pass_rules.specs.FirstPass.{limit_of, first_lengths, given_rows, misc
 use Rattle.pass_rules.specs.Promises.{FirstLent, first_results_lent, first_slices, FirstPromiseOf}
 use Rattle.pass_rules.specs.Lent.{first_given_lengths, first_held}
 use Rattle.pass_steps.specs.{Premises.Angles, Premises.Within, Steps.same_length}
-use Rattle.pass_steps.proofs.{Judged.kept, StepLaws.length_of}
+use Rattle.pass_steps.proofs.StepLaws.{length_of}
 use Rattle.pass_first.specs.Steps.{tenths_of, FirstWork, work_of, work_lent, work_lengths, with_rounds, first_from}
 use Rattle.pass_first.proofs.FirstPromised.{refused_before, length_at, small_angles, small_fixed, refused_misclosure, small_misclosures, by_results}
 use Rattle.pass_first.proofs.first.first_pass_of.Goals as goal
@@ -125,36 +125,29 @@ returns-in_err-check_misclosures-clause-promise c =
     refused c.args.figure c.args.given (first_held c.args.room.now) asked c.in_ok-check_first_given.was
     c.misclosures_into.ensures c.limit_in_force.ensures (again ∙ c.check_misclosures.ensures) _ (again ∙ c.in_err-check_misclosures.was)
 
-pub first_corrected-requires-clause-angles_len : goal.first_corrected-requires-clause-angles_len
-first_corrected-requires-clause-angles_len c =
+pub first_corrected-outside-requires-clause-angles_len : goal.first_corrected-outside-requires-clause-angles_len
+first_corrected-outside-requires-clause-angles_len c =
     angles_len c.args.figure c.args.given (first_held c.args.room.now) (told c.args.figure c.args.given _ c.lengths.ensures c.check_first_given.ensures) c.in_ok-check_first_given.was
 
-pub first_corrected-requires-clause-w_len : goal.first_corrected-requires-clause-w_len
-first_corrected-requires-clause-w_len c = length_of _ _ c.misclosures_into.ensures
+pub first_corrected-outside-requires-clause-w_len : goal.first_corrected-outside-requires-clause-w_len
+first_corrected-outside-requires-clause-w_len c = length_of _ _ c.misclosures_into.ensures
 
-pub first_corrected-requires-clause-room_len : goal.first_corrected-requires-clause-room_len
-first_corrected-requires-clause-room_len c =
+pub first_corrected-outside-requires-clause-room_len : goal.first_corrected-outside-requires-clause-room_len
+first_corrected-outside-requires-clause-room_len c =
     room_len c.args.figure c.args.given (first_held c.args.room.now) (told c.args.figure c.args.given _ c.lengths.ensures c.check_first_given.ensures) c.in_ok-check_first_given.was
 
-pub first_corrected-requires-clause-within : goal.first_corrected-requires-clause-within
-first_corrected-requires-clause-within c =
+pub first_corrected-outside-requires-clause-within : goal.first_corrected-outside-requires-clause-within
+first_corrected-outside-requires-clause-within c =
     let asked = told c.args.figure c.args.given (first_held c.args.room.now) c.lengths.ensures c.check_first_given.ensures in
     small c.args.figure c.args.given (first_held c.args.room.now) asked c.in_ok-check_first_given.was
     c.misclosures_into.ensures c.limit_in_force.ensures c.check_misclosures.ensures c.in_ok-check_misclosures.was
 
-pub returns-in_err-first_corrected-clause-promise : goal.returns-in_err-first_corrected-clause-promise
-returns-in_err-first_corrected-clause-promise c =
-    let again : c.from_residual-in_err-first_corrected.result ≡ c.first_corrected.result = search rules in
-    let asked = told c.args.figure c.args.given (first_held c.args.room.now) c.lengths.ensures c.check_first_given.ensures in
-    decided c.args.figure c.args.given (first_held c.args.room.now) asked c.in_ok-check_first_given.was
-    c.misclosures_into.ensures c.limit_in_force.ensures c.check_misclosures.ensures c.in_ok-check_misclosures.was
-    (again ∙ c.first_corrected.ensures.answer) c.first_corrected.ensures.left
-    (c.first_corrected.ensures.rounds ∙ kept _ _ _ _ (again ∙ c.in_err-first_corrected.was))
-
 pub returns-clause-promise : goal.returns-clause-promise
 returns-clause-promise c =
     let asked = told c.args.figure c.args.given (first_held c.args.room.now) c.lengths.ensures c.check_first_given.ensures in
+    let held = c.first_corrected-outside.new.room.corrected_rounds.now in
+    let rounds : c.store_rounds.new.lent ≡ stored c.first_corrected-outside.result (same_length c.args.given.rounds.now held) held = search rules in
     decided c.args.figure c.args.given (first_held c.args.room.now) asked c.in_ok-check_first_given.was
     c.misclosures_into.ensures c.limit_in_force.ensures c.check_misclosures.ensures c.in_ok-check_misclosures.was
-    (sym c.in_ok-first_corrected.was ∙ c.first_corrected.ensures.answer) c.first_corrected.ensures.left
-    (c.store.ensures ∙ ap (same_length c.args.given.rounds.now) c.first_corrected.ensures.rounds)
+    c.first_corrected-outside.ensures.answer c.first_corrected-outside.ensures.left
+    (rounds ∙ ap (λ (l : List ℕ). stored c.first_corrected-outside.result (same_length c.args.given.rounds.now l) l) c.first_corrected-outside.ensures.rounds)

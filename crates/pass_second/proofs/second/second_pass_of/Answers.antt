@@ -1,6 +1,7 @@
 -- Each row in its order, and a refusal before any store.
 use Rattle.std.specs.Prelude.{◌≡◌, List, [], ◌∷◌, ◌++◌, ℕ, ◌≤◌, ◌<◌, ◌^◌, leb, ℤ, pos, nat_abs, Err, Ok, length, replicate, get_or, ◌≤ℤ◌}
 use Rattle.std.proofs.Common.{rules}
+use Rattle.std.proofs.lemmas.Grind.{common_steps}
 use Rattle.vocabulary.specs.{sym, ap, ◌∙◌, subst, arith, leb→le}
 use Rattle.whole.proofs.Lending.{lent_length}
 use Rattle.refusals.specs.{Numbers.Verdict, declared.Refusal.Refusal, Order.verdict_of, Order.judged, Promise.stored, Table.results_row}
@@ -12,7 +13,7 @@ use Rattle.pass_rules.specs.SecondPass.{SecondAnswer, SineEntries, reduced_of, s
 use Rattle.pass_rules.specs.Promises.{SecondLent, second_results_lent, second_slices, SecondPromiseOf}
 use Rattle.pass_rules.specs.Lent.{second_given_lengths, entries_given, second_held}
 use Rattle.pass_steps.specs.{Steps.same_length}
-use Rattle.pass_steps.proofs.StepLaws.{length_of}
+use Rattle.pass_steps.proofs.{Judged.kept, Judged.written, StepLaws.length_of}
 use Rattle.pass_second.specs.{declared.sums.Sums.Sums, Sines.sums_of}
 use Rattle.pass_second.specs.Steps.{SmallPair, divisor_from, tenths_from, SecondWork, work_of, work_lent, work_lengths, with_rounds, second_from}
 use Rattle.pass_second.proofs.SecondPromised as promised
@@ -204,62 +205,68 @@ returns-in_err-check_sines-clause-promise c =
     (told c.args.figure c.args.given (second_held c.args.room.now) c.lengths.ensures c.check_second_given.ensures ∙ c.in_ok-check_second_given.was) c.sums_into-sums.ensures.value c.divisor_of-divisor.ensures c.check_sines.ensures _ c.in_err-check_sines.was in
     record { answered = said ∙ promise.answered; leaves = promise.leaves }
 
-pub second_corrected-requires-clause-sides_value : goal.second_corrected-requires-clause-sides_value
-second_corrected-requires-clause-sides_value c =
+pub second_corrected-outside-requires-clause-sides_value : goal.second_corrected-outside-requires-clause-sides_value
+second_corrected-outside-requires-clause-sides_value c =
     at c.args.figure c.args.given (second_held c.args.room.now) (told c.args.figure c.args.given (second_held c.args.room.now) c.lengths.ensures c.check_second_given.ensures ∙ c.in_ok-check_second_given.was) 4
 
-pub second_corrected-requires-clause-angles_len : goal.second_corrected-requires-clause-angles_len
-second_corrected-requires-clause-angles_len c =
+pub second_corrected-outside-requires-clause-angles_len : goal.second_corrected-outside-requires-clause-angles_len
+second_corrected-outside-requires-clause-angles_len c =
     at c.args.figure c.args.given (second_held c.args.room.now) (told c.args.figure c.args.given (second_held c.args.room.now) c.lengths.ensures c.check_second_given.ensures ∙ c.in_ok-check_second_given.was) 0
 
-pub second_corrected-requires-clause-a_len : goal.second_corrected-requires-clause-a_len
-second_corrected-requires-clause-a_len c =
+pub second_corrected-outside-requires-clause-a_len : goal.second_corrected-outside-requires-clause-a_len
+second_corrected-outside-requires-clause-a_len c =
     length_of _ _ c.sums_into-sums.ensures.a_after
 
-pub second_corrected-requires-clause-b_len : goal.second_corrected-requires-clause-b_len
-second_corrected-requires-clause-b_len c =
+pub second_corrected-outside-requires-clause-b_len : goal.second_corrected-outside-requires-clause-b_len
+second_corrected-outside-requires-clause-b_len c =
     length_of _ _ c.sums_into-sums.ensures.b_after
 
-pub second_corrected-requires-clause-room_len : goal.second_corrected-requires-clause-room_len
-second_corrected-requires-clause-room_len c =
+pub second_corrected-outside-requires-clause-room_len : goal.second_corrected-outside-requires-clause-room_len
+second_corrected-outside-requires-clause-room_len c =
     room_len c.args.figure c.args.given (second_held c.args.room.now) (told c.args.figure c.args.given (second_held c.args.room.now) c.lengths.ensures c.check_second_given.ensures ∙ c.in_ok-check_second_given.was)
 
-pub second_corrected-requires-clause-angles : goal.second_corrected-requires-clause-angles
-second_corrected-requires-clause-angles c =
+pub second_corrected-outside-requires-clause-angles : goal.second_corrected-outside-requires-clause-angles
+second_corrected-outside-requires-clause-angles c =
     promised.small_angles c.args.figure c.args.given.tolerance c.args.given.angles.now c.args.given.rounds.now (entries_given c.args.given) (second_held c.args.room.now)
     (told c.args.figure c.args.given (second_held c.args.room.now) c.lengths.ensures c.check_second_given.ensures ∙ c.in_ok-check_second_given.was)
 
-pub second_corrected-requires-clause-small_pair : goal.second_corrected-requires-clause-small_pair
-second_corrected-requires-clause-small_pair c =
+pub second_corrected-outside-requires-clause-small_pair : goal.second_corrected-outside-requires-clause-small_pair
+second_corrected-outside-requires-clause-small_pair c =
     small_pair c.args.figure c.args.given (second_held c.args.room.now)
     (told c.args.figure c.args.given (second_held c.args.room.now) c.lengths.ensures c.check_second_given.ensures ∙ c.in_ok-check_second_given.was) c.sums_into-sums.ensures.value c.divisor_of-divisor.ensures c.check_sines.ensures c.in_ok-check_sines.was
 
-pub second_corrected-requires-clause-within : goal.second_corrected-requires-clause-within
-second_corrected-requires-clause-within c =
+pub second_corrected-outside-requires-clause-within : goal.second_corrected-outside-requires-clause-within
+second_corrected-outside-requires-clause-within c =
     λ i. rw c.sums_into-sums.ensures.a_after (promised.small_reduced c.args.figure c.args.given.tolerance c.args.given.angles.now c.args.given.rounds.now (entries_given c.args.given) (second_held c.args.room.now)
     (told c.args.figure c.args.given (second_held c.args.room.now) c.lengths.ensures c.check_second_given.ensures ∙ c.in_ok-check_second_given.was) i)
 
-pub second_corrected-requires-clause-within_2 : goal.second_corrected-requires-clause-within_2
-second_corrected-requires-clause-within_2 c =
+pub second_corrected-outside-requires-clause-within_2 : goal.second_corrected-outside-requires-clause-within_2
+second_corrected-outside-requires-clause-within_2 c =
     λ i. rw c.sums_into-sums.ensures.b_after (promised.small_side_reduced c.args.figure c.args.given.tolerance c.args.given.angles.now c.args.given.rounds.now (entries_given c.args.given) (second_held c.args.room.now)
     (told c.args.figure c.args.given (second_held c.args.room.now) c.lengths.ensures c.check_second_given.ensures ∙ c.in_ok-check_second_given.was) i)
 
-pub returns-in_err-second_corrected-clause-promise : goal.returns-in_err-second_corrected-clause-promise
-returns-in_err-second_corrected-clause-promise c =
-    let said : ◌≡◌ {A = SecondAnswer} c.from_residual-in_err-second_corrected.result (Err c.in_err-second_corrected.field-0.0) = search rules in
+pub returns-in_err-outside-clause-promise : goal.returns-in_err-outside-clause-promise
+returns-in_err-outside-clause-promise c =
+    let said : ◌≡◌ {A = SecondAnswer} c.from_residual-in_err-outside.result
+    (second_answer_of c.second_corrected-outside.result c.sums_into-sums.result.pair.wa c.sums_into-sums.result.pair.wb (pos c.divisor_of-divisor.result)) = search rules in
+    let rounds : c.store_rounds.new.lent ≡ c.second_corrected-outside.new.room.adjusted_rounds.now = grind (arith, common_steps) in
     let promise = decided c.args.figure c.args.given (second_held c.args.room.now)
     (told c.args.figure c.args.given (second_held c.args.room.now) c.lengths.ensures c.check_second_given.ensures ∙ c.in_ok-check_second_given.was) c.sums_into-sums.ensures.value c.divisor_of-divisor.ensures c.check_sines.ensures
     c.in_ok-check_sines.was c.sums_into-sums.ensures.a_after c.sums_into-sums.ensures.b_after
-    (sym c.in_err-second_corrected.was ∙ c.second_corrected.ensures.answer) c.second_corrected.ensures.left c.second_corrected.ensures.rounds in
+    c.second_corrected-outside.ensures.answer c.second_corrected-outside.ensures.left
+    (rounds ∙ c.second_corrected-outside.ensures.rounds ∙ kept _ _ _ _ c.in_err-outside.was) in
     record { answered = said ∙ promise.answered; leaves = promise.leaves }
 
 pub returns-clause-promise : goal.returns-clause-promise
 returns-clause-promise c =
-    let said : ◌≡◌ {A = SecondAnswer} (Ok c.answer_of.result) (second_answer_of (Ok tt) c.sums_into-sums.result.pair.wa c.sums_into-sums.result.pair.wb (pos c.divisor_of-divisor.result)) =
-    λ i. Ok (c.answer_of.ensures i) in
+    let said : ◌≡◌ {A = SecondAnswer} (Ok c.answer_of.result)
+    (second_answer_of c.second_corrected-outside.result c.sums_into-sums.result.pair.wa c.sums_into-sums.result.pair.wb (pos c.divisor_of-divisor.result)) =
+    (λ i. Ok (c.answer_of.ensures i))
+    ∙ ap (λ (v : Verdict). second_answer_of v c.sums_into-sums.result.pair.wa c.sums_into-sums.result.pair.wb (pos c.divisor_of-divisor.result)) (sym c.in_ok-outside.was) in
+    let rounds : c.store_rounds.new.lent ≡ same_length c.args.given.rounds.now c.second_corrected-outside.new.room.adjusted_rounds.now = grind (arith, common_steps) in
     let promise = decided c.args.figure c.args.given (second_held c.args.room.now)
     (told c.args.figure c.args.given (second_held c.args.room.now) c.lengths.ensures c.check_second_given.ensures ∙ c.in_ok-check_second_given.was) c.sums_into-sums.ensures.value c.divisor_of-divisor.ensures c.check_sines.ensures
     c.in_ok-check_sines.was c.sums_into-sums.ensures.a_after c.sums_into-sums.ensures.b_after
-    (sym c.in_ok-second_corrected.was ∙ c.second_corrected.ensures.answer) c.second_corrected.ensures.left
-    (c.store.ensures ∙ ap (same_length c.args.given.rounds.now) c.second_corrected.ensures.rounds) in
+    c.second_corrected-outside.ensures.answer c.second_corrected-outside.ensures.left
+    (written _ _ _ c.in_ok-outside.was (rounds ∙ ap (same_length c.args.given.rounds.now) c.second_corrected-outside.ensures.rounds)) in
     record { answered = said ∙ promise.answered; leaves = promise.leaves }

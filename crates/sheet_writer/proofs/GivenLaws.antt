@@ -1,5 +1,5 @@
 -- What the writer promises, from what its parts answer. Assumes nothing.
-use Rattle.std.specs.Prelude.{ℕ, List, [], ◌∷◌, ◌++◌, ◌≡◌, length, Err, Ok}
+use Rattle.std.specs.Prelude.{ℕ, List, ◌≡◌, length, Err, Ok}
 use Rattle.refusals.specs.Numbers.{Verdict}
 use Rattle.sheet_layout.specs.Head.{Look, headed}
 use Rattle.vocabulary.specs.{sym, ap, ◌∙◌}

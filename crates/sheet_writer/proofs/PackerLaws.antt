@@ -1,10 +1,10 @@
 -- Fields that are packed one after the other: what is packed so far grows by each field's bits. Assumes nothing.
-use Rattle.std.specs.Prelude.{ℕ, ◌+◌, ◌-◌, ◌*◌, ◌/◌, ◌%◌, ◌^◌, ◌≤◌, ◌<◌, Bool, false, List, [], ◌∷◌, ◌++◌, ◌≡◌, length, take, drop}
-use Rattle.std.specs.Prelude.{replicate}
+use Rattle.std.specs.Prelude.{ℕ, ◌+◌, ◌-◌, ◌*◌, ◌/◌, ◌%◌, ◌^◌, ◌≤◌, ◌<◌, Bool, false, true, List, [], ◌∷◌, ◌++◌, ◌≡◌, refl, length, take}
+use Rattle.std.specs.Prelude.{set, get_or, replicate, eqb}
 use Rattle.vocabulary.specs.{append_assoc, append-nil, sym, ap, ap₂, subst, ◌∙◌, add-zero, add_assoc, mod-lt, arith, length-append}
-use Rattle.vocabulary.specs.{length-replicate, replicate-append-replicate, digits_lt, length-take-le}
+use Rattle.vocabulary.specs.{add-one, length-set, eqb-true, eqb-false, take-suc-set, get_or-set_same, get_or-set_other, length-replicate, replicate-append-replicate, digits_lt, length-take-le}
 use Rattle.vocabulary.specs.{take_all, take-append_seam, pow_pos, pow-add, split, low}
-use Rattle.vocabulary.specs.{mod-pow-add, mod-mod-pow, shl_lt, shl-shr, pow_mono, mod-eq_of_lt, take-append-drop}
+use Rattle.vocabulary.specs.{mod-pow-add, mod-mod-pow, shl_lt, shl-shr, pow_mono, mod-eq_of_lt}
 use Rattle.bits.specs.Bits.{Field, bits, bits_of, bytes_of, byte_count, filling_width, widths, total_width, packed_bits}
 use Rattle.bits.proofs.Bytes.{AreBytes, length_bits_of, bits_of_append, bits_of_injective, bytes_of_bytes, bits_of_bytes_of}
 use Rattle.bits.proofs.Numbers.{length_bits, bits_append, value_bits_mod, bits_value, bits_zero}
@@ -171,9 +171,72 @@ pub record Emptied (start : List ℕ) (first from : ℕ) (sheet : List ℕ) (res
   pub small : rest < 2 ^ 32
   pub all : bits_of (take at sheet) ++ bits 32 rest ≡ (bits_of (take from start) ++ bits 32 first) ++ replicate (8 * (at - from)) false
 
+pub emptied_none : (s : List ℕ) (first from : ℕ) → AreBytes s → from ≤ length s → first < 2 ^ 32 → Emptied s first from s first from
+emptied_none s first from bytes within small =
+    let none : 8 * (from - from) ≡ 0 = omega arith in
+    record {
+      bytes = bytes;
+      long = refl;
+      after = omega arith;
+      within = within;
+      small = small;
+      all =
+          sym (append-nil (bits_of (take from s) ++ bits 32 first))
+          ∙ ap (λ (n : ℕ). (bits_of (take from s) ++ bits 32 first) ++ replicate n false) (sym none);
+    }
+
+set_bytes : (s : List ℕ) (i x : ℕ) → i < length s → x < 256 → AreBytes s → AreBytes (set s i x)
+set_bytes s i x l small bytes j = go (eqb j i) refl
+  where
+    go : (same : Bool) → eqb j i ≡ same → get_or (set s i x) j 0 < 256
+    go true e = subst (λ (n : ℕ). n < 256) (sym (ap (λ (k : ℕ). get_or (set s i x) k 0) (eqb-true j i e) ∙ get_or-set_same s i x 0 l)) small
+    go false e = subst (λ (n : ℕ). n < 256) (sym (get_or-set_other s i j x 0 (eqb-false j i e))) (bytes j)
+
+byte_out : (s : List ℕ) (i x : ℕ) → i < length s → bits_of (take (i + 1) (set s i x)) ≡ bits_of (take i s) ++ bits 8 x
+unfolding bits_of
+byte_out s i x l =
+    ap (λ (n : ℕ). bits_of (take n (set s i x))) (add-one i) ∙ ap bits_of (take-suc-set s i x l) ∙ bits_of_append (take i s) (x ∷ [])
+    ∙ ap (λ (b : List Bool). bits_of (take i s) ++ b) (append-nil (bits 8 x))
+
 -- of two runs that go on differently, parts of one length are the same
 front : (a b c d : List Bool) → length a ≡ length b → a ++ c ≡ b ++ d → a ≡ b
 front a b c d long e = sym (take-append_seam a c) ∙ ap₂ take long e ∙ take-append_seam b d
+
+module _ (s : List ℕ) (first from : ℕ) {sheet : List ℕ} {rest at : ℕ} (h : Emptied s first from sheet rest at) where
+  byte_small : rest / 16_777_216 < 256
+  byte_small = omega (arith, h.small)
+
+  -- the byte that goes out, and the 24 bits behind it with a byte of 0 after them
+  next_bits : bits 8 (rest / 16_777_216) ++ bits 32 (rest % 16_777_216 * 256) ≡ bits 32 rest ++ replicate 8 false
+  next_bits =
+      let low : ℕ = rest % 16_777_216 in
+      let whole : rest / 16_777_216 * 2 ^ 24 + low ≡ rest = omega arith in
+      let taken : bits 32 rest ≡ bits 8 (rest / 16_777_216) ++ bits 24 low =
+      ap (bits 32) (sym whole) ∙ bits_append 8 24 (rest / 16_777_216) low (omega arith) in
+      let left : bits 32 (low * 256) ≡ bits 24 low ++ replicate 8 false =
+      ap (bits 32) (sym (add-zero (low * 256))) ∙ bits_append 24 8 low 0 (omega arith) ∙ ap (λ (b : List Bool). bits 24 low ++ b) (bits_zero 8) in
+      ap (λ (b : List Bool). bits 8 (rest / 16_777_216) ++ b) left
+      ∙ sym (append_assoc (bits 8 (rest / 16_777_216)) (bits 24 low) (replicate 8 false))
+      ∙ ap (λ (b : List Bool). b ++ replicate 8 false) (sym taken)
+
+  pub emptied_more : at < length sheet → Emptied s first from (set sheet at (rest / 16_777_216)) (rest % 16_777_216 * 256) (at + 1)
+  emptied_more l = record {
+    bytes = set_bytes sheet at (rest / 16_777_216) l byte_small h.bytes;
+    long = length-set sheet at (rest / 16_777_216) ∙ h.long;
+    after = omega (arith, h.after);
+    within = omega (arith, l, h.long);
+    small = omega arith;
+    all =
+        let more : 8 * (at - from) + 8 ≡ 8 * (at + 1 - from) = omega (arith, h.after) in
+        ap (λ (b : List Bool). b ++ bits 32 (rest % 16_777_216 * 256)) (byte_out sheet at (rest / 16_777_216) l)
+        ∙ append_assoc (bits_of (take at sheet)) (bits 8 (rest / 16_777_216)) (bits 32 (rest % 16_777_216 * 256))
+        ∙ ap (λ (b : List Bool). bits_of (take at sheet) ++ b) next_bits
+        ∙ sym (append_assoc (bits_of (take at sheet)) (bits 32 rest) (replicate 8 false))
+        ∙ ap (λ (b : List Bool). b ++ replicate 8 false) h.all
+        ∙ append_assoc (bits_of (take from s) ++ bits 32 first) (replicate (8 * (at - from)) false) (replicate 8 false)
+        ∙ ap (λ (b : List Bool). (bits_of (take from s) ++ bits 32 first) ++ b)
+        (replicate-append-replicate (8 * (at - from)) 8 false ∙ ap (λ (n : ℕ). replicate n false) more);
+  }
 
 -- what is held as 32 bits: its own, and zero bits
 module _ (s : List ℕ) (p : Packer) (well : WellHeld p) (size : byte_count (packed_count p) ≡ length s) where
@@ -208,38 +271,10 @@ module _ (s : List ℕ) (p : Packer) (well : WellHeld p) (size : byte_count (pac
   filled = rw packed_long (omega (arith, size))
 
   -- as the code shifts them to the front
-  first_is : p.held * 2 ^ (32 - p.count) % 2 ^ 64 % 2 ^ 32 ≡ first
+  pub first_is : p.held * 2 ^ (32 - p.count) % 2 ^ 64 % 2 ^ 32 ≡ first
   first_is =
       mod-mod-pow (p.held * 2 ^ (32 - p.count)) 32 32 ∙ ap (λ (n : ℕ). p.held * 2 ^ (32 - p.count) % 2 ^ n) (sym thirty_two)
       ∙ shifted p.held (32 - p.count) p.count
-
-  -- at most four bytes are left
-  pub few_left : length s - p.at ≤ 4
-  unfolding byte_count
-  few_left = omega (arith, size, well)
-
-  -- they are out: what was packed, and zero bits that fill the last of them
-  pub all_out : {t last : List ℕ} → AreBytes t → length t ≡ length s → last ≡ word_bytes (p.held * 2 ^ (32 - p.count) % 2 ^ 64 % 2 ^ 32)
-      → t ≡ take p.at s ++ take (length s - p.at) last → t ≡ bytes_of (packed_so_far s p)
-  all_out {t} {last} bytes long word is =
-      let packed : List Bool = packed_so_far s p in
-      let filling : ℕ = filling_width (length packed) in
-      let left : ℕ = length s - p.at in
-      let zeros : filling + (32 - p.count - filling) ≡ 32 - p.count = omega (arith, filled, few_left, starts_within, well) in
-      let last_bits_of : bits_of last ≡ bits 32 first = ap bits_of (word ∙ ap word_bytes first_is) ∙ word_bits first first_small in
-      let out : bits_of t ++ bits_of (drop left last) ≡ (packed ++ replicate filling false) ++ replicate (32 - p.count - filling) false =
-      ap (λ (b : List Bool). b ++ bits_of (drop left last)) (ap bits_of is ∙ bits_of_append (take p.at s) (take left last))
-      ∙ append_assoc (bits_of (take p.at s)) (bits_of (take left last)) (bits_of (drop left last))
-      ∙ ap (λ (b : List Bool). bits_of (take p.at s) ++ b)
-      (sym (bits_of_append (take left last) (drop left last)) ∙ ap bits_of (take-append-drop left last) ∙ last_bits_of)
-      ∙ first_bits
-      ∙ ap (λ (b : List Bool). packed ++ b) (ap (λ (n : ℕ). replicate n false) (sym zeros) ∙ sym (replicate-append-replicate filling (32 - p.count - filling) false))
-      ∙ sym (append_assoc packed (replicate filling false) (replicate (32 - p.count - filling) false)) in
-      let same_length : length (bits_of t) ≡ length (packed ++ replicate filling false) =
-      length_bits_of t ∙ ap (λ (n : ℕ). 8 * n) long ∙ filled
-      ∙ sym (length-append packed (replicate filling false) ∙ ap₂ ◌+◌ packed_long (length-replicate filling false)) in
-      bits_of_injective t (bytes_of packed) bytes (bytes_of_bytes packed)
-      (front (bits_of t) (packed ++ replicate filling false) (bits_of (drop left last)) (replicate (32 - p.count - filling) false) same_length out ∙ sym (bits_of_bytes_of packed))
 
   -- all bytes are out: what was packed, and zero bits that fill the last of them
   pub emptied_all : {sheet : List ℕ} {rest at : ℕ} → Emptied s first p.at sheet rest at → length sheet ≤ at → sheet ≡ bytes_of (packed_so_far s p)

@@ -31,7 +31,8 @@ pub(crate) fn put(sheet: &mut [u8], packer: Packer, width: u32, value: u32) -> P
     requires width_bound { width ≤ 32 }
     ensures { Packs sheet.old packer (field_from width value ∷ []) sheet.new result }
 {
-    let held = (packer.held << width) + u64::from(value) % (1 << width);
+    let field = u64::from(value) % (1 << width);
+    let held = (packer.held << width) + field;
     let count = packer.count + width;
     let at = packer.at;
     if count < 32 {
@@ -52,7 +53,9 @@ pub(crate) fn finish(sheet: &mut [u8], packer: Packer)
     requires packer_value { byte_count (packed_count packer) ≡ length sheet.old }
     ensures { sheet.new ≡ bytes_of (packed_so_far sheet.old packer) }
 {
-    let last = (((packer.held << (32 - packer.count)) % WORDS) as u32).to_be_bytes();
-    let left = sheet.len() - packer.at;
-    sheet[packer.at..].copy_from_slice(&last[..left]);
+    let mut rest = (packer.held << (32 - packer.count)) % WORDS;
+    for at in packer.at..sheet.len() {
+        sheet[at] = (rest / 16_777_216) as u8;
+        rest = rest % 16_777_216 * 256;
+    }
 }

@@ -5,6 +5,7 @@
 #![tactic(auto)]
 
 mod answer;
+mod checking;
 mod look;
 mod read;
 mod reporting;
@@ -12,9 +13,10 @@ mod rounding;
 mod working;
 mod write;
 
+pub use checking::bienguloc_check_closing;
 pub use look::bienguloc_look;
 pub use read::bienguloc_read;
 pub use reporting::bienguloc_report;
-pub use rounding::{bienguloc_check_closing, bienguloc_closing};
+pub use rounding::bienguloc_closing;
 pub use working::{bienguloc_first_pass, bienguloc_second_pass};
 pub use write::bienguloc_write;

@@ -323,7 +323,7 @@ def try_wrong_programs(folder):
     for edit in (folder / crate / "must-fail").iterdir():
         edit.unlink()
     edits = (
-        ("a_comment", "// The answer of two tests in their order, for whoever has both.", "// Another.", "NOT REFUSED"),
+        ("a_comment", "// The answer of two tests in their order.", "// Another.", "NOT REFUSED"),
         ("a_comment_in_a_body", "Refusal::NoSuchFigure => 1,", "Refusal::NoSuchFigure => 1, // as it was", "NOT REFUSED"),
         ("a_failure_lost", "earlier.and(later)", "earlier.and(earlier)", None),
         ("no_such_text", "// None.", "// Another.", "BAD EDIT"),
